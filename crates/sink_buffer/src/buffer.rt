@@ -1,0 +1,114 @@
+//! The buffer, and the loop that writes it.
+ghost use Rattle.std.specs.Prelude.{◌≡◌, ◌≤◌, ℕ, List, [], ◌++◌, length, take, min, ◌-◌, ◌<◌, Bool, true, false, IsTrue, ◌↔◌};
+ghost use Rattle.sink_buffer.specs.Written.{HasText, WritesAll};
+
+use ev_base::{Sink, Wrote};
+
+/// How many bytes are gathered before a write.
+const SIZE: usize = 8192;
+
+/// A sink that gathers what is put into it in a fixed buffer of 8,192 bytes. It writes the buffer when it is full
+/// and when it is flushed, and takes no memory. Once a write failed it writes nothing more.
+#[derive(Drop)]
+pub struct SinkBuffer<K> {
+    output: K,
+    bytes: [u8; SIZE],
+    held: usize,
+    broken: bool,
+    ghost within: { held ≤ 8192 },
+}
+
+impl<K: Sink> SinkBuffer<K> {
+    ghost use Rattle.sink_buffer.specs.Gathers.{Gathers, held_of, is_broken, output_of};
+
+    /// A buffer before this sink, which holds nothing.
+    pub fn new(output: K) -> SinkBuffer<K>
+        ensures text { (text : List ℕ) → HasText (K.facts output).text text → Gathers K.facts (K.facts output).faults result text }
+        ensures held { held_of result ≡ [] }
+        ensures output { output_of result ≡ output }
+        ensures broken { is_broken result ≡ false }
+    {
+        SinkBuffer {
+            output,
+            bytes: [0; SIZE],
+            held: 0,
+            broken: false,
+        }
+    }
+
+    /// Adds bytes to the text.
+    pub fn put(&mut self, bytes: &[u8])
+        ensures { (faults : ℕ) (text : List ℕ) → Gathers K.facts faults self.old text → Gathers K.facts faults self.new (text ++ bytes.now) }
+    {
+        let mut at = 0;
+        while at < bytes.len() {
+            self.make_room();
+            at += self.fill(&bytes[at..]);
+        }
+    }
+
+    /// Writes what is held where the buffer is full.
+    fn make_room(&mut self)
+        ensures text { (faults : ℕ) (text : List ℕ) → Gathers K.facts faults self.old text → Gathers K.facts faults self.new text }
+        ensures room { self.new.held < 8192 }
+    {
+        if self.held >= SIZE {
+            self.flush();
+        }
+    }
+
+    /// Copies what there is room for, and tells how much that was.
+    fn fill(&mut self, bytes: &[u8]) -> usize
+        requires { self.old.held < 8192 }
+        ensures count { result ≡ min (length bytes.now) (8192 - self.old.held) }
+        ensures held { held_of self.new ≡ held_of self.old ++ take result bytes.now }
+        ensures output { output_of self.new ≡ output_of self.old }
+        ensures broken { is_broken self.new ≡ is_broken self.old }
+    {
+        let count = bytes.len().min(SIZE - self.held);
+        let end = self.held + count;
+        self.bytes[self.held..end].copy_from_slice(&bytes[..count]);
+        self.held = end;
+        count
+    }
+
+    /// Writes what is held. After it the sink has the whole text, or a write failed.
+    pub fn flush(&mut self)
+        ensures text { (faults : ℕ) (text : List ℕ) → Gathers K.facts faults self.old text → Gathers K.facts faults self.new text }
+        ensures held { held_of self.new ≡ [] }
+        ensures empty { self.new.held ≡ 0 }
+    {
+        if !self.broken && !write_all(&mut self.output, &self.bytes[..self.held]) {
+            self.broken = true;
+        }
+        self.held = 0;
+    }
+
+    /// Whether a write failed.
+    pub fn is_broken(&self) -> bool
+        ensures { result ≡ is_broken self.now }
+    {
+        self.broken
+    }
+
+    /// The sink below. What is held and was not flushed is dropped.
+    pub fn into_output(self) -> K
+        ensures { result ≡ output_of self }
+    {
+        self.output
+    }
+}
+
+/// Writes all of some bytes, in as many writes as the sink needs, and tells whether none failed.
+fn write_all<K: Sink>(output: &mut K, bytes: &[u8]) -> bool
+    ensures { WritesAll (K.facts output.old) bytes.now result (K.facts output.new) }
+{
+    let mut at = 0;
+    while at < bytes.len() {
+        match output.write(&bytes[at..]) {
+            Wrote::Bytes(count) => at += count,
+            Wrote::Failed => return false,
+        }
+    }
+    true
+}
