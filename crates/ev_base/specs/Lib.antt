@@ -4,3 +4,10 @@ pub mod Source
 pub mod Sink
 pub mod MemoryForms
 pub mod MemSink
+pub mod Story
+pub mod Terms
+pub mod End
+pub mod KeepsStory
+pub mod Net
+pub mod Host
+pub mod MemSource

@@ -3,13 +3,21 @@
 //! standard library.
 #![tactic(auto)]
 
+mod end;
+mod host;
 mod memory;
+mod net;
 mod sink;
 mod source;
 mod standard;
+#[cfg(test)]
+mod tests;
 
+pub use end::{PeerEnd, Sent, Taken};
 pub use ev_types::{Answer, Handle, Kind, Mask, NetFailed, NoMemory, Upcall, Why};
+pub use host::{Host, ListenRefused};
 pub use memory::{MemSink, MemSource, SteadySource};
+pub use net::{Net, Report, Waited, Wake};
 pub use sink::{Sink, Wrote};
 pub use source::{Got, Source};
 pub use standard::{StdSink, StdSource};

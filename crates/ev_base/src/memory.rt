@@ -1,5 +1,5 @@
 //! Sources and sinks in memory. They tell all their bytes.
-ghost use Rattle.std.specs.Prelude.{◌≡◌, ◌+◌, ◌≤◌, ◌<◌, ℕ, List, [], ◌++◌, length, take, drop, min, Some, None, true, false, OnOk, IfOk, Vec, vec_len, vec_capacity, slice_get, slice_index, ◌-◌, IfSome};
+ghost use Rattle.std.specs.Prelude.{◌≡◌, ◌+◌, ◌≤◌, ◌<◌, ℕ, List, [], ◌++◌, length, take, drop, min, Some, None, true, false, OnOk, IfOk, Vec, vec_len, vec_capacity, slice_get, slice_index, ◌-◌, ◌↔◌, IfSome};
 ghost use Rattle.ev_base.specs.MemoryForms.{joined, given_of, left_of, least_of, HasByteAt};
 
 use super::{Got, NoMemory, Sink, Source, Wrote};
@@ -70,10 +70,14 @@ pub struct MemSource {
 }
 
 impl MemSource {
+    ghost use Rattle.ev_base.specs.MemSource.{mem_source_facts, reads_of, fails_of};
+
     /// A source of these pieces. The reads whose numbers stand in `fails` are to fail.
     pub fn new(pieces: Vec<Vec<u8>>, fails: Vec<u64>) -> MemSource
-        ensures { ⟦<MemSource as Source>⟧.facts result
+        ensures facts { mem_source_facts result
             ≡ record { faults = 0; over = false; bytes = Some (record { given = []; left = joined pieces.items }) } }
+        ensures reads { reads_of result ≡ 0 }
+        ensures fails { fails_of result ≡ fails.items }
     {
         MemSource {
             pieces,
@@ -88,9 +92,17 @@ impl MemSource {
 }
 
 impl Source for MemSource {
-    ghost facts = { λ s. record { faults = s.faults; over = s.over; bytes = Some (record { given = given_of s.next s.at s.pieces.items; left = left_of s.next s.at s.pieces.items }) } };
+    ghost use Rattle.ev_base.specs.Source.{Reads};
+    ghost use Rattle.ev_base.specs.MemSource.{mem_source_facts, fails_of, IsToFail};
 
-    fn read(&mut self, buf: &mut [u8]) -> Got {
+    ghost facts = { mem_source_facts };
+
+    fn read(&mut self, buf: &mut [u8]) -> Got
+        requires { 0 < length buf.old }
+        ensures reads { Reads (mem_source_facts self.old) buf.new result (mem_source_facts self.new) }
+        ensures failed { (result ≡ Got.Failed) ↔ IsToFail self.old }
+        ensures fails { fails_of self.new ≡ fails_of self.old }
+    {
         if self.over {
             return Got::Over;
         }

@@ -12,8 +12,8 @@ copy_from-count-requires c =
     let below = within-piece c.args.self.now.pieces.items c.index.result.now c.past_spent-next.result.0 c.past_spent-next.result.1 (omega arith) (sym c.index.ensures) has in
     omega (arith, ap length c.as_slice-bytes.ensures.value)
 
-pub returns : goal.returns
-returns c =
+pub returns-clause-reads : goal.returns-clause-reads
+returns-clause-reads c =
     let items = c.args.self.now.pieces.items in
     let next = c.past_spent-next.result.0 in
     let at = c.past_spent-next.result.1 in
