@@ -1,0 +1,42 @@
+//! A list of bytes.
+
+ghost use Rattle.std.specs.Prelude.{◌≡◌};
+
+use std::marker::Model;
+
+/// Bytes, as those of a message. A contract sees the list of them.
+#[derive(Debug, Drop)]
+pub struct Bytes {
+    items: Vec<u8>,
+}
+
+impl Model for Bytes {
+    ghost use Rattle.std.specs.Prelude.{List, ℕ};
+
+    ghost Value = { List ℕ };
+
+    ghost view = { λ b. b.items.items };
+}
+
+impl Bytes {
+    /// The bytes of a vector, which is kept as it is.
+    pub fn new(items: Vec<u8>) -> Bytes
+        ensures { result ≡ items.items }
+    {
+        Bytes { items }
+    }
+
+    /// The bytes.
+    pub fn as_slice(&self) -> &[u8]
+        ensures { result.now ≡ self.now }
+    {
+        self.items.as_slice()
+    }
+
+    /// The vector of the bytes.
+    pub fn into_vec(self) -> Vec<u8>
+        ensures { result.items ≡ self }
+    {
+        self.items
+    }
+}
