@@ -1,2 +1,5 @@
+pub mod Cutting
+pub mod Growing
 pub mod Reading
+pub mod Taking
 pub mod Writing

@@ -1,3 +1,4 @@
-pub mod Grammar
 pub mod Decoding
+pub mod Feeding
+pub mod Grammar
 pub mod Spelling

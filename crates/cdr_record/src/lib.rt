@@ -12,11 +12,13 @@
 
 mod bad;
 mod bytes;
+mod decoder;
 mod encoding;
 mod grammar;
 mod record;
 
 pub use bad::{Bad, BadWhy};
 pub use bytes::Bytes;
+pub use decoder::{Decoder, Fed};
 pub use encoding::{EncodeRefused, encode, encode_2};
 pub use record::{LogRecord, Order, Records};
