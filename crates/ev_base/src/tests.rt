@@ -53,6 +53,7 @@ fn sources_give_their_bytes(rt: HostRuntime) -> Result<(), Fail> {
 #[test]
 fn sinks_take_what_they_have_room_for(rt: HostRuntime) -> Result<(), Fail> {
     let alloc = rt.alloc();
+    let hello = b"hello".as_slice();
     for (room, fail_after, taken) in [
         (8, None, 5),
         (8, Some(3), 3),
@@ -63,12 +64,12 @@ fn sinks_take_what_they_have_room_for(rt: HostRuntime) -> Result<(), Fail> {
         let mut at = 0;
         for _ in 0..5 {
             if at < 5 {
-                if let Wrote::Bytes(count) = sink.write(&b"hello"[at..]) {
+                if let Wrote::Bytes(count) = sink.write(&hello[at..]) {
                     at += count.min(5 - at);
                 }
             }
         }
-        assert_eq!(rt; sink.bytes(), &b"hello"[..taken]);
+        assert_eq!(rt; sink.bytes(), &hello[..taken]);
     }
     let mut adapter = StdSink::new(Vec::new(alloc));
     assert_eq!(rt; adapter.write(b"hi"), Wrote::Bytes(2));

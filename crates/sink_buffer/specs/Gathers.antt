@@ -1,5 +1,5 @@
 -- What a buffered sink stands for.
-use Rattle.std.specs.Prelude.{◌≡◌, ℕ, List, take, Bool, true, false}
+use Rattle.std.specs.Prelude.{◌≡◌, ℕ, List, ◌++◌, take, Bool, true, false}
 use Rattle.ev_base.specs.Counts.{Rose}
 use Rattle.ev_base.specs.Sink.{SinkFacts}
 use Rattle.sink_buffer.specs.Written.{HasFrontOf, LacksOnly}
@@ -24,3 +24,7 @@ pub record Gathers {K : Type 0} (facts : K → SinkFacts) (faults : ℕ) (buffer
   pub front : is_broken buffer ≡ true → HasFrontOf (facts (output_of buffer)).text text
   pub rose : is_broken buffer ≡ true → Rose faults (facts (output_of buffer)).faults
   pub same : is_broken buffer ≡ false → (facts (output_of buffer)).faults ≡ faults
+
+-- bytes were put: whatever text it stood for, it stands for that text and these bytes
+abbrev pub Puts : {K : Type 0} → (K → SinkFacts) → SinkBuffer K → List ℕ → SinkBuffer K → Type 0
+Puts facts old bytes new = (faults : ℕ) (text : List ℕ) → Gathers facts faults old text → Gathers facts faults new (text ++ bytes)

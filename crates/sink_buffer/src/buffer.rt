@@ -19,7 +19,7 @@ pub struct SinkBuffer<K> {
 }
 
 impl<K: Sink> SinkBuffer<K> {
-    ghost use Rattle.sink_buffer.specs.Gathers.{Gathers, held_of, is_broken, output_of};
+    ghost use Rattle.sink_buffer.specs.Gathers.{Gathers, Puts, held_of, is_broken, output_of};
 
     /// A buffer before this sink, which holds nothing.
     pub fn new(output: K) -> SinkBuffer<K>
@@ -38,7 +38,7 @@ impl<K: Sink> SinkBuffer<K> {
 
     /// Adds bytes to the text.
     pub fn put(&mut self, bytes: &[u8])
-        ensures { (faults : ℕ) (text : List ℕ) → Gathers K.facts faults self.old text → Gathers K.facts faults self.new (text ++ bytes.now) }
+        ensures { Puts K.facts self.old bytes.now self.new }
     {
         let mut at = 0;
         while at < bytes.len() {
