@@ -1,0 +1,125 @@
+//! The texts and lines of records, and closing lines.
+ghost use Rattle.std.specs.Prelude.{◌≡◌, ℕ, ◌++◌, MatchOption, decimal};
+ghost use Rattle.std.specs.Fmt.{signed_decimal};
+ghost use Rattle.sink_buffer.specs.Gathers.{Puts};
+ghost use Rattle.log_lines.specs.Texts.{type_text, record_text, record_line, record_lines, end_word, closing_line};
+
+use crate::EndKind;
+use crate::message::put_message;
+use cdr_record::LogRecord;
+use ev_base::Sink;
+use itoa::Buffer;
+use sink_buffer::SinkBuffer;
+
+/// Puts a record's text: `SEC,USEC PID NAME: MESSAGE`.
+pub fn put_record_text<K: Sink>(out: &mut SinkBuffer<K>, entry: &LogRecord)
+    ensures { Puts K.facts out.old (record_text entry.now) out.new }
+{
+    put_signed(out, entry.sec);
+    out.put(b",");
+    put_signed(out, i64::from(entry.usec));
+    out.put(b" ");
+    put_signed(out, i64::from(entry.pid));
+    out.put(b" ");
+    put_type(out, entry.kind);
+    out.put(b": ");
+    put_message(out, entry.text.as_slice());
+}
+
+/// Puts a record's line: the number of its connection, and its text.
+pub fn put_record_line<K: Sink>(out: &mut SinkBuffer<K>, connection: u64, entry: &LogRecord)
+    ensures { Puts K.facts out.old (record_line connection entry.now) out.new }
+{
+    put_unsigned(out, connection);
+    out.put(b" ");
+    put_record_text(out, entry);
+    out.put(b"\n");
+}
+
+/// Puts the lines of records, one behind another.
+pub fn put_record_lines<K: Sink>(out: &mut SinkBuffer<K>, connection: u64, records: &[LogRecord])
+    ensures { Puts K.facts out.old (record_lines connection records.now) out.new }
+{
+    for entry in records {
+        put_record_line(out, connection, entry);
+    }
+}
+
+/// Puts a connection's closing line.
+pub fn put_closing_line<K: Sink>(out: &mut SinkBuffer<K>, connection: u64, end: EndKind)
+    ensures { Puts K.facts out.old (closing_line connection end) out.new }
+{
+    put_unsigned(out, connection);
+    out.put(b" closed: ");
+    put_end_word(out, end);
+    out.put(b"\n");
+}
+
+/// Puts the word of how a connection ended.
+fn put_end_word<K: Sink>(out: &mut SinkBuffer<K>, end: EndKind)
+    ensures { Puts K.facts out.old (end_word end) out.new }
+{
+    match end {
+        EndKind::End => out.put(b"end"),
+        EndKind::Partial(bytes) => put_word_and_number(out, b"partial ", bytes),
+        EndKind::Malformed(at) => put_word_and_number(out, b"malformed ", at),
+        EndKind::Failed => out.put(b"failed"),
+        EndKind::NoMemory => out.put(b"no memory"),
+        EndKind::Idle => out.put(b"idle"),
+        EndKind::Stopped => out.put(b"stopped"),
+        EndKind::Refused => out.put(b"refused"),
+    }
+}
+
+fn put_word_and_number<K: Sink>(out: &mut SinkBuffer<K>, word: &[u8], number: u64)
+    ensures { Puts K.facts out.old (word.now ++ decimal number) out.new }
+{
+    out.put(word);
+    put_unsigned(out, number);
+}
+
+/// Puts a number in decimal digits.
+fn put_unsigned<K: Sink>(out: &mut SinkBuffer<K>, number: u64)
+    ensures { Puts K.facts out.old (decimal number) out.new }
+{
+    let mut digits = Buffer::new();
+    out.put(digits.format(number).as_bytes());
+}
+
+/// Puts a number in decimal digits, behind a minus sign if it is below 0.
+fn put_signed<K: Sink>(out: &mut SinkBuffer<K>, number: i64)
+    ensures { Puts K.facts out.old (signed_decimal number) out.new }
+{
+    let mut digits = Buffer::new();
+    out.put(digits.format(number).as_bytes());
+}
+
+/// Puts a record's type: the name of a priority, or the number.
+fn put_type<K: Sink>(out: &mut SinkBuffer<K>, kind: i32)
+    ensures { Puts K.facts out.old (type_text kind) out.new }
+{
+    match name_of(kind) {
+        Some(name) => out.put(name.as_bytes()),
+        None => put_signed(out, i64::from(kind)),
+    }
+}
+
+/// The name of a priority, or None for a type that is none.
+fn name_of(kind: i32) -> Option<&'static str>
+    ensures { MatchOption result (type_text kind ≡ signed_decimal kind) (λ name. type_text kind ≡ name.now) }
+{
+    match kind {
+        1 => Some("LM_SHUTDOWN"),
+        2 => Some("LM_TRACE"),
+        4 => Some("LM_DEBUG"),
+        8 => Some("LM_INFO"),
+        16 => Some("LM_NOTICE"),
+        32 => Some("LM_WARNING"),
+        64 => Some("LM_STARTUP"),
+        128 => Some("LM_ERROR"),
+        256 => Some("LM_CRITICAL"),
+        512 => Some("LM_ALERT"),
+        1024 => Some("LM_EMERGENCY"),
+        _ => None,
+    }
+}
