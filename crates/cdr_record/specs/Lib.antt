@@ -1,4 +1,5 @@
 pub mod Decoding
 pub mod Feeding
 pub mod Grammar
+pub mod Laws
 pub mod Spelling

@@ -15,6 +15,7 @@ mod bytes;
 mod decoder;
 mod encoding;
 mod grammar;
+pub mod laws;
 mod record;
 
 pub use bad::{Bad, BadWhy};
