@@ -1,13 +1,11 @@
 -- What a list that goes on is read as: first what it was read as before, and then what is left with the rest.
-use Rattle.std.proofs.Common.{◌≡◌, ◌≤◌, ◌<◌, ◌^◌, ℕ, zero, suc, ◌+◌, ◌-◌, List, [], ◌∷◌, ◌++◌, length, take, drop, refl, sym, ◌∙◌, ap, arith}
-use Rattle.std.proofs.lemmas.List.{length-append, length-drop, drop-append-le, append-nil}
-use Rattle.cdr_record.specs.declared.record.LogRecord.{LogRecord}
-use Rattle.cdr_record.specs.declared.bad.BadWhy.{BadWhy}
+use Rattle.std.proofs.Common.{◌≡◌, ◌≤◌, ◌<◌, ℕ, zero, suc, ◌+◌, List, [], ◌∷◌, ◌++◌, length, drop, refl, sym, ◌∙◌, ap, arith}
+use Rattle.std.proofs.lemmas.List.{length-append, length-drop, drop-append-le}
 use Rattle.cdr_record.specs.declared.grammar.First.{First}
 use Rattle.cdr_record.specs.declared.grammar.First.TheVariants.{More, Bad, One}
-use Rattle.cdr_record.specs.Grammar.{first_of, record_in, fields_length, payload_length, message_length, octet}
+use Rattle.cdr_record.specs.Grammar.{first_of, record_in}
 use Rattle.cdr_record.specs.Decoding.{records_within, left_within, records_of, left_of, taken_of}
-use Rattle.cdr_record.proofs.Growing.{IsWhole, first_one, one_within, one_stays, bad_stays, record_in-append}
+use Rattle.cdr_record.proofs.Growing.{first_one, one_within, one_stays, record_in-append}
 
 -- no record stands first
 abbrev pub Stops : First → Type 0

@@ -1,7 +1,7 @@
 -- What is encoded is decoded again.
-use Rattle.std.proofs.Common.{◌≡◌, ◌≤◌, ◌<◌, ◌^◌, ℕ, zero, suc, ◌+◌, ◌-◌, List, [], ◌∷◌, ◌++◌, length, take, drop, refl, sym, ◌∙◌, ap, arith, Bool, true, false, nat_lt, if◌then◌else◌}
+use Rattle.std.proofs.Common.{◌≡◌, ◌≤◌, ◌<◌, ◌^◌, ℕ, ◌+◌, List, [], ◌∷◌, ◌++◌, length, drop, refl, sym, ◌∙◌, ap, arith, Bool, true, false, nat_lt, if◌then◌else◌}
 use Rattle.std.specs.Prelude.{ℤ, pos, negsuc}
-use Rattle.std.specs.Int.{Width, w32, w64, byte_len, cast_signed, cast_unsigned}
+use Rattle.std.specs.Int.{w32, w64, byte_len, cast_signed, cast_unsigned}
 use Rattle.std.specs.Int.RustNames.{FitsSigned}
 use Rattle.std.proofs.lemmas.Int.{to_z-of_z}
 use Rattle.std.proofs.lemmas.List.{length-append, length-drop, drop-drop, drop_at, drop_all, take_all}
@@ -11,7 +11,7 @@ use Rattle.cdr_record.specs.declared.record.Order.TheVariants.{Big, Little}
 use Rattle.cdr_record.specs.declared.record.LogRecord.{LogRecord}
 use Rattle.cdr_record.specs.declared.grammar.First.TheVariants.{More, One}
 use Rattle.cdr_record.specs.Grammar.{first_of, record_in, number, order_of, octet, payload_length, fields_length, message_length, seconds_size, seconds_width}
-use Rattle.cdr_record.specs.Decoding.{records_of, left_of, taken_of, decode}
+use Rattle.cdr_record.specs.Decoding.{records_of, left_of, decode}
 use Rattle.cdr_record.specs.Spelling.{bytes_of, seconds_bytes, spelling, canon, canon_2}
 use Rattle.cdr_record.specs.Laws.{HasNumbersOf32Bits, one_record}
 use Rattle.cdr_record.proofs.Growing.{IsWhole, first_whole, seconds_size-most}

@@ -1,5 +1,5 @@
 -- What stands first in a list is known by a few numbers, and stays as the list grows.
-use Rattle.std.proofs.Common.{◌≡◌, ◌≢◌, ◌≤◌, ◌<◌, ℕ, ◌+◌, ◌-◌, ◌==◌, List, ◌++◌, length, take, drop, get_or, refl, sym, ◌∙◌, ap, arith, nat_lt, if◌then◌else◌}
+use Rattle.std.proofs.Common.{◌≡◌, ◌≤◌, ◌<◌, ℕ, ◌+◌, ◌-◌, ◌==◌, List, ◌++◌, length, drop, refl, sym, ◌∙◌, ap, arith, nat_lt, if◌then◌else◌}
 use Rattle.std.proofs.lemmas.Bool.Decides.{nat_tests}
 use Rattle.std.proofs.lemmas.List.{length-append, length-drop, drop-append-le, take-append-le, get_or_append_left}
 use Rattle.byteorder.specs.Numbers.{big_from-append, little_from-append}
@@ -9,7 +9,7 @@ use Rattle.cdr_record.specs.declared.bad.BadWhy.{BadWhy}
 use Rattle.cdr_record.specs.declared.bad.BadWhy.TheVariants as why
 use Rattle.cdr_record.specs.declared.grammar.First.{First}
 use Rattle.cdr_record.specs.declared.grammar.First.TheVariants.{More, Bad, One}
-use Rattle.cdr_record.specs.Grammar.{first_of, number, order_of, octet, word_at, payload_length, fields_length, message_length, seconds_size, seconds_width, seconds_in, record_in}
+use Rattle.cdr_record.specs.Grammar.{first_of, number, order_of, octet, word_at, payload_length, fields_length, message_length, seconds_size, seconds_width, record_in}
 
 -- what stands first, by the numbers of bytes, octet, payload, fields and message
 abbrev pub verdict : ℕ → ℕ → ℕ → ℕ → ℕ → First

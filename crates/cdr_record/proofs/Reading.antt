@@ -1,5 +1,5 @@
 -- What a record is read as, and what stays as the list grows.
-use Rattle.std.proofs.Common.{◌≡◌, ℕ, ◌+◌, List, take, drop, refl, sym, ◌∙◌}
+use Rattle.std.proofs.Common.{◌≡◌, ℕ, ◌+◌, List, take, drop, refl}
 use Rattle.std.specs.Prelude.{ℤ}
 use Rattle.std.specs.Int.{w32, w64, cast_signed, cast_unsigned}
 use Rattle.std.specs.Int.RustNames.{FitsSigned}

@@ -1,5 +1,5 @@
 -- Runs of feeds, and how reading stops.
-use Rattle.std.proofs.Common.{◌≡◌, ◌≤◌, ◌<◌, ℕ, zero, suc, ◌+◌, ◌-◌, List, [], ◌∷◌, ◌++◌, length, refl, sym, ◌∙◌, ap, arith, Option, None, Some}
+use Rattle.std.proofs.Common.{◌≡◌, ℕ, zero, suc, List, [], ◌∷◌, ◌++◌, length, refl, sym, ◌∙◌, ap, arith, Option}
 use Rattle.std.proofs.lemmas.List.{append_assoc, append-nil}
 use Rattle.cdr_record.specs.declared.record.LogRecord.{LogRecord}
 use Rattle.cdr_record.specs.declared.bad.Bad.{Bad as BadRecord}
@@ -7,8 +7,8 @@ use Rattle.cdr_record.specs.declared.bad.BadWhy.{BadWhy}
 use Rattle.cdr_record.specs.declared.grammar.First.{First}
 use Rattle.cdr_record.specs.declared.grammar.First.TheVariants.{More, Bad, One}
 use Rattle.cdr_record.specs.Grammar.{first_of}
-use Rattle.cdr_record.specs.Decoding.{records_of, left_of, taken_of, told, unfinished, stop_at, Stop, Clean, Partial, Malformed, Decoded, decode, DecoderState, StandsFor}
-use Rattle.cdr_record.specs.Feeding.{Feeds, RunsThrough, fresh, joined}
+use Rattle.cdr_record.specs.Decoding.{records_of, left_of, taken_of, stop_at, Stop, Malformed, Decoded, decode, DecoderState, StandsFor}
+use Rattle.cdr_record.specs.Feeding.{RunsThrough, fresh, joined}
 use Rattle.cdr_record.proofs.Growing.{bad_stays}
 use Rattle.cdr_record.proofs.Cutting.{Stops, first_nil, is_left, goes_on, taken_of-append}
 use Rattle.cdr_record.proofs.Taking.{stuck, fresh_stands}

@@ -1,6 +1,6 @@
 -- A list that spells a record, and a stream that is cut into spellings.
-use Rattle.std.proofs.Common.{◌≡◌, ◌≤◌, ◌<◌, ℕ, zero, suc, ◌+◌, ◌-◌, List, [], ◌∷◌, ◌++◌, length, take, drop, refl, sym, ◌∙◌, ap, arith}
-use Rattle.std.proofs.lemmas.List.{length-append, length-take-le, take-append-drop, append_assoc, append-nil, nil_from_length}
+use Rattle.std.proofs.Common.{◌≡◌, ◌≤◌, ℕ, zero, suc, List, [], ◌∷◌, ◌++◌, length, take, drop, refl, sym, ◌∙◌, ap, arith}
+use Rattle.std.proofs.lemmas.List.{length-append, length-take-le, take-append-drop, append_assoc, nil_from_length}
 use Rattle.cdr_record.specs.declared.record.LogRecord.{LogRecord}
 use Rattle.cdr_record.specs.declared.bad.BadWhy.{BadWhy}
 use Rattle.cdr_record.specs.declared.grammar.First.{First}
@@ -10,7 +10,7 @@ use Rattle.cdr_record.specs.Decoding.{records_of, left_of}
 use Rattle.cdr_record.specs.Feeding.{joined}
 use Rattle.cdr_record.specs.Laws.{SpellsEach, IsCutInto}
 use Rattle.cdr_record.proofs.Growing.{IsWhole, first_one, first_whole, one_within, one_stays, one_shrinks}
-use Rattle.cdr_record.proofs.Cutting.{Stops, first_nil, steps_over, stops_at, fewer, one_goes_on}
+use Rattle.cdr_record.proofs.Cutting.{first_nil, steps_over, stops_at, fewer, one_goes_on}
 use Rattle.cdr_record.proofs.Taking.{completed, none_first}
 
 -- where f spells a record, that record is all that stands first in it

@@ -1,7 +1,7 @@
 -- How the decoder takes a record, and completes an unfinished one.
-use Rattle.std.proofs.Common.{◌≡◌, ◌≤◌, ◌<◌, ◌^◌, ℕ, zero, suc, ◌+◌, ◌-◌, min, List, [], ◌∷◌, ◌++◌, length, take, drop, refl, sym, ◌∙◌, ap, arith, ◌==◌, nat_lt, if◌then◌else◌, Option, None, Some, is_some, true, false, ⊎_elim}
+use Rattle.std.proofs.Common.{◌≡◌, ◌≤◌, ◌<◌, ℕ, ◌+◌, ◌-◌, min, List, [], ◌∷◌, ◌++◌, length, take, drop, refl, sym, ◌∙◌, ap, arith, Option, None, Some, is_some, true, false, ⊎_elim}
 use Rattle.std.proofs.lemmas.Bool.Decides.{nat_tests}
-use Rattle.std.proofs.lemmas.List.{length-append, length-drop, length-take, append-nil, append_assoc, drop-drop, drop_at, take-append-drop, take_all}
+use Rattle.std.proofs.lemmas.List.{length-append, length-drop, length-take, append-nil, append_assoc, drop_at, take-append-drop, take_all}
 use Rattle.std.proofs.lemmas.Bool.{cases_lt}
 use Rattle.std.proofs.Math.Seq.{take-add}
 use Rattle.cdr_record.specs.declared.record.LogRecord.{LogRecord}
@@ -13,7 +13,7 @@ use Rattle.cdr_record.specs.declared.bad.BadWhy.{BadWhy}
 use Rattle.cdr_record.specs.declared.decoder.Fed.{Fed}
 use Rattle.cdr_record.specs.Decoding.{records_of, left_of, taken_of, told, kept_of, bad_at, bad_of, StandsFor, DecoderState}
 use Rattle.cdr_record.specs.Feeding.{Feeds, fresh}
-use Rattle.cdr_record.proofs.Growing.{IsWhole, verdict, first_verdict, first_one, one_within, one_stays, bad_stays, word_at-append}
+use Rattle.cdr_record.proofs.Growing.{verdict, first_verdict, first_one, one_stays, bad_stays, word_at-append}
 use Rattle.cdr_record.proofs.Cutting.{Stops, first_nil, steps_over, StopsAt, stops_at, is_left, goes_on, one_goes_on, taken_of-append}
 
 -- ---- a record at the front

@@ -19,7 +19,6 @@ use Rattle.byteorder.specs.Endian.{big_number, little_number}
 use Rattle.cdr_record.specs.declared.record.Order.{Order}
 use Rattle.cdr_record.specs.declared.record.Order.TheVariants.{Big, Little}
 use Rattle.cdr_record.specs.declared.record.LogRecord.{LogRecord}
-use Rattle.cdr_record.specs.declared.bad.BadWhy.{BadWhy}
 use Rattle.cdr_record.specs.declared.bad.BadWhy.TheVariants as why
 use Rattle.cdr_record.specs.declared.grammar.First.{First}
 use Rattle.cdr_record.specs.declared.grammar.First.TheVariants.{More, Bad, One}

@@ -7,7 +7,7 @@ use Rattle.cdr_record.specs.declared.record.LogRecord.{LogRecord}
 use Rattle.cdr_record.specs.declared.bad.BadWhy.{BadWhy}
 use Rattle.cdr_record.specs.declared.grammar.First.TheVariants as first
 use Rattle.cdr_record.specs.Grammar.{Spells, first_of}
-use Rattle.cdr_record.specs.Decoding.{Stop, Clean, Malformed, Decoded, DecoderState, StandsFor, decode, records_of, left_of, unfinished}
+use Rattle.cdr_record.specs.Decoding.{Clean, Malformed, Decoded, DecoderState, StandsFor, decode, left_of, unfinished}
 use Rattle.cdr_record.specs.Feeding.{RunsThrough, fresh, joined}
 use Rattle.cdr_record.specs.Spelling.{canon, canon_2}
 

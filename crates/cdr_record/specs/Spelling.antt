@@ -1,5 +1,5 @@
 -- The spelling of a record that an encoder writes.
-use Rattle.std.specs.Prelude.{ℕ, ℤ, ◌+◌, List, [], ◌∷◌, ◌++◌, length}
+use Rattle.std.specs.Prelude.{ℕ, ℤ, ◌+◌, List, ◌∷◌, ◌++◌, length}
 use Rattle.std.specs.Int.{w32, cast_unsigned}
 use Rattle.byteorder.specs.Endian.{big_bytes, little_bytes}
 use Rattle.cdr_record.specs.declared.record.Order.{Order}

@@ -1,5 +1,5 @@
-use Rattle.std.proofs.Common.{arith, rules, sym, ap, ◌∙◌, length, ◌≤◌, ◌<◌, ◌≡◌, ◌++◌, ◌+◌, ◌-◌, min, drop, take}
-use Rattle.std.proofs.lemmas.List.{take_rest, length-drop}
+use Rattle.std.proofs.Common.{arith, rules, sym, ap, ◌∙◌, length, ◌≤◌, ◌≡◌, ◌+◌, ◌-◌, min, drop}
+use Rattle.std.proofs.lemmas.List.{take_rest}
 use Rattle.cdr_record.specs.Grammar.{first_of, payload_length}
 use Rattle.cdr_record.proofs.Taking.{moved_twice, short_is_none, header_is_none, body_all, body_one}
 use Rattle.cdr_record.proofs.decoder.complete.Goals as goal

@@ -1,9 +1,8 @@
-use Rattle.std.proofs.Common.{arith, rules, sym, ap, ◌∙◌, length, ◌≤◌, ◌+◌, ◌≡◌, ◌++◌, ◌∷◌, [], List, ℕ, drop, append-nil, refl}
-use Rattle.std.proofs.lemmas.List.{take_rest, append_assoc}
-use Rattle.cdr_record.specs.declared.grammar.First.TheVariants.{More, Bad, One}
-use Rattle.cdr_record.specs.Grammar.{first_of, record_in}
-use Rattle.cdr_record.specs.Decoding.{records_of, left_of, taken_of, told, kept_of}
-use Rattle.cdr_record.proofs.Taking.{one_fields, one_message, in_parts, Completed, completed, IsStuck, ends_bad, ends_whole, ends_more, joined_records}
+use Rattle.std.proofs.Common.{arith, sym, ap, ◌∙◌, ◌+◌, ◌≡◌, ◌++◌, List, ℕ, drop, append-nil, refl}
+use Rattle.std.proofs.lemmas.List.{take_rest}
+use Rattle.cdr_record.specs.Grammar.{record_in}
+use Rattle.cdr_record.specs.Decoding.{records_of, taken_of, told}
+use Rattle.cdr_record.proofs.Taking.{one_fields, one_message, in_parts, completed, ends_bad, ends_whole, ends_more, joined_records}
 use Rattle.cdr_record.proofs.decoder.take_piece.Goals as goal
 
 pub read_record-requires-clause-fields : goal.read_record-requires-clause-fields

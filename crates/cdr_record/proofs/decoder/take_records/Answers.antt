@@ -1,4 +1,4 @@
-use Rattle.std.proofs.Common.{arith, rules, sym, ap, ◌∙◌, length, ◌≤◌, ◌+◌, ◌≡◌, ◌++◌, append-nil}
+use Rattle.std.proofs.Common.{arith, rules, sym, ap, ◌∙◌, length, ◌≤◌, ◌++◌, append-nil}
 use Rattle.std.proofs.lemmas.List.{take_rest, length-drop}
 use Rattle.cdr_record.specs.Grammar.{first_of}
 use Rattle.cdr_record.proofs.Growing.{one_within}

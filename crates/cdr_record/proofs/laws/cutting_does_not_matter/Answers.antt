@@ -1,5 +1,5 @@
-use Rattle.std.proofs.Common.{◌≡◌, sym, ap, ◌∙◌, List, ℕ}
-use Rattle.cdr_record.specs.Decoding.{records_of, StandsFor}
+use Rattle.std.proofs.Common.{sym, ap, ◌∙◌}
+use Rattle.cdr_record.specs.Decoding.{records_of}
 use Rattle.cdr_record.proofs.Runs.{gives_all_records, same_state}
 use Rattle.cdr_record.proofs.laws.cutting_does_not_matter.Goals as goal
 

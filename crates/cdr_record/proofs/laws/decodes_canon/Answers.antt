@@ -1,5 +1,3 @@
-use Rattle.cdr_record.specs.declared.record.Order.TheVariants.{Big, Little}
-use Rattle.cdr_record.specs.Grammar.{seconds_width}
 use Rattle.cdr_record.proofs.Encoded.{decodes_canon}
 use Rattle.cdr_record.proofs.laws.decodes_canon.Goals as goal
 

@@ -1,6 +1,5 @@
-use Rattle.std.proofs.Common.{ap, ◌∙◌, refl, sym, ◌≡◌}
+use Rattle.std.proofs.Common.{ap, ◌∙◌, refl}
 use Rattle.cdr_record.specs.Grammar.{first_of}
-use Rattle.cdr_record.specs.Decoding.{DecoderState}
 use Rattle.cdr_record.proofs.Taking.{feeds_piece, feeds_bad, kept_more, no_bad}
 use Rattle.cdr_record.proofs.decoder.Decoder.feed.Goals as goal
 

@@ -1,6 +1,6 @@
 use Rattle.cdr_record.proofs.Cutting.{first_nil}
 use Rattle.cdr_record.proofs.Taking.{fresh_stands}
-use Rattle.std.proofs.Common.{ap, ◌∙◌, sym, subst}
+use Rattle.std.proofs.Common.{ap, ◌∙◌}
 use Rattle.cdr_record.specs.Grammar.{first_of}
 use Rattle.cdr_record.proofs.decoder.Decoder.new.Goals as goal
 
