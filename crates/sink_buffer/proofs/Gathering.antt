@@ -1,20 +1,58 @@
 -- Steps of a buffered sink.
-use Rattle.std.proofs.Common.{◌≡◌, ℕ, List, ◌++◌, sym, ◌∙◌, ap}
-use Rattle.ev_base.specs.Sink.{SinkFacts}
-use Rattle.sink_buffer.specs.Gathers.{Gathers, held_of, is_broken, output_of}
+use Rattle.std.proofs.Common.{◌≡◌, ℕ, List, [], ◌++◌, Bool, true, false, refl, sym, ◌∙◌, ap, append_assoc, append-nil, subst}
+use Rattle.ev_base.specs.Sink.{SinkFacts, GrowsBy}
+use Rattle.sink_buffer.specs.Written.{IsPrefixOf, TakesAll, BreaksOff, WritesAll}
+use Rattle.sink_buffer.specs.Gathers.{Gathers, HoldsBack, held_of, is_broken, output_of}
 use Rattle.sink_buffer.specs.declared.buffer.SinkBuffer.{SinkBuffer}
-use Rattle.sink_buffer.proofs.Texts.{lacks-more, front-more}
+use Rattle.sink_buffer.proofs.Texts.{grows-none, grows-twice, prefix-behind, prefix-more}
+
+-- nothing was written yet
+pub holds-none : (now : SinkFacts) → HoldsBack now [] [] now
+holds-none now = record { written = []; takes = record { text = grows-none now.text; faults = refl }; all = refl }
+
+-- more is held back
+holds-more : (start now : SinkFacts) (held more put : List ℕ) → HoldsBack start held put now → HoldsBack start (held ++ more) (put ++ more) now
+holds-more start now held more put h = record { written = h.written; takes = h.takes; all = sym (append_assoc h.written held more) ∙ ap (λ xs. xs ++ more) h.all }
+
+breaks-more : (start now : SinkFacts) (more put : List ℕ) → BreaksOff start put now → BreaksOff start (put ++ more) now
+breaks-more start now more put b = record { front = b.front; is_front = prefix-more b.front put more b.is_front; text = b.text; rose = b.rose }
 
 -- more is held back, and the sink below is as it was
-pub gathers-more : {K : Type 0} (facts : K → SinkFacts) (faults : ℕ) (old new : SinkBuffer K) (text more : List ℕ) →
+pub gathers-more : {K : Type 0} (facts : K → SinkFacts) (start : SinkFacts) (old new : SinkBuffer K) (put more : List ℕ) →
     held_of new ≡ held_of old ++ more → output_of new ≡ output_of old → is_broken new ≡ is_broken old →
-    Gathers facts faults old text → Gathers facts faults new (text ++ more)
-gathers-more facts faults old new text more held output broken g =
-    let told : (facts (output_of new)).text ≡ (facts (output_of old)).text = ap (λ k. (facts k).text) output in
-    let count : (facts (output_of new)).faults ≡ (facts (output_of old)).faults = ap (λ k. (facts k).faults) output in
-    record {
-      whole = λ b. rw (told, held) (lacks-more (facts (output_of old)).text (held_of old) more text (g.whole (sym broken ∙ b)));
-      front = λ b. rw told (front-more (facts (output_of old)).text text more (g.front (sym broken ∙ b)));
-      rose = λ b. rw count (g.rose (sym broken ∙ b));
-      same = λ b. rw count (g.same (sym broken ∙ b));
+    Gathers facts start old put → Gathers facts start new (put ++ more)
+gathers-more facts start old new put more held output broken g =
+    let same : facts (output_of new) ≡ facts (output_of old) = ap facts output in
+    record
+    { whole = λ b. rw (same, held) (holds-more start (facts (output_of old)) (held_of old) more put (g.whole (sym broken ∙ b)))
+    ; front = λ b. rw same (breaks-more start (facts (output_of old)) more put (g.front (sym broken ∙ b)))
     }
+
+-- what was held back was written
+pub written-all : (start old new : SinkFacts) (held put : List ℕ) → HoldsBack start held put old → TakesAll old held new → HoldsBack start [] put new
+written-all start old new held put h w = record
+    { written = put
+    ; takes = record
+        { text = subst (λ (bytes : List ℕ). GrowsBy start.text bytes new.text) h.all (grows-twice start.text old.text new.text h.written held h.takes.text w.text)
+        ; faults = w.faults ∙ h.takes.faults }
+    ; all = append-nil put }
+
+-- a front of it was
+pub written-front : (start old new : SinkFacts) (held put : List ℕ) → HoldsBack start held put old → BreaksOff old held new → BreaksOff start put new
+written-front start old new held put h b = record
+    { front = h.written ++ b.front
+    ; is_front = subst (λ (whole : List ℕ). IsPrefixOf (h.written ++ b.front) whole) h.all (prefix-behind h.written b.front held b.is_front)
+    ; text = grows-twice start.text old.text new.text h.written b.front h.takes.text b.text
+    ; rose = rw (← h.takes.faults) b.rose }
+
+-- a flush of a buffer that is not broken
+pub gathers-flushed : {K : Type 0} (facts : K → SinkFacts) (start : SinkFacts) (old new : SinkBuffer K) (put : List ℕ) (done : Bool) →
+    is_broken old ≡ false → WritesAll (facts (output_of old)) (held_of old) done (facts (output_of new)) →
+    held_of new ≡ [] → (done ≡ true → is_broken new ≡ false) → (done ≡ false → is_broken new ≡ true) →
+    Gathers facts start old put → Gathers facts start new put
+gathers-flushed facts start old new put true sound writes held whole front g = record
+    { whole = λ b. rw held (written-all start (facts (output_of old)) (facts (output_of new)) (held_of old) put (g.whole sound) writes)
+    ; front = λ b. absurd (cc (whole refl)) }
+gathers-flushed facts start old new put false sound writes held whole front g = record
+    { whole = λ b. absurd (cc (front refl))
+    ; front = λ b. written-front start (facts (output_of old)) (facts (output_of new)) (held_of old) put (g.whole sound) writes }

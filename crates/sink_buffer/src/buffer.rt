@@ -1,6 +1,7 @@
 //! The buffer, and the loop that writes it.
 ghost use Rattle.std.specs.Prelude.{◌≡◌, ◌≤◌, ℕ, List, [], ◌++◌, length, take, min, ◌-◌, ◌<◌, Bool, true, false, IsTrue, ◌↔◌};
-ghost use Rattle.sink_buffer.specs.Written.{HasText, WritesAll};
+ghost use Rattle.ev_base.specs.Sink.{SinkFacts};
+ghost use Rattle.sink_buffer.specs.Written.{WritesAll};
 
 use ev_base::{Sink, Wrote};
 
@@ -23,7 +24,7 @@ impl<K: Sink> SinkBuffer<K> {
 
     /// A buffer before this sink, which holds nothing.
     pub fn new(output: K) -> SinkBuffer<K>
-        ensures text { (text : List ℕ) → HasText (K.facts output).text text → Gathers K.facts (K.facts output).faults result text }
+        ensures text { Gathers K.facts (K.facts output) result [] }
         ensures held { held_of result ≡ [] }
         ensures output { output_of result ≡ output }
         ensures broken { is_broken result ≡ false }
@@ -49,7 +50,7 @@ impl<K: Sink> SinkBuffer<K> {
 
     /// Writes what is held where the buffer is full.
     fn make_room(&mut self)
-        ensures text { (faults : ℕ) (text : List ℕ) → Gathers K.facts faults self.old text → Gathers K.facts faults self.new text }
+        ensures text { (start : SinkFacts) (put : List ℕ) → Gathers K.facts start self.old put → Gathers K.facts start self.new put }
         ensures room { self.new.held < 8192 }
     {
         if self.held >= SIZE {
@@ -74,14 +75,17 @@ impl<K: Sink> SinkBuffer<K> {
 
     /// Writes what is held. After it the sink has the whole text, or a write failed.
     pub fn flush(&mut self)
-        ensures text { (faults : ℕ) (text : List ℕ) → Gathers K.facts faults self.old text → Gathers K.facts faults self.new text }
+        ensures text { (start : SinkFacts) (put : List ℕ) → Gathers K.facts start self.old put → Gathers K.facts start self.new put }
         ensures held { held_of self.new ≡ [] }
         ensures empty { self.new.held ≡ 0 }
     {
-        if !self.broken && !write_all(&mut self.output, &self.bytes[..self.held]) {
-            self.broken = true;
+        if self.broken {
+            self.held = 0;
+            return;
         }
+        let done = write_all(&mut self.output, &self.bytes[..self.held]);
         self.held = 0;
+        self.broken = !done;
     }
 
     /// Whether a write failed.

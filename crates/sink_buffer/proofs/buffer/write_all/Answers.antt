@@ -18,10 +18,9 @@ loop-at-preserved g c =
     )
 
 pub returns-in-Failed : goal.returns-in-Failed
-returns-in-Failed g c =
-    let front = take c.loop-at.at c.args.bytes.now in (
-      front,
-      prefix-take c.args.bytes.now c.loop-at.at,
-      rw c.in-Failed.ensures.text c.loop-at.invariant.1,
-      rw (← c.loop-at.invariant.2) c.in-Failed.ensures.rose,
-    )
+returns-in-Failed g c = record {
+  front = take c.loop-at.at c.args.bytes.now;
+  is_front = prefix-take c.args.bytes.now c.loop-at.at;
+  text = rw c.in-Failed.ensures.text c.loop-at.invariant.1;
+  rose = rw (← c.loop-at.invariant.2) c.in-Failed.ensures.rose;
+}

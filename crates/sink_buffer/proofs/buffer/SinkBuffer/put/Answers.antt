@@ -11,8 +11,8 @@ loop-at-preserved g c =
     let n = c.fill-at.result in
     let part = take n (take (length bytes - at) (drop at bytes)) in (
       omega (arith, c.fill-at.ensures.count, length-part bytes at),
-      λ faults text h.
-          let before = c.make_room.ensures.text faults (text ++ take at bytes) (c.loop-at.invariant.1 faults text h) in
-          let after = gathers-more g.K.Sink.facts faults c.make_room.new.self c.fill-at.new.self (text ++ take at bytes) part c.fill-at.ensures.held c.fill-at.ensures.output c.fill-at.ensures.broken before in
-          subst (λ (whole : List ℕ). Gathers g.K.Sink.facts faults c.fill-at.new.self whole) (append_assoc text (take at bytes) part ∙ ap (λ xs. text ++ xs) (take-next bytes at n)) after,
+      λ start put h.
+          let before = c.make_room.ensures.text start (put ++ take at bytes) (c.loop-at.invariant.1 start put h) in
+          let after = gathers-more g.K.Sink.facts start c.make_room.new.self c.fill-at.new.self (put ++ take at bytes) part c.fill-at.ensures.held c.fill-at.ensures.output c.fill-at.ensures.broken before in
+          subst (λ (whole : List ℕ). Gathers g.K.Sink.facts start c.fill-at.new.self whole) (append_assoc put (take at bytes) part ∙ ap (λ xs. put ++ xs) (take-next bytes at n)) after,
     )
