@@ -1,0 +1,4 @@
+pub mod One
+pub mod Words
+pub mod Statuses
+pub mod Serving
