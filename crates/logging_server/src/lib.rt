@@ -3,6 +3,8 @@
 
 mod fault;
 mod one;
+#[cfg(test)]
+mod tests;
 mod top;
 
 pub use fault::{FaultLine, fault_line};

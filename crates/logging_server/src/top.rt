@@ -55,7 +55,12 @@ pub fn logd_main<S: Source, K: Sink>(
 }
 
 /// Serves one connection, number 0, on the source.
-fn one<S: Source, K: Sink>(alloc: Global, limit: u64, input: S, output: K) -> Served<K, S>
+pub(crate) fn one<S: Source, K: Sink>(
+    alloc: Global,
+    limit: u64,
+    input: S,
+    output: K,
+) -> Served<K, S>
     ensures { EndsWith limit (S.facts input) (K.facts output) (S.facts result.input) (K.facts result.output) result.status result.at }
 {
     let mut input = input;
