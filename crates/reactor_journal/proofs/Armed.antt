@@ -16,14 +16,14 @@ use Rattle.reactor_journal.proofs.OneOpen.{started_is_able}
 use Rattle.reactor_journal.proofs.Timers.{any_with, any_filtered, rearms_due, timer_below, due_at-last, due_at-other}
 use Rattle.reactor_journal.proofs.Closing.{due_is_armed}
 
-filtered_any : {A : Type 0} (p q : A → Bool) (xs : List A) → list_any p (filter q xs) ≡ true → list_any p xs ≡ true
+pub filtered_any : {A : Type 0} (p q : A → Bool) (xs : List A) → list_any p (filter q xs) ≡ true → list_any p xs ≡ true
 filtered_any p q xs h = (any_filtered p q xs h).3
 
-owner_any : {N : Type 0} (past : List (Entry N)) (p : ℕ × ℕ → Bool) (event : Option Event) (ds : List (ℕ × ℕ)) → list_any p (without_owner past event ds) ≡ true → list_any p ds ≡ true
+pub owner_any : {N : Type 0} (past : List (Entry N)) (p : ℕ × ℕ → Bool) (event : Option Event) (ds : List (ℕ × ℕ)) → list_any p (without_owner past event ds) ≡ true → list_any p ds ≡ true
 owner_any past p None ds h = h
 owner_any past p (Some event) ds h = filtered_any p (λ d. not (is_timer_of event.handle (timer_of past d.1))) ds h
 
-rearmed_any : {N : Type 0} (past : List (Entry N)) (p : ℕ × ℕ → Bool) (again : Option ℕ) (ds : List (ℕ × ℕ)) → list_any p (with_rearmed past again ds) ≡ true
+pub rearmed_any : {N : Type 0} (past : List (Entry N)) (p : ℕ × ℕ → Bool) (again : Option ℕ) (ds : List (ℕ × ℕ)) → list_any p (with_rearmed past again ds) ≡ true
     → (list_any p ds ≡ true) ⊎ ((d : ℕ × ℕ) × (with_next past again ≡ Some d) × (p d ≡ true))
 rearmed_any past p None ds h = inl h
 rearmed_any past p (Some t) ds h =
@@ -46,12 +46,12 @@ armed_cases _ past p h = inl h
 
 -- ---- numbers of timers that are known
 
-known_below : {N : Type 0} (most : ℕ) (past : List (Entry N)) (t : ℕ) → is_legal most past ≡ true → (timer : Option Timer) → timer_of past t ≡ timer → is_some timer ≡ true → t < scheduled past
+pub known_below : {N : Type 0} (most : ℕ) (past : List (Entry N)) (t : ℕ) → is_legal most past ≡ true → (timer : Option Timer) → timer_of past t ≡ timer → is_some timer ≡ true → t < scheduled past
 known_below most past t legal None q h = absurd (false≢true h)
 known_below most past t legal (Some timer) q h = timer_below most past t timer.handle legal (ap (is_timer_of timer.handle) q ∙ eq-eqb timer.handle timer.handle refl)
 
 -- what is set again is known, as it has a period
-rearms_known : {N : Type 0} (past : List (Entry N)) (due : Option ℕ) (t : ℕ) → rearms past due ≡ Some t → is_some (timer_of past t) ≡ true
+pub rearms_known : {N : Type 0} (past : List (Entry N)) (due : Option ℕ) (t : ℕ) → rearms past due ≡ Some t → is_some (timer_of past t) ≡ true
 rearms_known past None t h = absurd (none h)
   where
     none : ◌≡◌ {A = Option ℕ} None (Some t) → ⊥
@@ -69,26 +69,26 @@ rearms_known past (Some s) t h = go (timer_of past s) refl h
         (λ (b : (timer.every == 0) ≡ false). let same : ◌≡◌ {A = Option ℕ} (Some s) (Some t) = sym (cond-false _ _ _ b) ∙ k in let eq : s ≡ t = cc in subst (λ (u : ℕ). is_some (timer_of past u) ≡ true) eq (ap is_some q))
         (cases_Bool (timer.every == 0))
 
-scheduled_grows : {N : Type 0} (e : Entry N) (past : List (Entry N)) → scheduled past ≤ scheduled (e ∷ past)
+pub scheduled_grows : {N : Type 0} (e : Entry N) (past : List (Entry N)) → scheduled past ≤ scheduled (e ∷ past)
 scheduled_grows (Scheduled timer handle first every) past = omega arith
 scheduled_grows _ past = omega arith
 
 -- the timer that the entry adds, if it is set again
-with_next_is : {N : Type 0} (past : List (Entry N)) (again : Option ℕ) (d : ℕ × ℕ) → with_next past again ≡ Some d → again ≡ Some d.1
+pub with_next_is : {N : Type 0} (past : List (Entry N)) (again : Option ℕ) (d : ℕ × ℕ) → with_next past again ≡ Some d → again ≡ Some d.1
 with_next_is past None d h = absurd (none h)
   where
     none : ◌≡◌ {A = Option (ℕ × ℕ)} None (Some d) → ⊥
     none q = cc
 with_next_is past (Some t) d h = let same : ◌≡◌ {A = ℕ × ℕ} (next_deadline (deadline past t) (period (timer_of past t)) (now past), t) d = cc in ap (λ (c : ℕ × ℕ). Some c.1) same
 
-some_first : (first timer : ℕ) (d : ℕ × ℕ) → ◌≡◌ {A = Option (ℕ × ℕ)} (Some (first, timer)) (Some d) → (first ≡ d.0) × (timer ≡ d.1)
+pub some_first : (first timer : ℕ) (d : ℕ × ℕ) → ◌≡◌ {A = Option (ℕ × ℕ)} (Some (first, timer)) (Some d) → (first ≡ d.0) × (timer ≡ d.1)
 some_first first timer d h = let same : ◌≡◌ {A = ℕ × ℕ} (first, timer) d = cc in (ap (λ (c : ℕ × ℕ). c.0) same, ap (λ (c : ℕ × ℕ). c.1) same)
 
-no_pair : {P : Type 0} (d : ℕ × ℕ) → ◌≡◌ {A = Option (ℕ × ℕ)} None (Some d) → P
+pub no_pair : {P : Type 0} (d : ℕ × ℕ) → ◌≡◌ {A = Option (ℕ × ℕ)} None (Some d) → P
 no_pair d q = absurd cc
 
 -- a timer that is added is known from then on
-added_known : {N : Type 0} (most : ℕ) (e : Entry N) (past : List (Entry N)) (d : ℕ × ℕ) → is_legal most past ≡ true → may_follow most past e ≡ true → added past e ≡ Some d → d.1 < scheduled (e ∷ past)
+pub added_known : {N : Type 0} (most : ℕ) (e : Entry N) (past : List (Entry N)) (d : ℕ × ℕ) → is_legal most past ≡ true → may_follow most past e ≡ true → added past e ≡ Some d → d.1 < scheduled (e ∷ past)
 added_known most (Scheduled timer handle first every) past d legal may h =
     let is : timer ≡ scheduled past = eqb-true _ _ (and_parts _ _ (may_fits most past (Scheduled timer handle first every) may)).0 in
     let same : (first ≡ d.0) × (timer ≡ d.1) = some_first first timer d h in
@@ -98,7 +98,7 @@ added_known most (Started event) past d legal may h =
     known_below most past d.1 legal (timer_of past d.1) refl (rearms_known past (due_at past event) d.1 again)
 added_known most _ past d legal may h = no_pair d h
 
-made_due_armed : {N : Type 0} (most : ℕ) (e : Entry N) (past : List (Entry N)) (t : ℕ) → may_follow most past e ≡ true → due_made e ≡ Some t → is_armed past t ≡ true
+pub made_due_armed : {N : Type 0} (most : ℕ) (e : Entry N) (past : List (Entry N)) (t : ℕ) → may_follow most past e ≡ true → due_made e ≡ Some t → is_armed past t ≡ true
 made_due_armed most (Due timer) past t may h = let same : timer ≡ t = cc in subst (λ (k : ℕ). is_armed past k ≡ true) same (due_is_armed most past timer may)
 made_due_armed most _ past t may h = absurd (none h)
   where
@@ -133,7 +133,7 @@ due_known {N} most (e ∷ past) i t legal h =
 -- ---- while a timeout waits, its timer is not armed, and no other timeout of it waits
 
 -- what waits behind one more entry waited before it, and the entry doesn't start it
-waiting_old : {N : Type 0} (e : Entry N) (past : List (Entry N)) (i : ℕ) → i ≢ length past → is_waiting (e ∷ past) i ≡ true → (is_waiting past i ≡ true) × (starts i e ≡ false)
+pub waiting_old : {N : Type 0} (e : Entry N) (past : List (Entry N)) (i : ℕ) → i ≢ length past → is_waiting (e ∷ past) i ≡ true → (is_waiting past i ≡ true) × (starts i e ≡ false)
 waiting_old e past i q w =
     let a : (is_event (e ∷ past) i ≡ true) × ((not (was_started (e ∷ past) i) && not (was_taken (e ∷ past) i)) ≡ true) = and_parts _ _ w in
     let b : (not (was_started (e ∷ past) i) ≡ true) × (not (was_taken (e ∷ past) i) ≡ true) = and_parts _ _ a.1 in
@@ -149,7 +149,7 @@ unfolding is_able
 able_waits past i h = (and_parts _ _ h).0
 
 -- what is set again is the timer of a timeout that waits and that the entry starts
-added_cases : {N : Type 0} (most : ℕ) (e : Entry N) (past : List (Entry N)) (d : ℕ × ℕ) → may_follow most past e ≡ true → added past e ≡ Some d
+pub added_cases : {N : Type 0} (most : ℕ) (e : Entry N) (past : List (Entry N)) (d : ℕ × ℕ) → may_follow most past e ≡ true → added past e ≡ Some d
     → (d.1 ≡ scheduled past) ⊎ ((i : ℕ) × (starts i e ≡ true) × (is_waiting past i ≡ true) × (due_at past i ≡ Some d.1))
 added_cases most (Scheduled timer handle first every) past d may h =
     inl (sym (some_first first timer d h).1 ∙ eqb-true _ _ (and_parts _ _ (may_fits most past (Scheduled timer handle first every) may)).0)
@@ -174,7 +174,7 @@ added_fresh most e past d legal may due h =
     (added_cases most e past d may h)
 
 -- a timer whose timeout waits, and is not started by the entry, is not added by it
-not_added : {N : Type 0} (most : ℕ) (e : Entry N) (past : List (Entry N)) (i t : ℕ) (d : ℕ × ℕ) → is_legal most past ≡ true → may_follow most past e ≡ true → DueTimers past
+pub not_added : {N : Type 0} (most : ℕ) (e : Entry N) (past : List (Entry N)) (i t : ℕ) (d : ℕ × ℕ) → is_legal most past ≡ true → may_follow most past e ≡ true → DueTimers past
     → is_waiting past i ≡ true → due_at past i ≡ Some t → starts i e ≡ false → added past e ≡ Some d → d.1 ≡ t → ⊥
 not_added most e past i t d legal may due w q s h same =
     ⊎_elim
@@ -184,20 +184,20 @@ not_added most e past i t d legal may due w q s h same =
     both_ways _ s (subst (λ (k : ℕ). starts k e ≡ true) this again.1))
     (added_cases most e past d may h)
 
-none_without : (t : ℕ) (ds : List (ℕ × ℕ)) → list_any (λ (d : ℕ × ℕ). d.1 == t) (without_timer t ds) ≡ true → ⊥
+pub none_without : (t : ℕ) (ds : List (ℕ × ℕ)) → list_any (λ (d : ℕ × ℕ). d.1 == t) (without_timer t ds) ≡ true → ⊥
 none_without t ds h =
     let found : (d : ℕ × ℕ) × ((d.1 == t) ≡ true) × (not (d.1 == t) ≡ true) × (list_any (λ (d : ℕ × ℕ). d.1 == t) ds ≡ true) = any_filtered (λ (d : ℕ × ℕ). d.1 == t) (λ (d : ℕ × ℕ). not (d.1 == t)) ds h in
     both_ways _ (not-true _ found.2) found.1
 
 -- a timer that came due is not armed
-due_idle : {N : Type 0} (e : Entry N) (past : List (Entry N)) (t : ℕ) → due_made e ≡ Some t → is_armed (e ∷ past) t ≡ true → ⊥
+pub due_idle : {N : Type 0} (e : Entry N) (past : List (Entry N)) (t : ℕ) → due_made e ≡ Some t → is_armed (e ∷ past) t ≡ true → ⊥
 due_idle (Due timer) past t q h = let same : timer ≡ t = cc in none_without t (armed past) (subst (λ (k : ℕ). list_any (λ (d : ℕ × ℕ). d.1 == t) (without_timer k (armed past)) ≡ true) same h)
 due_idle _ past t q h = none q
   where
     none : ◌≡◌ {A = Option ℕ} None (Some t) → ⊥
     none q = cc
 
-false_if_not : (b : Bool) → (b ≡ true → ⊥) → b ≡ false
+pub false_if_not : (b : Bool) → (b ≡ true → ⊥) → b ≡ false
 false_if_not true f = absurd (f refl)
 false_if_not false f = refl
 
@@ -238,7 +238,7 @@ due_timers {N} most (e ∷ past) legal =
 -- ---- deadlines
 
 -- the timer that is added is given its deadline
-added_deadline : {N : Type 0} (e : Entry N) (past : List (Entry N)) (d : ℕ × ℕ) → added past e ≡ Some d → deadline (e ∷ past) d.1 ≡ d.0
+pub added_deadline : {N : Type 0} (e : Entry N) (past : List (Entry N)) (d : ℕ × ℕ) → added past e ≡ Some d → deadline (e ∷ past) d.1 ≡ d.0
 added_deadline (Scheduled timer handle first every) past d h =
     let same : (first ≡ d.0) × (timer ≡ d.1) = some_first first timer d h in
     cond-true (timer == d.1) first (deadline past d.1) (eq-eqb timer d.1 same.1) ∙ same.0
@@ -253,7 +253,7 @@ added_deadline (Started event) past d h = go (rearms past (due_at past event)) h
 added_deadline _ past d h = no_pair d h
 
 -- no other timer's deadline moves
-other_deadline : {N : Type 0} (e : Entry N) (past : List (Entry N)) (t : ℕ) → ((d : ℕ × ℕ) → added past e ≡ Some d → d.1 ≡ t → ⊥) → deadline (e ∷ past) t ≡ deadline past t
+pub other_deadline : {N : Type 0} (e : Entry N) (past : List (Entry N)) (t : ℕ) → ((d : ℕ × ℕ) → added past e ≡ Some d → d.1 ≡ t → ⊥) → deadline (e ∷ past) t ≡ deadline past t
 other_deadline (Scheduled timer handle first every) past t not_it = cond-false (timer == t) first (deadline past t) (ne_eqb timer t (λ q. not_it (first, timer) refl q))
 other_deadline (Started event) past t not_it = go (rearms past (due_at past event)) not_it
   where
@@ -262,7 +262,7 @@ other_deadline (Started event) past t not_it = go (rearms past (due_at past even
     go (Some s) not_it = cond-false (s == t) _ _ (ne_eqb s t (λ q. not_it (next_deadline (deadline past s) (period (timer_of past s)) (now past), s) refl q))
 other_deadline _ past t not_it = refl
 
-pair_armed : (a t : ℕ) (ds : List (ℕ × ℕ)) → list_any (λ (d : ℕ × ℕ). d.0 == a && d.1 == t) ds ≡ true → list_any (λ (d : ℕ × ℕ). d.1 == t) ds ≡ true
+pub pair_armed : (a t : ℕ) (ds : List (ℕ × ℕ)) → list_any (λ (d : ℕ × ℕ). d.0 == a && d.1 == t) ds ≡ true → list_any (λ (d : ℕ × ℕ). d.1 == t) ds ≡ true
 pair_armed a t [] h = h
 pair_armed a t (d ∷ ds) h =
     ⊎_elim
@@ -287,17 +287,17 @@ armed_deadline {N} most (e ∷ past) a t legal h =
 
 -- ---- a timer whose timeout waits has a deadline that is reached
 
-now_grows : {N : Type 0} (most : ℕ) (e : Entry N) (past : List (Entry N)) → may_follow most past e ≡ true → now past ≤ now (e ∷ past)
+pub now_grows : {N : Type 0} (most : ℕ) (e : Entry N) (past : List (Entry N)) → may_follow most past e ≡ true → now past ≤ now (e ∷ past)
 now_grows most (Polled moment) past may = leb-true (now past) moment (and_parts _ _ (may_fits most past (Polled moment) may)).0
 now_grows most _ past may = omega arith
 
-first_is_set : (moment t : ℕ) (ds : List (ℕ × ℕ)) → is_first_due moment t ds ≡ true → (a : ℕ) × (a ≤ moment) × (list_any (λ (d : ℕ × ℕ). d.0 == a && d.1 == t) ds ≡ true)
+pub first_is_set : (moment t : ℕ) (ds : List (ℕ × ℕ)) → is_first_due moment t ds ≡ true → (a : ℕ) × (a ≤ moment) × (list_any (λ (d : ℕ × ℕ). d.0 == a && d.1 == t) ds ≡ true)
 first_is_set moment t [] h = absurd (false≢true h)
 first_is_set moment t (d ∷ ds) h =
     let both : ((d.1 == t) ≡ true) × (nat_le d.0 moment ≡ true) = and_parts _ _ h in
     (d.0, leb-true d.0 moment both.1, or_left (d.0 == d.0 && d.1 == t) _ (and_from (d.0 == d.0) (d.1 == t) (eq-eqb d.0 d.0 refl) both.0))
 
-made_reached : {N : Type 0} (most : ℕ) (e : Entry N) (past : List (Entry N)) (t : ℕ) → is_legal most past ≡ true → may_follow most past e ≡ true → due_made e ≡ Some t → deadline (e ∷ past) t ≤ now (e ∷ past)
+pub made_reached : {N : Type 0} (most : ℕ) (e : Entry N) (past : List (Entry N)) (t : ℕ) → is_legal most past ≡ true → may_follow most past e ≡ true → due_made e ≡ Some t → deadline (e ∷ past) t ≤ now (e ∷ past)
 made_reached {N} most (Due timer) past t legal may q =
     let same : timer ≡ t = cc in
     let set : (a : ℕ) × (a ≤ now past) × (list_any (λ (d : ℕ × ℕ). d.0 == a && d.1 == timer) (armed past) ≡ true) = first_is_set (now past) timer (armed past) (and_parts (follows_due past) _ (may_fits most past (Due timer) may)).1 in
@@ -332,7 +332,7 @@ next_bound d every moment h = let k : (moment - d) / every * every ≤ moment - 
 
 -- ---- each report is an event
 
-set_still : {N : Type 0} (e : Entry N) (past : List (Entry N)) (t : ℕ) → is_some (timer_of past t) ≡ true → is_some (timer_of (e ∷ past) t) ≡ true
+pub set_still : {N : Type 0} (e : Entry N) (past : List (Entry N)) (t : ℕ) → is_some (timer_of past t) ≡ true → is_some (timer_of (e ∷ past) t) ≡ true
 set_still (Scheduled timer handle first every) past t h =
     ⊎_elim
     (λ (b : (timer == t) ≡ true). ap is_some (cond-true _ _ _ b))
@@ -340,7 +340,7 @@ set_still (Scheduled timer handle first every) past t h =
     (cases_Bool (timer == t))
 set_still _ past t h = h
 
-added_set : {N : Type 0} (e : Entry N) (past : List (Entry N)) (d : ℕ × ℕ) → added past e ≡ Some d → is_some (timer_of (e ∷ past) d.1) ≡ true
+pub added_set : {N : Type 0} (e : Entry N) (past : List (Entry N)) (d : ℕ × ℕ) → added past e ≡ Some d → is_some (timer_of (e ∷ past) d.1) ≡ true
 added_set (Scheduled timer handle first every) past d h = ap is_some (cond-true _ _ _ (eq-eqb timer d.1 (some_first first timer d h).1))
 added_set (Started event) past d h = rearms_known past (due_at past event) d.1 (with_next_is past (rearms past (due_at past event)) d h)
 added_set _ past d h = no_pair d h
@@ -354,7 +354,7 @@ armed_set (e ∷ past) t h =
     (λ (new : (d : ℕ × ℕ) × (added past e ≡ Some d) × ((d.1 == t) ≡ true)). subst (λ (k : ℕ). is_some (timer_of (e ∷ past) k) ≡ true) (eqb-true _ _ new.2) (added_set e past new.0 new.1))
     (armed_cases e past (λ d. d.1 == t) h)
 
-made_event : {N : Type 0} (most : ℕ) (e : Entry N) (past : List (Entry N)) → may_follow most past e ≡ true → is_report e ≡ true → is_some (event_made e (timer_of past) (event_at past) (is_alive past)) ≡ true
+pub made_event : {N : Type 0} (most : ℕ) (e : Entry N) (past : List (Entry N)) → may_follow most past e ≡ true → is_report e ≡ true → is_some (event_made e (timer_of past) (event_at past) (is_alive past)) ≡ true
 made_event most (Due timer) past may r = mapped (timer_of past timer) (armed_set past timer (due_is_armed most past timer may))
   where
     mapped : (s : Option Timer) → is_some s ≡ true → is_some (option_map (timeout_of timer) s) ≡ true

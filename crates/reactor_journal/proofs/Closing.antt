@@ -17,7 +17,7 @@ use Rattle.reactor_journal.proofs.Alive.{alive_after, not_both, opened_below, de
 use Rattle.reactor_journal.proofs.Timers.{armed_alive, able_alive, timeout_owned}
 
 -- what ends the life of a handle drops its events
-end_drops : {N : Type 0} (events : ℕ → Option Event) (e : Entry N) (x : ℕ) (event : Option Event) → belongs_to x event ≡ true → ends x events e ≡ true → drops_it event events e ≡ true
+pub end_drops : {N : Type 0} (events : ℕ → Option Event) (e : Entry N) (x : ℕ) (event : Option Event) → belongs_to x event ≡ true → ends x events e ≡ true → drops_it event events e ≡ true
 end_drops events e x None b h = absurd (false≢true b)
 end_drops events (Removed handle) x (Some event) b h = let q : event.handle ≡ x = eqb-true _ _ b in let r : handle.0 ≡ x = eqb-true _ _ h in eq-eqb handle.0 event.handle (omega arith)
 end_drops events (Returned other Close note) x (Some event) b h = subst (λ (k : ℕ). belongs_to k (events other) ≡ true) (sym (eqb-true event.handle x b)) h
@@ -32,7 +32,7 @@ pub due_is_armed : {N : Type 0} (most : ℕ) (past : List (Entry N)) (timer : �
 due_is_armed most past timer may = first_due_armed _ timer (armed past) (and_parts _ _ (may_fits most past (Due timer) may)).1
 
 -- the handle of an event that an entry makes is alive
-made_alive : {N : Type 0} (most : ℕ) (e : Entry N) (past : List (Entry N)) (x : ℕ) → is_legal most past ≡ true → may_follow most past e ≡ true
+pub made_alive : {N : Type 0} (most : ℕ) (e : Entry N) (past : List (Entry N)) (x : ℕ) → is_legal most past ≡ true → may_follow most past e ≡ true
     → belongs_to x (event_made e (timer_of past) (event_at past) (is_alive past)) ≡ true → (is_alive past x ≡ true) × (ends x (event_at past) e ≡ false)
 made_alive most (Due timer) past x legal may b = (armed_alive most past legal timer x (due_is_armed most past timer may) (as_timer (timer_of past timer) b), refl)
   where
@@ -102,7 +102,7 @@ pub record Gone {N : Type 0} (past : List (Entry N)) (x : ℕ) : Type 0 where
   pub idle : (i : ℕ) → is_open past i ≡ true → belongs_to x (event_at past i) ≡ true → ⊥
 
 -- it stays so
-gone_still : {N : Type 0} (most : ℕ) (e : Entry N) (past : List (Entry N)) (x : ℕ) → is_legal most (e ∷ past) ≡ true → Gone past x → Gone (e ∷ past) x
+pub gone_still : {N : Type 0} (most : ℕ) (e : Entry N) (past : List (Entry N)) (x : ℕ) → is_legal most (e ∷ past) ≡ true → Gone past x → Gone (e ∷ past) x
 gone_still most e past x legal g =
     let parts : (may_follow most past e ≡ true) × (is_legal most past ≡ true) = and_parts _ _ legal in
     record {
@@ -120,7 +120,7 @@ gone_still most e past x legal g =
           (open_cases e past i o);
     }
 
-gone_first : {N : Type 0} (most : ℕ) (past : List (Entry N)) (x : ℕ) → waits_for_closed past x ≡ true → Gone past x
+pub gone_first : {N : Type 0} (most : ℕ) (past : List (Entry N)) (x : ℕ) → waits_for_closed past x ≡ true → Gone past x
 gone_first most past x h =
     let c : (was_opened past x ≡ true) × (is_alive past x ≡ false) × (is_busy past x ≡ false) × (was_closed past x ≡ false) = closing past x h in
     record {
@@ -129,7 +129,7 @@ gone_first most past x h =
       idle = λ i o b. both_ways (is_busy past x) c.2 (open_is_busy past i x (event_at-within past i (belongs_is_event past i x b)) o b);
     }
 
-closed_waits : {N : Type 0} (most : ℕ) (past : List (Entry N)) (e : Entry N) (x : ℕ) → may_follow most past e ≡ true → closes x e ≡ true → waits_for_closed past x ≡ true
+pub closed_waits : {N : Type 0} (most : ℕ) (past : List (Entry N)) (e : Entry N) (x : ℕ) → may_follow most past e ≡ true → closes x e ≡ true → waits_for_closed past x ≡ true
 closed_waits most past (Closed handle note) x may c = subst (λ (k : ℕ). waits_for_closed past k ≡ true) (eqb-true handle.0 x c) (may_fits most past (Closed handle note) may)
 closed_waits most past _ x may c = absurd (false≢true c)
 
@@ -158,10 +158,10 @@ closed_once most (e ∷ past) x legal =
     (cases_Bool (closes x e))
 
 -- an entry that needs x alive can't follow once x is gone
-dead : {N : Type 0} (most : ℕ) (past : List (Entry N)) (h x : ℕ) → Gone past x → (h == x) ≡ true → is_alive past h ≡ true → ⊥
+pub dead : {N : Type 0} (most : ℕ) (past : List (Entry N)) (h x : ℕ) → Gone past x → (h == x) ≡ true → is_alive past h ≡ true → ⊥
 dead most past h x g q a = not_both past x (subst (λ (k : ℕ). is_alive past k ≡ true) (eqb-true h x q) a) g.removed
 
-late_timeout : {N : Type 0} (most : ℕ) (past : List (Entry N)) (t x : ℕ) → is_legal most past ≡ true → Gone past x → is_timer_of x (timer_of past t) ≡ true → timeout_waits past t ≡ true → ⊥
+pub late_timeout : {N : Type 0} (most : ℕ) (past : List (Entry N)) (t x : ℕ) → is_legal most past ≡ true → Gone past x → is_timer_of x (timer_of past t) ≡ true → timeout_waits past t ≡ true → ⊥
 unfolding timeout_waits
 late_timeout most past t x legal g n h =
     let found : (i : ℕ) × (i < length past) × ((is_waiting past i && is_timeout_event t (event_at past i)) ≡ true) = any_below-some (length past) _ h in

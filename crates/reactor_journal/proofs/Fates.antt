@@ -33,7 +33,7 @@ started_once most (e ∷ past) legal i =
     omega arith)
     (cases_Bool (starts i e))
 
-one_of : (e s t : Bool) → e ≡ true → exactly_one s (e && (not s && t)) (e && (not s && not t)) ≡ true
+pub one_of : (e s t : Bool) → e ≡ true → exactly_one s (e && (not s && t)) (e && (not s && not t)) ≡ true
 one_of true true t h = refl
 one_of true false true h = refl
 one_of true false false h = refl

@@ -17,16 +17,16 @@ returned_is_open most past (Returned event answer note) i may r =
     subst (λ (k : ℕ). is_open past k ≡ true) (eqb-true event i r) (may_fits most past (Returned event answer note) may)
 returned_is_open most past _ i may r = absurd (false≢true r)
 
-no_turn : {N : Type 0} (x : ℕ) (event : Option Event) (moment : ℕ) (answer : Answer) (note : N) → belongs_to x event ≡ false → item_of x event moment answer note ≡ []
+pub no_turn : {N : Type 0} (x : ℕ) (event : Option Event) (moment : ℕ) (answer : Answer) (note : N) → belongs_to x event ≡ false → item_of x event moment answer note ≡ []
 no_turn x None moment answer note h = refl
 no_turn x (Some event) moment answer note h = rw h refl
 
 -- an entry that returns no event of x makes no turn of it
-quiet : {N : Type 0} (past : List (Entry N)) (x : ℕ) (e : Entry N) → ((j : ℕ) → returns j e ≡ true → belongs_to x (event_at past j) ≡ false) → items_made past x e ≡ []
+pub quiet : {N : Type 0} (past : List (Entry N)) (x : ℕ) (e : Entry N) → ((j : ℕ) → returns j e ≡ true → belongs_to x (event_at past j) ≡ false) → items_made past x e ≡ []
 quiet past x (Returned event answer note) h = no_turn x (event_at past event) _ answer note (h event (eq-eqb event event refl))
 quiet past x _ h = refl
 
-started_still : {N : Type 0} (later past : List (Entry N)) (i : ℕ) → was_started past i ≡ true → was_started (later ++ past) i ≡ true
+pub started_still : {N : Type 0} (later past : List (Entry N)) (i : ℕ) → was_started past i ≡ true → was_started (later ++ past) i ≡ true
 started_still [] past i h = h
 started_still (e ∷ later) past i h = or_right _ _ (started_still later past i h)
 

@@ -9,7 +9,7 @@ use Rattle.reactor_journal.proofs.Basics.{may_fits, event_at-other}
 use Rattle.reactor_journal.proofs.Alive.{opened_below}
 use Rattle.reactor_journal.proofs.Closing.{closing, closed_gone}
 
-shuffle : (event s started d taken : Bool) → (event && (not (s || started) && not (d || taken))) ≡ ((event && (not started && not taken)) && (not s && not d))
+pub shuffle : (event s started d taken : Bool) → (event && (not (s || started) && not (d || taken))) ≡ ((event && (not started && not taken)) && (not s && not d))
 shuffle false s started d taken = refl
 shuffle true true true true true = refl
 shuffle true true true true false = refl
@@ -35,13 +35,13 @@ waiting-step e past i lt =
     ap (λ b. b && (not (starts i e || was_started past i) && not (drops_it (event_at past i) (event_at past) e || was_taken past i))) (ap is_some (event_at-other e past i (omega arith)))
     ∙ shuffle (is_event past i) (starts i e) (was_started past i) (drops_it (event_at past i) (event_at past) e) (was_taken past i)
 
-same_below : (n : ℕ) (p q : ℕ → Bool) → ((x : ℕ) → x < n → p x ≡ q x) → count_below n p ≡ count_below n q
+pub same_below : (n : ℕ) (p q : ℕ → Bool) → ((x : ℕ) → x < n → p x ≡ q x) → count_below n p ≡ count_below n q
 same_below zero p q h = refl
 same_below (suc n) p q h =
     let rest : count_below n p ≡ count_below n q = same_below n p q (λ x lt. h x (omega arith)) in
     ap (λ b. cond b (suc (count_below n p)) (count_below n p)) (h n (omega arith)) ∙ ap (λ k. cond (q n) (suc k) k) rest
 
-one_fewer : (n x : ℕ) (p q : ℕ → Bool) → x < n → p x ≡ true → q x ≡ false → ((y : ℕ) → y ≢ x → p y ≡ q y) → count_below n p ≡ suc (count_below n q)
+pub one_fewer : (n x : ℕ) (p q : ℕ → Bool) → x < n → p x ≡ true → q x ≡ false → ((y : ℕ) → y ≢ x → p y ≡ q y) → count_below n p ≡ suc (count_below n q)
 one_fewer zero x p q lt px qx h = absurd (omega arith)
 one_fewer (suc n) x p q lt px qx h =
     ⊎_elim

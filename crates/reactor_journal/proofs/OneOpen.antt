@@ -30,7 +30,7 @@ unfolding is_able
 able_is_event past i h = (and_parts _ _ (and_parts _ _ h).0).0
 
 -- whose event is able is not busy
-may_run_idle : {N : Type 0} (past : List (Entry N)) (x : ℕ) (event : Option Event) → may_run past event ≡ true → belongs_to x event ≡ true → is_busy past x ≡ false
+pub may_run_idle : {N : Type 0} (past : List (Entry N)) (x : ℕ) (event : Option Event) → may_run past event ≡ true → belongs_to x event ≡ true → is_busy past x ≡ false
 may_run_idle past x None h b = absurd (false≢true b)
 may_run_idle past x (Some event) h b =
     let q : event.handle ≡ x = eqb-true event.handle x b in
@@ -69,7 +69,7 @@ open_cases e past i o =
     (λ (h : was_started past i ≡ true). inr (and_from _ _ h (ap not r.1)))
     (or_cases (starts i e) (was_started past i) p.0)
 
-starts_one : {N : Type 0} (e : Entry N) (i j : ℕ) → starts i e ≡ true → starts j e ≡ true → i ≡ j
+pub starts_one : {N : Type 0} (e : Entry N) (i j : ℕ) → starts i e ≡ true → starts j e ≡ true → i ≡ j
 starts_one (Started event) i j h k = sym (eqb-true event i h) ∙ eqb-true event j k
 starts_one _ i j h k = absurd (false≢true h)
 

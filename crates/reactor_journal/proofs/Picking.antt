@@ -20,28 +20,28 @@ all_below-from zero test h = refl
 all_below-from (suc n) test h = and_from (test n) (all_below n test) (h n (omega arith)) (all_below-from n test (λ i lt. h i (omega arith)))
 
 -- the order of (class, number)
-abbrev first : ℕ → ℕ → ℕ → ℕ → Bool
+abbrev pub first : ℕ → ℕ → ℕ → ℕ → Bool
 first a i b j = nat_lt a b || (a == b && nat_le i j)
 
-first_same : (a i b j : ℕ) → first a i b j ≡ true → first b j a i ≡ true → i ≡ j
+pub first_same : (a i b j : ℕ) → first a i b j ≡ true → first b j a i ≡ true → i ≡ j
 first_same a i b j h k = grind (arith, nat_tests)
 
-first_self : (a i : ℕ) → first a i a i ≡ true
+pub first_self : (a i : ℕ) → first a i a i ≡ true
 first_self a i = grind (arith, nat_tests)
 
-first_total : (a i b j : ℕ) → (first a i b j ≡ true) ⊎ (first b j a i ≡ true)
+pub first_total : (a i b j : ℕ) → (first a i b j ≡ true) ⊎ (first b j a i ≡ true)
 first_total a i b j = ⊎_elim (λ (t : first a i b j ≡ true). inl t) (λ (f : first a i b j ≡ false). inr (other a i b j f)) (cases_Bool (first a i b j))
   where
     other : (a i b j : ℕ) → first a i b j ≡ false → first b j a i ≡ true
     other a i b j f = grind (arith, nat_tests)
 
-first_trans : (a i b j c k : ℕ) → first a i b j ≡ true → first b j c k ≡ true → first a i c k ≡ true
+pub first_trans : (a i b j c k : ℕ) → first a i b j ≡ true → first b j c k ≡ true → first a i c k ≡ true
 first_trans a i b j c k h g = grind (arith, nat_tests)
 
-able_within : {N : Type 0} (past : List (Entry N)) (i : ℕ) → is_able past i ≡ true → i < length past
+pub able_within : {N : Type 0} (past : List (Entry N)) (i : ℕ) → is_able past i ≡ true → i < length past
 able_within past i h = event_at-within past i (able_is_event past i h)
 
-pick_parts : {N : Type 0} (past : List (Entry N)) (i : ℕ) → is_pick past i ≡ true → (is_able past i ≡ true) × ((j : ℕ) → is_able past j ≡ true → goes_first past i j ≡ true)
+pub pick_parts : {N : Type 0} (past : List (Entry N)) (i : ℕ) → is_pick past i ≡ true → (is_able past i ≡ true) × ((j : ℕ) → is_able past j ≡ true → goes_first past i j ≡ true)
 unfolding is_pick
 pick_parts past i h =
     let p : (is_able past i ≡ true) × (all_below (length past) (λ j. not (is_able past j) || goes_first past i j) ≡ true) = and_parts _ _ h in (
@@ -53,7 +53,7 @@ pick_parts past i h =
           (or_cases _ _ (all_below-at (length past) (λ j. not (is_able past j) || goes_first past i j) j (able_within past j a) p.1)),
     )
 
-pick_from : {N : Type 0} (past : List (Entry N)) (i : ℕ) → is_able past i ≡ true → ((j : ℕ) → j < length past → is_able past j ≡ true → goes_first past i j ≡ true) → is_pick past i ≡ true
+pub pick_from : {N : Type 0} (past : List (Entry N)) (i : ℕ) → is_able past i ≡ true → ((j : ℕ) → j < length past → is_able past j ≡ true → goes_first past i j ≡ true) → is_pick past i ≡ true
 unfolding is_pick
 pick_from past i a h =
     and_from (is_able past i) _ a
@@ -66,7 +66,7 @@ pick_one past i j h k =
     first_same (class_at (event_at past i)) i (class_at (event_at past j)) j (p.1 j q.0) (q.1 i p.0)
 
 -- the first of those that pass among the numbers below n
-best : (class : ℕ → ℕ) (able : ℕ → Bool) (n : ℕ) → ((i : ℕ) → i < n → able i ≡ false) ⊎ ((b : ℕ) × (able b ≡ true) × ((j : ℕ) → j < n → able j ≡ true → first (class b) b (class j) j ≡ true))
+pub best : (class : ℕ → ℕ) (able : ℕ → Bool) (n : ℕ) → ((i : ℕ) → i < n → able i ≡ false) ⊎ ((b : ℕ) × (able b ≡ true) × ((j : ℕ) → j < n → able j ≡ true → first (class b) b (class j) j ≡ true))
 best class able zero = inl (λ i lt. absurd (omega arith))
 best class able (suc n) =
     ⊎_elim

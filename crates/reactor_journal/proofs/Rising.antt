@@ -11,13 +11,13 @@ use Rattle.reactor_journal.specs.Past.{armed, added, comes_before, with_deadline
 use Rattle.reactor_journal.specs.Follow.{may_follow, is_legal}
 use Rattle.reactor_journal.proofs.Armed.{added_fresh, due_timers}
 
-false_if_not : (b : Bool) → (b ≡ true → ⊥) → b ≡ false
+pub false_if_not : (b : Bool) → (b ≡ true → ⊥) → b ≡ false
 false_if_not true f = absurd (f refl)
 false_if_not false f = refl
 
 -- ---- filters keep both
 
-all_filtered : (p q : ℕ × ℕ → Bool) (ds : List (ℕ × ℕ)) → list_all p ds ≡ true → list_all p (filter q ds) ≡ true
+pub all_filtered : (p q : ℕ × ℕ → Bool) (ds : List (ℕ × ℕ)) → list_all p ds ≡ true → list_all p (filter q ds) ≡ true
 all_filtered p q [] h = refl
 all_filtered p q (d ∷ ds) h = step (q d) (and_parts (p d) (list_all p ds) h) (all_filtered p q ds (and_parts (p d) (list_all p ds) h).1)
   where
@@ -25,7 +25,7 @@ all_filtered p q (d ∷ ds) h = step (q d) (and_parts (p d) (list_all p ds) h) (
     step true k r = and_from (p d) _ k.0 r
     step false k r = r
 
-none_filtered : (p q : ℕ × ℕ → Bool) (ds : List (ℕ × ℕ)) → list_any p ds ≡ false → list_any p (filter q ds) ≡ false
+pub none_filtered : (p q : ℕ × ℕ → Bool) (ds : List (ℕ × ℕ)) → list_any p ds ≡ false → list_any p (filter q ds) ≡ false
 none_filtered p q [] h = refl
 none_filtered p q (d ∷ ds) h = step (q d) (or_parts (p d) (list_any p ds) h) (none_filtered p q ds (or_parts (p d) (list_any p ds) h).1)
   where
@@ -33,7 +33,7 @@ none_filtered p q (d ∷ ds) h = step (q d) (or_parts (p d) (list_any p ds) h) (
     step true k r = or_from (p d) _ k.0 r
     step false k r = r
 
-rising_filtered : (q : ℕ × ℕ → Bool) (ds : List (ℕ × ℕ)) → is_rising ds ≡ true → is_rising (filter q ds) ≡ true
+pub rising_filtered : (q : ℕ × ℕ → Bool) (ds : List (ℕ × ℕ)) → is_rising ds ≡ true → is_rising (filter q ds) ≡ true
 rising_filtered q [] h = refl
 rising_filtered q (d ∷ ds) h =
     let k : (list_all (λ c. comes_before d c) ds ≡ true) × (is_rising ds ≡ true) = and_parts (list_all (λ c. comes_before d c) ds) (is_rising ds) h in
@@ -43,7 +43,7 @@ rising_filtered q (d ∷ ds) h =
     step true k r = and_from (list_all (λ c. comes_before d c) (filter q ds)) _ k r
     step false k r = r
 
-once_filtered : (q : ℕ × ℕ → Bool) (ds : List (ℕ × ℕ)) → names_once ds ≡ true → names_once (filter q ds) ≡ true
+pub once_filtered : (q : ℕ × ℕ → Bool) (ds : List (ℕ × ℕ)) → names_once ds ≡ true → names_once (filter q ds) ≡ true
 once_filtered q [] h = refl
 once_filtered q (d ∷ ds) h =
     let k : (not (list_any (λ c. c.1 == d.1) ds) ≡ true) × (names_once ds ≡ true) = and_parts (not (list_any (λ c. c.1 == d.1) ds)) (names_once ds) h in
@@ -55,19 +55,19 @@ once_filtered q (d ∷ ds) h =
 
 -- ---- and so does one more that is fresh
 
-before_trans : (a b c : ℕ × ℕ) → comes_before a b ≡ true → comes_before b c ≡ true → comes_before a c ≡ true
+pub before_trans : (a b c : ℕ × ℕ) → comes_before a b ≡ true → comes_before b c ≡ true → comes_before a c ≡ true
 before_trans a b c h k = grind (arith, nat_tests)
 
-before_other : (a b : ℕ × ℕ) → comes_before a b ≡ false → (b.1 == a.1) ≡ false → comes_before b a ≡ true
+pub before_other : (a b : ℕ × ℕ) → comes_before a b ≡ false → (b.1 == a.1) ≡ false → comes_before b a ≡ true
 before_other a b h k = grind (arith, nat_tests)
 
-all_weaker : (a b : ℕ × ℕ) (ds : List (ℕ × ℕ)) → comes_before a b ≡ true → list_all (λ c. comes_before b c) ds ≡ true → list_all (λ c. comes_before a c) ds ≡ true
+pub all_weaker : (a b : ℕ × ℕ) (ds : List (ℕ × ℕ)) → comes_before a b ≡ true → list_all (λ c. comes_before b c) ds ≡ true → list_all (λ c. comes_before a c) ds ≡ true
 all_weaker a b [] h k = refl
 all_weaker a b (d ∷ ds) h k =
     let p : (comes_before b d ≡ true) × (list_all (λ c. comes_before b c) ds ≡ true) = and_parts (comes_before b d) (list_all (λ c. comes_before b c) ds) k in
     and_from (comes_before a d) (list_all (λ c. comes_before a c) ds) (before_trans a b d h p.0) (all_weaker a b ds h p.1)
 
-all_with : (p : ℕ × ℕ → Bool) (a : ℕ × ℕ) (ds : List (ℕ × ℕ)) → p a ≡ true → list_all p ds ≡ true → list_all p (with_deadline a ds) ≡ true
+pub all_with : (p : ℕ × ℕ → Bool) (a : ℕ × ℕ) (ds : List (ℕ × ℕ)) → p a ≡ true → list_all p ds ≡ true → list_all p (with_deadline a ds) ≡ true
 all_with p a [] h k = and_from (p a) true h refl
 all_with p a (d ∷ ds) h k = step (comes_before a d) (and_parts (p d) (list_all p ds) k) (all_with p a ds h (and_parts (p d) (list_all p ds) k).1)
   where
@@ -75,7 +75,7 @@ all_with p a (d ∷ ds) h k = step (comes_before a d) (and_parts (p d) (list_all
     step true q r = and_from (p a) (p d && list_all p ds) h (and_from (p d) (list_all p ds) q.0 q.1)
     step false q r = and_from (p d) (list_all p (with_deadline a ds)) q.0 r
 
-none_with : (p : ℕ × ℕ → Bool) (a : ℕ × ℕ) (ds : List (ℕ × ℕ)) → p a ≡ false → list_any p ds ≡ false → list_any p (with_deadline a ds) ≡ false
+pub none_with : (p : ℕ × ℕ → Bool) (a : ℕ × ℕ) (ds : List (ℕ × ℕ)) → p a ≡ false → list_any p ds ≡ false → list_any p (with_deadline a ds) ≡ false
 none_with p a [] h k = or_from (p a) false h refl
 none_with p a (d ∷ ds) h k = step (comes_before a d) (or_parts (p d) (list_any p ds) k) (none_with p a ds h (or_parts (p d) (list_any p ds) k).1)
   where
@@ -83,7 +83,7 @@ none_with p a (d ∷ ds) h k = step (comes_before a d) (or_parts (p d) (list_any
     step true q r = or_from (p a) (p d || list_any p ds) h (or_from (p d) (list_any p ds) q.0 q.1)
     step false q r = or_from (p d) (list_any p (with_deadline a ds)) q.0 r
 
-rising_with : (a : ℕ × ℕ) (ds : List (ℕ × ℕ)) → list_any (λ c. c.1 == a.1) ds ≡ false → is_rising ds ≡ true → is_rising (with_deadline a ds) ≡ true
+pub rising_with : (a : ℕ × ℕ) (ds : List (ℕ × ℕ)) → list_any (λ c. c.1 == a.1) ds ≡ false → is_rising ds ≡ true → is_rising (with_deadline a ds) ≡ true
 rising_with a [] f h = refl
 rising_with a (d ∷ ds) f h =
     let other : ((d.1 == a.1) ≡ false) × (list_any (λ c. c.1 == a.1) ds ≡ false) = or_parts (d.1 == a.1) (list_any (λ c. c.1 == a.1) ds) f in
@@ -97,7 +97,7 @@ rising_with a (d ∷ ds) f h =
     step false is other k r =
         and_from (list_all (λ c. comes_before d c) (with_deadline a ds)) _ (all_with (λ c. comes_before d c) a ds (before_other a d is other.0) k.0) r
 
-once_with : (a : ℕ × ℕ) (ds : List (ℕ × ℕ)) → list_any (λ c. c.1 == a.1) ds ≡ false → names_once ds ≡ true → names_once (with_deadline a ds) ≡ true
+pub once_with : (a : ℕ × ℕ) (ds : List (ℕ × ℕ)) → list_any (λ c. c.1 == a.1) ds ≡ false → names_once ds ≡ true → names_once (with_deadline a ds) ≡ true
 once_with a [] f h = refl
 once_with a (d ∷ ds) f h =
     let other : ((d.1 == a.1) ≡ false) × (list_any (λ c. c.1 == a.1) ds ≡ false) = or_parts (d.1 == a.1) (list_any (λ c. c.1 == a.1) ds) f in
@@ -112,7 +112,7 @@ once_with a (d ∷ ds) f h =
         and_from (not (list_any (λ c. c.1 == d.1) (with_deadline a ds))) _ (ap not (none_with (λ c. c.1 == d.1) a ds (ne_eqb a.1 d.1 (λ q. eqb-false d.1 a.1 other.0 (sym q))) (not-true _ k.0))) r
 
 -- what an entry makes of a property that filters keep and that one more fresh one keeps
-kept : {N : Type 0} (ok : List (ℕ × ℕ) → Bool) → ((q : ℕ × ℕ → Bool) (ds : List (ℕ × ℕ)) → ok ds ≡ true → ok (filter q ds) ≡ true)
+pub kept : {N : Type 0} (ok : List (ℕ × ℕ) → Bool) → ((q : ℕ × ℕ → Bool) (ds : List (ℕ × ℕ)) → ok ds ≡ true → ok (filter q ds) ≡ true)
     → (e : Entry N) (past : List (Entry N)) → ((d : ℕ × ℕ) → added past e ≡ Some d → ok (with_deadline d (armed past)) ≡ true) → ok (armed past) ≡ true → ok (armed (e ∷ past)) ≡ true
 kept ok filters (Scheduled timer handle first every) past more h = more (first, timer) refl
 kept ok filters (Cancelled timer) past more h = filters _ (armed past) h

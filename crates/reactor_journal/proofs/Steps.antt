@@ -52,7 +52,7 @@ pub open_is_event : {N : Type 0} (most : ℕ) (past : List (Entry N)) (i : ℕ) 
 open_is_event most past i legal o = started_is_event most past legal i (and_parts _ _ o).0
 
 -- an open event that the entry does not return is open still
-open_after : {N : Type 0} (e : Entry N) (past : List (Entry N)) (i : ℕ) → is_open past i ≡ true → returns i e ≡ false → is_open (e ∷ past) i ≡ true
+pub open_after : {N : Type 0} (e : Entry N) (past : List (Entry N)) (i : ℕ) → is_open past i ≡ true → returns i e ≡ false → is_open (e ∷ past) i ≡ true
 open_after e past i o r =
     open_from (e ∷ past) i (or_right (starts i e) (was_started past i) (open_parts past i o).0) (or_from (returns i e) (was_returned past i) r (open_parts past i o).1)
 

@@ -42,16 +42,16 @@ timer_stays {N} most (Scheduled timer handle first every) past t x legal h =
 timer_stays most _ past t x legal h = refl
 
 -- no report and no notification is a timeout
-no_timeout : (t : ℕ) (kind : Kind) → is_timeout_of t (upcall_of kind) ≡ true → ⊥
+pub no_timeout : (t : ℕ) (kind : Kind) → is_timeout_of t (upcall_of kind) ≡ true → ⊥
 no_timeout t Read h = false≢true h
 no_timeout t Write h = false≢true h
 no_timeout t Except h = false≢true h
 
 -- the event is a timeout of t only if it belongs to the handle of t
-abbrev OwnedAs : ℕ → Option Timer → Option Event → Type 0
+abbrev pub OwnedAs : ℕ → Option Timer → Option Event → Type 0
 OwnedAs t timer event = is_timeout_event t event ≡ true → (x : ℕ) → belongs_to x event ≡ is_timer_of x timer
 
-kept_owned : (t : ℕ) (timer : Option Timer) (alive : ℕ → Bool) (event : Option Event) → OwnedAs t timer event → OwnedAs t timer (only_if_alive alive event)
+pub kept_owned : (t : ℕ) (timer : Option Timer) (alive : ℕ → Bool) (event : Option Event) → OwnedAs t timer event → OwnedAs t timer (only_if_alive alive event)
 kept_owned t timer alive None own = own
 kept_owned t timer alive (Some event) own =
     cond_either (alive event.handle) (Some event) None own (λ h. absurd (false≢true h))
@@ -61,7 +61,7 @@ kept_owned t timer alive (Some event) own =
     cond_either false x y p q = q
 
 -- the event that an entry makes
-made_owned : {N : Type 0} (e : Entry N) (past : List (Entry N)) (t : ℕ) → ((j : ℕ) → OwnedAs t (timer_of past t) (event_at past j))
+pub made_owned : {N : Type 0} (e : Entry N) (past : List (Entry N)) (t : ℕ) → ((j : ℕ) → OwnedAs t (timer_of past t) (event_at past j))
     → OwnedAs t (timer_of past t) (event_made e (timer_of past) (event_at past) (λ x. was_opened past x && not (was_removed past x)))
 made_owned (Due timer) past t own =
     ⊎_elim
@@ -80,7 +80,7 @@ made_owned (Ready handle kind) past t own = λ h. absurd (no_timeout t kind h)
 made_owned (Returned event Again note) past t own = kept_owned t (timer_of past t) (is_alive past) (event_at past event) (own event)
 made_owned _ past t own = λ h. absurd (false≢true h)
 
-known_handle : (t : ℕ) (timer : Option Timer) (event : Option Event) → OwnedAs t timer event → is_timeout_event t event ≡ true → (x : ℕ) × (is_timer_of x timer ≡ true)
+pub known_handle : (t : ℕ) (timer : Option Timer) (event : Option Event) → OwnedAs t timer event → is_timeout_event t event ≡ true → (x : ℕ) × (is_timer_of x timer ≡ true)
 known_handle t timer None own h = absurd (false≢true h)
 known_handle t timer (Some event) own h = (event.handle, sym (own h event.handle) ∙ eq-eqb event.handle event.handle refl)
 
@@ -104,7 +104,7 @@ timeout_owned {N} most (e ∷ past) t legal i h x =
 
 -- ---- what stands in the list of armed timers
 
-filtered_step : {A : Type 0} (p q : A → Bool) (y : A) (ys : List A)
+pub filtered_step : {A : Type 0} (p q : A → Bool) (y : A) (ys : List A)
     → (list_any p (filter q ys) ≡ true → (z : A) × (p z ≡ true) × (q z ≡ true) × (list_any p ys ≡ true))
     → (b : Bool) → q y ≡ b → list_any p (cond b (y ∷ filter q ys) (filter q ys)) ≡ true
     → (z : A) × (p z ≡ true) × (q z ≡ true) × ((p y || list_any p ys) ≡ true)
@@ -147,12 +147,12 @@ due_at-last e past i h = let t : (i == length past) ≡ true = eq-eqb i (length 
 pub due_at-other : {N : Type 0} (e : Entry N) (past : List (Entry N)) (i : ℕ) → i ≢ length past → due_at (e ∷ past) i ≡ due_at past i
 due_at-other e past i h = let t : (i == length past) ≡ false = ne_eqb i (length past) h in rw (t, due_at) refl
 
-set_timeout : (timer t : ℕ) (s : Option Timer) → Some timer ≡ Some t → is_some (option_map (timeout_of timer) s) ≡ true
+pub set_timeout : (timer t : ℕ) (s : Option Timer) → Some timer ≡ Some t → is_some (option_map (timeout_of timer) s) ≡ true
     → is_timeout_event t (option_map (timeout_of timer) s) ≡ true
 set_timeout timer t None q h = absurd (false≢true h)
 set_timeout timer t (Some s) q h = let same : timer ≡ t = cc in eq-eqb timer t same
 
-made_timeout : {N : Type 0} (e : Entry N) (past : List (Entry N)) (t : ℕ) → due_made e ≡ Some t
+pub made_timeout : {N : Type 0} (e : Entry N) (past : List (Entry N)) (t : ℕ) → due_made e ≡ Some t
     → is_some (event_made e (timer_of past) (event_at past) (is_alive past)) ≡ true → is_timeout_event t (event_made e (timer_of past) (event_at past) (is_alive past)) ≡ true
 made_timeout (Due timer) past t q h = set_timeout timer t (timer_of past timer) q h
 made_timeout _ past t q h = absurd (none q)
@@ -174,7 +174,7 @@ due_timeout (e ∷ past) i t q h =
     (cases_eq i (length past))
 
 -- a timer that is left when those of a handle are taken away is not of that handle
-kept_of : {N : Type 0} (past : List (Entry N)) (t x y : ℕ) → is_timer_of x (timer_of past t) ≡ true → list_any (λ (d : ℕ × ℕ). d.1 == t) (without_handle past y (armed past)) ≡ true
+pub kept_of : {N : Type 0} (past : List (Entry N)) (t x y : ℕ) → is_timer_of x (timer_of past t) ≡ true → list_any (λ (d : ℕ × ℕ). d.1 == t) (without_handle past y (armed past)) ≡ true
     → (is_armed past t ≡ true) × ((y == x) ≡ false)
 kept_of past t x y h a =
     let found : (d : ℕ × ℕ) × ((d.1 == t) ≡ true) × (not (is_timer_of y (timer_of past d.1)) ≡ true) × (is_armed past t ≡ true) =
@@ -188,12 +188,12 @@ kept_of past t x y h a =
           (cases_Bool (y == x)),
     )
 
-kept_timer : {N : Type 0} (past : List (Entry N)) (t x : ℕ) → is_timer_of x (timer_of past t) ≡ true → (event : Option Event)
+pub kept_timer : {N : Type 0} (past : List (Entry N)) (t x : ℕ) → is_timer_of x (timer_of past t) ≡ true → (event : Option Event)
     → list_any (λ (d : ℕ × ℕ). d.1 == t) (without_owner past event (armed past)) ≡ true → (is_armed past t ≡ true) × (belongs_to x event ≡ false)
 kept_timer past t x h None a = (a, refl)
 kept_timer past t x h (Some event) a = kept_of past t x event.handle h a
 
-may_run_alive : {N : Type 0} (past : List (Entry N)) (x : ℕ) (event : Option Event) → may_run past event ≡ true → belongs_to x event ≡ true → is_alive past x ≡ true
+pub may_run_alive : {N : Type 0} (past : List (Entry N)) (x : ℕ) (event : Option Event) → may_run past event ≡ true → belongs_to x event ≡ true → is_alive past x ≡ true
 may_run_alive past x None h b = absurd (false≢true b)
 may_run_alive past x (Some event) h b = subst (λ (k : ℕ). is_alive past k ≡ true) (eqb-true event.handle x b) (and_parts _ _ h).0
 
@@ -202,7 +202,7 @@ pub able_alive : {N : Type 0} (past : List (Entry N)) (i x : ℕ) → is_able pa
 unfolding is_able
 able_alive past i x h b = may_run_alive past x (event_at past i) (and_parts _ _ h).1 b
 
-rearmed_alive : {N : Type 0} (most : ℕ) (past : List (Entry N)) (event t x : ℕ) → is_legal most past ≡ true → is_able past event ≡ true → is_timer_of x (timer_of past t) ≡ true
+pub rearmed_alive : {N : Type 0} (most : ℕ) (past : List (Entry N)) (event t x : ℕ) → is_legal most past ≡ true → is_able past event ≡ true → is_timer_of x (timer_of past t) ≡ true
     → (is_armed past t ≡ true → is_alive past x ≡ true) → (again : Option ℕ) → rearms past (due_at past event) ≡ again
     → list_any (λ (d : ℕ × ℕ). d.1 == t) (with_rearmed past again (armed past)) ≡ true → is_alive past x ≡ true
 rearmed_alive most past event t x legal able h before None is a = before a

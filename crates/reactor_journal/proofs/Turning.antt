@@ -28,7 +28,7 @@ is_legal-front most (e ∷ later) past legal = is_legal-front most later past (a
 pub Legal-front : {N : Type 0} (journal more : List (Entry N)) (most : ℕ) → Legal (journal ++ more) most → Legal journal most
 Legal-front journal more most legal = is_legal-front most (past_of more) (past_of journal) (subst (λ p. is_legal most p ≡ true) (past_of-append journal more) legal)
 
-count-append : {A : Type 0} (p : A → Bool) (xs ys : List A) → count p (xs ++ ys) ≡ count p xs + count p ys
+pub count-append : {A : Type 0} (p : A → Bool) (xs ys : List A) → count p (xs ++ ys) ≡ count p xs + count p ys
 count-append p [] ys = omega arith
 count-append p (x ∷ xs) ys = cases (p x) (count-append p xs ys)
   where
