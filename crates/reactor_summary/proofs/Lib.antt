@@ -1,0 +1,12 @@
+pub mod Lists
+pub mod Opened
+pub mod Opens
+pub mod Handles
+pub mod Reading
+pub mod Waiting
+pub mod Found
+pub mod OpenSteps
+pub mod ArmedSteps
+pub mod Told
+pub mod Picks
+pub mod Follows

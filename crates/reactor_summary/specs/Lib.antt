@@ -1,0 +1,4 @@
+pub mod Summary
+pub mod Tells
+pub mod Rules
+pub mod Laws
