@@ -1,0 +1,128 @@
+-- Steps of the check.
+use Rattle.std.proofs.Common.{ℕ, zero, suc, ◌≡◌, ◌≢◌, ◌+◌, ◌^◌, ◌<◌, ◌≤◌, Bool, true, false, List, [], ◌∷◌, ◌++◌, length, take, drop, take-append-drop, get_or, refl, sym, ap, ◌∙◌, subst, arith, cond, ⊎_elim, inl, inr, ◌⊎◌}
+use Rattle.std.proofs.lemmas.Bool.{and_parts, and_from, both_ways, cases_Bool, cases_order, cond-true, cond-false}
+use Rattle.std.proofs.lemmas.List.{take-take, length-reverse, length-take-le}
+use Rattle.std.specs.Prelude.{Ok, Err, OnOk}
+use Rattle.std.specs.declared.result.Result.{Result}
+use Rattle.reactor_journal.specs.declared.entry.Entry.{Entry}
+use Rattle.reactor_journal.specs.declared.entry.Entry.TheVariants.{Due}
+use Rattle.reactor_journal.specs.Past as P
+use Rattle.reactor_journal.specs.Past.{past_of, count}
+use Rattle.reactor_journal.specs.Follow as F
+use Rattle.reactor_journal.specs.Follow.{is_legal, Legal}
+use Rattle.reactor_journal.proofs.Basics.{may_fits}
+use Rattle.reactor_journal.proofs.Turning.{past_more, Legal-front}
+use Rattle.reactor_summary.specs.Summary as S
+use Rattle.reactor_summary.specs.Summary.{Summary, summary}
+use Rattle.reactor_summary.specs.Tells as T
+use Rattle.reactor_summary.specs.Tells.{Tells}
+use Rattle.reactor_summary.specs.Rules as R
+use Rattle.reactor_summary.proofs.Told.{told}
+use Rattle.reactor_summary.proofs.Reading.{first_due_is}
+use Rattle.reactor_summary.proofs.Follows.{may_follow_is}
+use Rattle.journal_check.specs.declared.reading.CheckRefused.{CheckRefused}
+use Rattle.journal_check.specs.declared.reading.CheckRefused.TheVariants.{Illegal, NoMemory}
+use Rattle.journal_check.specs.Small.{IsSmall}
+use Rattle.journal_check.specs.Refusal.{RefusesAt, IsUnlessNoMemory}
+
+-- ---- the numbers of a summary are small
+
+count_le : {A : Type 0} (p : A → Bool) (xs : List A) → count p xs ≤ length xs
+count_le p [] = omega arith
+count_le p (x ∷ xs) =
+    let rest : count p xs ≤ length xs = count_le p xs in
+    ⊎_elim
+    (λ (t : p x ≡ true). let is : cond (p x) (suc (count p xs)) (count p xs) ≡ suc (count p xs) = cond-true (p x) (suc (count p xs)) (count p xs) t in omega arith)
+    (λ (f : p x ≡ false). let is : cond (p x) (suc (count p xs)) (count p xs) ≡ count p xs = cond-false (p x) (suc (count p xs)) (count p xs) f in omega arith)
+    (cases_Bool (p x))
+
+pub small : {N : Type 0} (most : ℕ) (past : List (Entry N)) → is_legal most past ≡ true → length past + 1 < 2 ^ 64 → IsSmall (summary past)
+small most past legal h =
+    let t : Tells past (summary past) = told most past legal in
+    let opened : P.count P.is_opened past ≤ length past = count_le P.is_opened past in
+    let closed : P.count P.is_closed past ≤ length past = count_le P.is_closed past in
+    let scheduled : P.count P.is_scheduled past ≤ length past = count_le P.is_scheduled past in
+    let refused : P.count T.is_refused past ≤ length past = count_le T.is_refused past in
+    record {
+      entries = subst (λ (n : ℕ). n + 1 < 2 ^ 64) (sym t.entries) h;
+      opened = subst (λ (n : ℕ). n ≤ (summary past).entries) (sym t.opened) (subst (λ (n : ℕ). P.count P.is_opened past ≤ n) (sym t.entries) opened);
+      closed = subst (λ (n : ℕ). n ≤ (summary past).entries) (sym t.closed) (subst (λ (n : ℕ). P.count P.is_closed past ≤ n) (sym t.entries) closed);
+      scheduled = subst (λ (n : ℕ). n ≤ (summary past).entries) (sym t.scheduled) (subst (λ (n : ℕ). P.count P.is_scheduled past ≤ n) (sym t.entries) scheduled);
+      refused = subst (λ (n : ℕ). n ≤ (summary past).entries) (sym t.refused) (subst (λ (n : ℕ). P.count T.is_refused past ≤ n) (sym t.entries) refused);
+    }
+
+pub length-past : {N : Type 0} (journal : List (Entry N)) (k : ℕ) → k ≤ length journal → length (past_of (take k journal)) ≡ k
+length-past journal k h = length-reverse (take k journal) ∙ length-take-le k journal h
+
+-- ---- what the check knows of the first entries
+
+pub record Read {N : Type 0} (most : ℕ) (past : List (Entry N)) (machine : Summary) (due ready : Bool) : Type 0 where
+  pub legal : is_legal most past ≡ true
+  pub same : machine ≡ summary past
+  pub follows_due : due ≡ F.follows_due past
+  pub follows_ready : ready ≡ F.follows_ready past
+
+pub says_follow : {N : Type 0} (most : ℕ) (past : List (Entry N)) (machine : Summary) (due ready : Bool) (e : Entry N) → Read most past machine due ready → R.may_follow most due ready machine e ≡ F.may_follow most past e
+says_follow most past machine due ready e r =
+    ap (λ (s : Summary). R.may_follow most due ready s e) r.same
+    ∙ (ap (λ b. R.may_follow most b ready (summary past) e) r.follows_due
+    ∙ (ap (λ b. R.may_follow most (F.follows_due past) b (summary past) e) r.follows_ready
+    ∙ may_follow_is most past (summary past) e r.legal (told most past r.legal)))
+
+pub says_first : {N : Type 0} (most : ℕ) (past : List (Entry N)) (machine : Summary) (due ready : Bool) (e : Entry N) (timer : ℕ) → Read most past machine due ready → F.may_follow most past e ≡ true → e ≡ Due timer → S.is_first_due machine timer ≡ true
+says_first {N} most past machine due ready e timer r may is =
+    let now_due : F.may_follow most past (Due timer) ≡ true = subst (λ (d : Entry N). F.may_follow most past d ≡ true) is may in
+    ap (λ (s : Summary). S.is_first_due s timer) r.same
+    ∙ (first_due_is past (summary past) timer (told most past r.legal) ∙ (and_parts (F.follows_due past) _ (may_fits most past (Due timer) now_due)).1)
+
+-- one more entry
+pub read_more : {N : Type 0} (most : ℕ) (journal : List (Entry N)) (k : ℕ) (d : Entry N) (machine later : Summary) (due ready : Bool) → k < length journal → Read most (past_of (take k journal)) machine due ready
+    → F.may_follow most (past_of (take k journal)) (get_or journal k d) ≡ true → later ≡ S.step machine (get_or journal k d)
+    → (now_due now_ready : Bool) → ((past : List (Entry N)) → now_due ≡ F.follows_due (get_or journal k d ∷ past)) → ((past : List (Entry N)) → now_ready ≡ F.follows_ready (get_or journal k d ∷ past))
+    → Read most (past_of (take (k + 1) journal)) later now_due now_ready
+read_more {N} most journal k d machine later due ready lt r may step now_due now_ready hd hr =
+    let past : List (Entry N) = past_of (take k journal) in
+    let e : Entry N = get_or journal k d in
+    subst (λ (p : List (Entry N)). Read most p later now_due now_ready) (sym (past_more journal k d lt))
+    (record {
+      legal = and_from (F.may_follow most (past_of (take k journal)) (get_or journal k d)) (is_legal most (past_of (take k journal))) may r.legal;
+      same = step ∙ ap (λ (s : Summary). S.step s (get_or journal k d)) r.same;
+      follows_due = hd (past_of (take k journal));
+      follows_ready = hr (past_of (take k journal));
+    })
+
+pub refused_at : {N : Type 0} (journal : List (Entry N)) (most k : ℕ) (d : Entry N) → k < length journal → is_legal most (past_of (take k journal)) ≡ true → F.may_follow most (past_of (take k journal)) (get_or journal k d) ≡ false → RefusesAt journal most k
+refused_at journal most k d lt legal may =
+    (lt, legal, λ all. both_ways _ may (and_parts _ _ (subst (λ p. is_legal most p ≡ true) (past_more journal k d lt) all)).0)
+
+-- ---- where a journal is refused
+
+pub legal_shorter : {N : Type 0} (journal : List (Entry N)) (most n m : ℕ) → n ≤ m → Legal (take m journal) most → Legal (take n journal) most
+legal_shorter journal most n m le legal =
+    let cut : take n (take m journal) ≡ take n journal = take-take n m journal le in
+    let split : take n (take m journal) ++ drop n (take m journal) ≡ take m journal = take-append-drop n (take m journal) in
+    subst (λ j. Legal j most) cut (Legal-front (take n (take m journal)) (drop n (take m journal)) most (subst (λ j. Legal j most) (sym split) legal))
+
+pub legal_front_of_whole : {N : Type 0} (journal : List (Entry N)) (most n : ℕ) → Legal journal most → Legal (take n journal) most
+legal_front_of_whole journal most n legal = Legal-front (take n journal) (drop n journal) most (subst (λ j. Legal j most) (sym (take-append-drop n journal)) legal)
+
+pub refuses_once : {N : Type 0} (journal : List (Entry N)) (most a b : ℕ) → RefusesAt journal most a → RefusesAt journal most b → a ≡ b
+refuses_once journal most a b h k =
+    ⊎_elim
+    (λ (q : a ≡ b). q)
+    (⊎_elim
+    (λ (lt : a < b). absurd (h.2 (legal_shorter journal most (a + 1) b (omega arith) k.1)))
+    (λ (lt : b < a). absurd (k.2 (legal_shorter journal most (b + 1) a (omega arith) h.1))))
+    (cases_order a b)
+
+-- ---- the answer
+
+pub ok_where_legal : {N : Type 0} (journal : List (Entry N)) (most : ℕ) (result : Result (Unit {0}) CheckRefused) → ((at : ℕ) → result ≡ Err (Illegal at) → RefusesAt journal most at) → Legal journal most → IsUnlessNoMemory result (Ok tt)
+ok_where_legal journal most (Ok tt) h legal = inl refl
+ok_where_legal journal most (Err (Illegal at)) h legal = absurd ((h at refl).2 (legal_front_of_whole journal most (at + 1) legal))
+ok_where_legal journal most (Err NoMemory) h legal = inr refl
+
+pub illegal_where_refused : {N : Type 0} (journal : List (Entry N)) (most : ℕ) (result : Result (Unit {0}) CheckRefused) → OnOk result (Legal journal most) → ((at : ℕ) → result ≡ Err (Illegal at) → RefusesAt journal most at) → (at : ℕ) → RefusesAt journal most at → IsUnlessNoMemory result (Err (Illegal at))
+illegal_where_refused journal most (Ok tt) ok h at r = absurd (r.2 (legal_front_of_whole journal most (at + 1) ok))
+illegal_where_refused journal most (Err (Illegal place)) ok h at r = inl (ap (λ (k : ℕ). Err (Illegal k)) (refuses_once journal most place at (h place refl) r))
+illegal_where_refused journal most (Err NoMemory) ok h at r = inr refl

@@ -1,0 +1,30 @@
+-- Steps of the armed timers.
+use Rattle.std.proofs.Common.{ℕ, zero, suc, ◌≡◌, ◌+◌, ◌*◌, ◌/◌, ◌<◌, ◌≤◌, Bool, false, List, [], ◌∷◌, length, drop, get_or, refl, ap, ◌∙◌, drop-cons, add-one, cond, Option, Some, None, arith}
+use Rattle.std.specs.List.{find}
+use Rattle.std.proofs.lemmas.Bool.{cond-false}
+use Rattle.std.proofs.Math.Nat.{div-mul-le_self}
+use Rattle.reactor_summary.specs.declared.parts.ArmedTimer.{ArmedTimer}
+use Rattle.reactor_summary.specs.Summary as S
+
+-- the steps to the moment are no longer than the way
+pub steps_below : (n every : ℕ) → n / every * every ≤ n
+steps_below n every = div-mul-le_self n every
+
+pub with_timer_more : (a : ArmedTimer) (xs : List ArmedTimer) (i : ℕ) (d : ArmedTimer) → i < length xs → S.comes_before a (get_or xs i d) ≡ false → S.with_timer a (drop i xs) ≡ get_or xs i d ∷ S.with_timer a (drop (i + 1) xs)
+with_timer_more a xs i d lt h =
+    let cut : drop i xs ≡ get_or xs i d ∷ drop (i + 1) xs = rw add-one (drop-cons xs i d lt) in
+    ap (S.with_timer a) cut ∙ cond-false _ _ _ h
+
+-- a search goes on behind what does not pass, and ends at what passes
+pub find_step : {A : Type 0} (p : A → Bool) (xs : List A) (i : ℕ) (d : A) → i < length xs → find p (drop i xs) ≡ cond (p (get_or xs i d)) (Some (get_or xs i d)) (find p (drop (i + 1) xs))
+find_step p xs i d lt =
+    let cut : drop i xs ≡ get_or xs i d ∷ drop (i + 1) xs = rw add-one (drop-cons xs i d lt) in
+    ap (find p) cut
+
+pub find_none : {A : Type 0} (p : A → Bool) (xs : List A) (i : ℕ) → length xs ≤ i → find p (drop i xs) ≡ None
+find_none p [] zero h = refl
+find_none p [] (suc i) h = refl
+find_none p (x ∷ xs) zero h = absurd (omega arith)
+find_none p (x ∷ xs) (suc i) h = find_none p xs i (omega arith)
+
+pub ruleset find_more = (find_step, find_none)

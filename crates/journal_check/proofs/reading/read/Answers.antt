@@ -1,0 +1,43 @@
+use Rattle.std.proofs.Common.{◌≡◌, ◌+◌, ◌^◌, ◌<◌, ℕ, true, false, List, ◌∷◌, take, length, get_or, Err, sym, ap, ◌∙◌, subst, arith}
+use Rattle.std.specs.declared.result.Result.{Result}
+use Rattle.reactor_journal.specs.Past.{past_of}
+use Rattle.reactor_journal.specs.Follow as F
+use Rattle.reactor_summary.specs.Summary as S
+use Rattle.reactor_summary.specs.Summary.{Summary}
+use Rattle.journal_check.specs.declared.reading.CheckRefused.{CheckRefused}
+use Rattle.journal_check.specs.declared.reading.CheckRefused.TheVariants.{Illegal}
+use Rattle.journal_check.specs.Small.{IsSmall}
+use Rattle.journal_check.specs.Refusal.{RefusesAt}
+use Rattle.journal_check.proofs.Checking.{small, length-past, says_follow, read_more, refused_at}
+use Rattle.journal_check.proofs.reading.read.Goals as goal
+
+same_place : (k at : ℕ) → ◌≡◌ {A = Result (Unit {0}) CheckRefused} (Err (Illegal k)) (Err (Illegal at)) → k ≡ at
+same_place k at q = cc
+
+pub returns-then-not-may_follow-clause-illegal : goal.returns-then-not-may_follow-clause-illegal
+returns-then-not-may_follow-clause-illegal g c at q =
+    let may : F.may_follow c.args.most (past_of (take c.loop-k.k c.args.journal.now)) c.index-journal-k.result ≡ false =
+    sym (says_follow c.args.most (past_of (take c.loop-k.k c.args.journal.now)) c.loop-k.machine c.loop-k.due c.loop-k.ready c.index-journal-k.result c.loop-k.invariant) ∙ sym c.if-not-may_follow.ensures
+    in
+    subst (RefusesAt c.args.journal.now c.args.most) (same_place c.loop-k.k at q)
+    (refused_at c.args.journal.now c.args.most c.loop-k.k c.index-journal-k.result c.loop-k-test.true c.loop-k.invariant.legal
+    (ap (F.may_follow c.args.most (past_of (take c.loop-k.k c.args.journal.now))) (sym c.index-journal-k.is) ∙ may))
+
+pub step-requires-clause-small : goal.step-requires-clause-small
+step-requires-clause-small g c =
+    let len : length (past_of (take c.loop-k.k c.args.journal.now)) ≡ c.loop-k.k = length-past c.args.journal.now c.loop-k.k (omega arith) in
+    let room : length (past_of (take c.loop-k.k c.args.journal.now)) + 1 < 2 ^ 64 = omega arith in
+    subst IsSmall (sym c.loop-k.invariant.same) (small c.args.most (past_of (take c.loop-k.k c.args.journal.now)) c.loop-k.invariant.legal room)
+
+pub loop-k-preserved : goal.loop-k-preserved
+loop-k-preserved g c =
+    let may : F.may_follow c.args.most (past_of (take c.loop-k.k c.args.journal.now)) c.index-journal-k.result ≡ true =
+    sym (says_follow c.args.most (past_of (take c.loop-k.k c.args.journal.now)) c.loop-k.machine c.loop-k.due c.loop-k.ready c.index-journal-k.result c.loop-k.invariant) ∙ sym c.if-not-may_follow.ensures
+    in
+    let stepped : c.step.new.self ≡ S.step c.loop-k.machine c.index-journal-k.result = c.in_ok-step.ensures in
+    read_more c.args.most c.args.journal.now c.loop-k.k c.index-journal-k.result c.loop-k.machine c.step.new.self c.loop-k.due c.loop-k.ready c.loop-k-test.true c.loop-k.invariant
+    (ap (F.may_follow c.args.most (past_of (take c.loop-k.k c.args.journal.now))) (sym c.index-journal-k.is) ∙ may)
+    (stepped ∙ ap (S.step c.loop-k.machine) c.index-journal-k.is)
+    c.admits_due-due.result c.admits_ready-ready.result
+    (λ past. c.admits_due-due.ensures past ∙ ap (λ e. F.follows_due (e ∷ past)) c.index-journal-k.is)
+    (λ past. c.admits_ready-ready.ensures past ∙ ap (λ e. F.follows_ready (e ∷ past)) c.index-journal-k.is)

@@ -1,0 +1,78 @@
+//! Tests of single words, as the definitions have them.
+
+ghost use Rattle.std.specs.Prelude.{◌≡◌};
+ghost use Rattle.reactor_journal.specs.Past as P;
+ghost use Rattle.reactor_journal.specs.Follow as F;
+
+use ev_types::{Kind, Mask, Upcall};
+use reactor_journal::Entry;
+
+/// Whether the mask has the kind.
+pub fn has_kind(mask: Mask, kind: Kind) -> bool
+    ensures { result ≡ P.has_kind mask kind }
+{
+    match kind {
+        Kind::Read => mask.read,
+        Kind::Write => mask.write,
+        Kind::Except => mask.except,
+    }
+}
+
+/// The upcall that a report of the kind asks for.
+pub fn upcall_of(kind: Kind) -> Upcall
+    ensures { result ≡ P.upcall_of kind }
+{
+    match kind {
+        Kind::Read => Upcall::Input,
+        Kind::Write => Upcall::Output,
+        Kind::Except => Upcall::Except,
+    }
+}
+
+/// The class of an upcall: the smaller goes first.
+pub fn class_of(upcall: Upcall) -> usize
+    ensures { result ≡ P.class_of upcall }
+{
+    match upcall {
+        Upcall::Timeout { .. } => 0,
+        Upcall::Notice { .. } => 1,
+        Upcall::Output => 2,
+        Upcall::Except => 3,
+        Upcall::Input => 4,
+    }
+}
+
+/// Whether the upcall asks for a kind of report that the mask lacks.
+pub fn is_without(mask: Mask, upcall: Upcall) -> bool
+    ensures { result ≡ P.is_without mask upcall }
+{
+    match upcall {
+        Upcall::Input => !mask.read,
+        Upcall::Output => !mask.write,
+        Upcall::Except => !mask.except,
+        _ => false,
+    }
+}
+
+/// Whether the upcall is a timeout of the timer.
+pub fn is_timeout_of(timer: u64, upcall: Upcall) -> bool
+    ensures { result ≡ P.is_timeout_of timer upcall }
+{
+    match upcall {
+        Upcall::Timeout { timer: other } => other == timer,
+        _ => false,
+    }
+}
+
+/// Whether the entry may stand behind `Ended`.
+pub fn winds_up<N>(entry: &Entry<N>) -> bool
+    ensures { result ≡ F.winds_up entry.now }
+{
+    match entry {
+        Entry::Returned { .. } => true,
+        Entry::Removed { .. } => true,
+        Entry::Closed { .. } => true,
+        Entry::Refused { .. } => true,
+        _ => false,
+    }
+}
