@@ -84,4 +84,11 @@ impl<N> Journal<N> {
     {
         self.entries.as_slice()
     }
+
+    /// The entries in order, to keep. It takes no memory.
+    pub fn into_vec(self) -> Vec<Entry<N>>
+        ensures { result.items ≡ self.entries }
+    {
+        self.entries
+    }
 }

@@ -1,0 +1,5 @@
+pub mod Handling
+pub mod Turns
+pub mod Attaching
+pub mod Volumes
+pub mod MemVolumes

@@ -1,0 +1,108 @@
+//! Keepers of volumes: a long run cannot keep its whole journal, so full parts of it are handed over.
+ghost use Rattle.std.specs.Prelude.{◌≡◌, [], Some, None, ◌↔◌, ℕ, Contains};
+
+use reactor_journal::{Entry, Journal};
+use std::alloc::Global;
+
+/// Why a volume was not taken.
+#[derive(Clone, Copy, PartialEq, Eq, Debug)]
+pub enum TakeRefused {
+    /// The keeper failed, and its count of faults rose.
+    Failed,
+    /// There was no memory for the volume.
+    NoMemory,
+}
+
+/// Takes volumes of a journal in order. It has a count of faults that never falls, and where it tells them, a list of all
+/// entries that it took.
+pub trait Volumes<N> {
+    ghost use Rattle.reactor_model.specs.Volumes.{VolumesFacts, TakesVolume};
+
+    /// What contracts see of it.
+    ghost facts: { Self → VolumesFacts N };
+
+    /// Takes a volume whose first entry has the number `first` in the whole journal. After a refusal nothing was taken, and
+    /// the volume comes back; `Failed` comes only where the count of faults rose.
+    fn take(&mut self, first: u64, volume: Journal<N>) -> Result<(), (Journal<N>, TakeRefused)>
+        ensures { TakesVolume (facts self.old) volume result (facts self.new) };
+}
+
+/// A keeper in memory, which tells its entries. The takes that are named by their numbers, from 0, fail.
+#[derive(Drop)]
+pub struct MemVolumes<N> {
+    entries: Vec<Entry<N>>,
+    fails: Vec<u64>,
+    takes: u64,
+    faults: u64,
+}
+
+impl<N> MemVolumes<N> {
+    ghost use Rattle.reactor_model.specs.MemVolumes.{mem_volumes_facts, takes_of, fails_of};
+
+    /// A keeper that has taken nothing. The takes whose numbers stand in `fails` are to fail. It takes no memory.
+    pub fn new(alloc: Global, fails: Vec<u64>) -> MemVolumes<N>
+        ensures facts { mem_volumes_facts result ≡ record { faults = 0; taken = Some [] } }
+        ensures takes { takes_of result ≡ 0 }
+        ensures fails { fails_of result ≡ fails.items }
+    {
+        MemVolumes {
+            entries: Vec::new(alloc),
+            fails,
+            takes: 0,
+            faults: 0,
+        }
+    }
+
+    /// All entries that it took, in order.
+    pub fn entries(&self) -> &[Entry<N>]
+        ensures { (mem_volumes_facts self.now).taken ≡ Some result.now }
+    {
+        &self.entries
+    }
+}
+
+impl<N> Volumes<N> for MemVolumes<N> {
+    ghost use Rattle.reactor_model.specs.Volumes.{TakesVolume};
+    ghost use Rattle.reactor_model.specs.MemVolumes.{mem_volumes_facts, fails_of, FailsNow, IsFailure};
+
+    ghost facts = { mem_volumes_facts };
+
+    fn take(&mut self, _first: u64, volume: Journal<N>) -> Result<(), (Journal<N>, TakeRefused)>
+        ensures takes { TakesVolume (mem_volumes_facts self.old) volume result (mem_volumes_facts self.new) }
+        ensures failed { IsFailure result ↔ FailsNow self.old }
+        ensures fails { fails_of self.new ≡ fails_of self.old }
+    {
+        let number = self.takes;
+        self.takes = number.saturating_add(1);
+        if self.fails.contains(&number) {
+            self.faults = self.faults.saturating_add(1);
+            return Err((volume, TakeRefused::Failed));
+        }
+        if self.entries.reserve(volume.as_slice().len()).is_err() {
+            return Err((volume, TakeRefused::NoMemory));
+        }
+        let mut more = volume.into_vec();
+        match self.entries.append(&mut more) {
+            Ok(()) => more.destroy_empty(),
+            Err(_) => unreachable!("the room was reserved"),
+        }
+        Ok(())
+    }
+}
+
+/// A keeper that lets its volumes go. It tells nothing and never fails.
+#[derive(Clone, Copy, PartialEq, Eq, Debug)]
+pub struct DropVolumes;
+
+impl<N: Drop> Volumes<N> for DropVolumes {
+    ghost use Rattle.reactor_model.specs.Volumes.{TakesVolume, tells_nothing};
+
+    ghost facts = { λ _. tells_nothing };
+
+    fn take(&mut self, _first: u64, volume: Journal<N>) -> Result<(), (Journal<N>, TakeRefused)>
+        ensures { TakesVolume tells_nothing volume result tells_nothing }
+    {
+        drop(volume);
+        Ok(())
+    }
+}
