@@ -32,6 +32,7 @@ number Little size bytes = little_number size bytes
 abbrev pub octet : List ℕ → ℕ
 octet f = slice_index f 0
 
+-- the byte order that an order octet names
 unfoldable pub order_of : ℕ → Order
 order_of first = if first % 2 == 0 then Big else Little
 
@@ -47,6 +48,7 @@ seconds_size first = byte_len (seconds_width first)
 abbrev pub word_at : ℕ → List ℕ → ℕ
 word_at at f = number (order_of (octet f)) 4 (drop at f)
 
+-- how many bytes the payload has, as the header says
 abbrev pub payload_length : List ℕ → ℕ
 payload_length f = word_at 4 f
 
@@ -54,9 +56,11 @@ payload_length f = word_at 4 f
 abbrev pub fields_length : List ℕ → ℕ
 fields_length f = 16 + seconds_size (octet f)
 
+-- how many bytes the message has, as the field before it says
 abbrev pub message_length : List ℕ → ℕ
 message_length f = word_at (20 + seconds_size (octet f)) f
 
+-- the seconds of the record at the front of a list
 abbrev pub seconds_in : List ℕ → ℤ
 seconds_in f = cast_signed (seconds_width (octet f)) (number (order_of (octet f)) (seconds_size (octet f)) (drop 16 f))
 
