@@ -1,6 +1,6 @@
 //! The decoder of a stream of records that comes in any pieces.
 
-ghost use Rattle.std.specs.Prelude.{◌≡◌, ◌≤◌, ◌-◌, ◌++◌, [], None, IsSome, IfOk, OnOk, OnErr, ℕ, List, length, take, drop, min};
+ghost use Rattle.std.specs.Prelude.{◌≡◌, ◌≤◌, ◌-◌, ◌++◌, [], None, IsSome, IfOk, IsOkAnd, OnOk, OnErr, ℕ, List, length, take, drop, min};
 ghost use Rattle.cdr_record.specs.Grammar as G;
 ghost use Rattle.cdr_record.specs.Decoding as D;
 ghost use Rattle.cdr_record.specs.Feeding.{Feeds, fresh};
@@ -63,7 +63,7 @@ impl Decoder {
         ensures ok { IfOk result (λ fed. Feeds self.old piece.now fed self.new) }
 
         // After a bad record there are no records and the same bad record again.
-        ensures stays_bad { IsSome self.old.bad → IfOk result (λ fed. (fed.records ≡ []) × (fed.bad ≡ self.old.bad)) }
+        ensures stays_bad { IsSome self.old.bad → IsOkAnd result (λ fed. (fed.records ≡ []) × (fed.bad ≡ self.old.bad)) }
         ensures err { OnErr result (self.new ≡ self.old) }
     {
         let mut records = Vec::new(*self.rest.allocator());
