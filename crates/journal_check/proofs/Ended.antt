@@ -1,7 +1,5 @@
 -- Where an event is not open, its close ends no life.
-use Rattle.std.proofs.Common.{◌≡◌, true, false, not, List, [], ◌∷◌, map, refl, ap, Option, None}
-use Rattle.std.specs.List.{filter}
-use Rattle.reactor_journal.specs.Event.{Event}
+use Rattle.std.proofs.Common.{◌≡◌, List, [], ◌∷◌, map, refl, ap, None}
 use Rattle.reactor_summary.specs.declared.parts.LiveHandle.{LiveHandle}
 use Rattle.reactor_summary.specs.declared.parts.WaitingEvent.{WaitingEvent}
 use Rattle.reactor_summary.specs.Summary as S

@@ -1,5 +1,5 @@
 -- The numbers of a summary fit a machine word.
-use Rattle.std.specs.Prelude.{ℕ, ◌≤◌, ◌<◌, ◌+◌, ◌^◌}
+use Rattle.std.specs.Prelude.{◌≤◌, ◌<◌, ◌+◌, ◌^◌}
 use Rattle.reactor_summary.specs.Summary.{Summary}
 
 -- its numbers are at most that of its entries, which is below the greatest word

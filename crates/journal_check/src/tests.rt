@@ -239,7 +239,9 @@ fn one_changed_entry_is_found(rt: HostRuntime) -> Result<(), Fail> {
     ];
     for (place, entry, at) in changes {
         let mut journal = one_connection();
-        journal[place] = entry;
+        if place < journal.len() {
+            journal[place] = entry;
+        }
         assert_eq!(rt; check(rt.alloc(), &journal, 1), illegal(at));
     }
     let mut behind_the_end = one_accepted();

@@ -1,5 +1,5 @@
 use Rattle.std.proofs.Common.{◌≡◌, ◌++◌, map, take, drop}
-use Rattle.reactor_summary.specs.Summary.{with_mask, with_suspended, with_end, of_handle}
+use Rattle.reactor_summary.specs.Summary.{with_mask}
 use Rattle.journal_check.proofs.handles.set_mask.Given as goal
 
 abbrev pub invariant-loop-h : goal.invariant-loop-h

@@ -1,6 +1,6 @@
 use Rattle.std.proofs.Common.{rules}
 use Rattle.std.proofs.lemmas.List.Edits.{map_over_more}
-use Rattle.reactor_summary.specs.Summary.{with_mask, with_suspended, with_end, of_handle}
+use Rattle.reactor_summary.specs.Summary.{with_suspended}
 use Rattle.journal_check.proofs.handles.set_suspended.Goals as goal
 
 pub loop-h-preserved : goal.loop-h-preserved
