@@ -1,0 +1,19 @@
+-- What contracts name of a token and of a pass.
+use Rattle.atomic_table.specs.Seated.{TableId}
+use Rattle.leader_token.specs.declared.kept.Kept.{Ghosts as Keeping}
+use Rattle.leader_token.specs.declared.kept.View.{View}
+use Rattle.leader_token.specs.declared.pass.Pass.{Pass}
+use Rattle.leader_token.specs.declared.pass.Token.{Token}
+
+module _ {T E Q : Type 0} where
+  -- The token's name, which no other token has.
+  abbrev pub id_of : Token T E Q → TableId
+  id_of token = token.table.shared.table_id
+
+  -- The name of the token that a pass belongs to.
+  abbrev pub token_of : {kept : Keeping T E Q} → Pass T E Q kept → TableId
+  token_of pass = pass.seat.table_id
+
+  -- What a pass knows.
+  abbrev pub view_of : {kept : Keeping T E Q} → Pass T E Q kept → View E Q
+  view_of pass = pass.seat.me.0

@@ -1,0 +1,38 @@
+// A token, and what each of its holders knows of it.
+ghost use Rattle.std.specs.Prelude.{◌≡◌, false};
+ghost use Rattle.leader_token.specs.Rule.{out_for};
+
+use crate::kept::{Kept, View};
+use crate::plays::TokenRule;
+use crate::start::Key;
+use atomic_table::{Seat, Table};
+use std::alloc::Global;
+
+/// A token for one value: whoever got the value has it alone until it is put back.
+pub struct Token<T: Kept> {
+    pub(crate) table: Table<Option<T>, View<T::Entry, T::Terms>, Key<T>, TokenRule<T>, Global>,
+    ghost sized: { (table.shared.table_id.words ≡ 1) × (table.shared.table_id.slots ≡ 1) },
+}
+
+/// What one holder knows of a token. It has no bytes. A pass that is dropped still counts among the
+/// children of its root, so the token can't be closed any more.
+pub struct Pass<T: Kept> {
+    pub(crate) seat: Seat<Option<T>, View<T::Entry, T::Terms>>,
+    ghost live: { seat.me.0.spent ≡ false },
+    ghost out: { seat.me.1 ≡ out_for seat.me.0.base },
+}
+
+impl<T: Kept> Pass<T> {
+    pub(crate) fn into_seat(self) -> Seat<Option<T>, View<T::Entry, T::Terms>>
+        ensures { (result.table_id ≡ self.seat.table_id) × (result.id ≡ self.seat.id) × (result.me ≡ self.seat.me) }
+    {
+        let Self { seat } = self;
+        seat
+    }
+}
+
+impl<T: Kept> Drop for Pass<T> {
+    fn drop(self) {
+        let Self { seat: _ } = self;
+    }
+}
