@@ -469,6 +469,9 @@ module _ {E Q T : Type 0} (stands : Q → ℕ → T → List E → Type 0) (open
 
   -- The open events are the passes' own, and two passes never have the same one
   pub own_events : OwnEventsDiffer stands opens marks
-  own_events q s rule = (rule.events, λ j k e v w at-v at-w is-v is-w. dite (ℕ_discrete j k)
-      (λ same. same)
-      (λ apart. absurd (omega (arith, terms_le (event e) s.views j k v w (λ x. apart (sym x)) at-v at-w, ap (is_event e) is-v, ap (is_event e) is-w, ap flag (eq-eqb e e refl), rule.events e, rule.once e))))
+  own_events q s rule = (
+    rule.events,
+    λ j k e v w at-v at-w is-v is-w. dite (ℕ_discrete j k)
+        (λ same. same)
+        (λ apart. absurd (omega (arith, terms_le (event e) s.views j k v w (λ x. apart (sym x)) at-v at-w, ap (is_event e) is-v, ap (is_event e) is-w, ap flag (eq-eqb e e refl), rule.events e, rule.once e))),
+  )

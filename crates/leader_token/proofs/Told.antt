@@ -1,5 +1,5 @@
 -- For a caller of `put`: what was put back is what the caller had in mind.
-use Rattle.std.proofs.Common.{◌≡◌, ℕ, ◌≤◌, append-nil, List, [], sym, refl, ap, ◌∙◌, subst, arith, cond, eq-eqb, ne_eqb, Option, Some, None}
+use Rattle.std.proofs.Common.{◌≡◌, ℕ, append-nil, List, [], sym, refl, ap, ◌∙◌, subst, arith, cond, eq-eqb, ne_eqb, Option, Some, None}
 use mathlib.Core.Logic.{dite}
 use native.Mathlib.Decide.{ℕ_discrete}
 use Rattle.leader_token.specs.declared.kept.Found.{Found}

@@ -1,5 +1,5 @@
 -- Lists of entries, of events and of marks, and sums over lists.
-use Rattle.std.specs.Prelude.{◌≡◌, ℕ, ◌+◌, ◌≤◌, ◌<◌, List, [], ◌∷◌, ◌++◌, length, max, slice_index, cond, ◌==◌, nat_lt, Option, Some, None}
+use Rattle.std.specs.Prelude.{◌≡◌, ℕ, ◌+◌, ◌≤◌, List, [], ◌∷◌, ◌++◌, length, max, slice_index, cond, ◌==◌, nat_lt, Option, Some, None}
 
 -- The sum of f over a list.
 abbrev pub total : {A : Type 0} → (A → ℕ) → List A → ℕ

@@ -1,6 +1,6 @@
 -- What a pass knows of a token's value before and after each call. The value stands for a list of entries under fixed terms, leaves events open, and has marks that never fall. Of `stands`, `opens` and `marks` these definitions take what the value's type says.
 -- The discipline is that of the Leader/Followers pattern: POSA2, chapter 5, where only the thread that holds the token works on the shared set of handles.
-use Rattle.std.specs.Prelude.{◌≡◌, ℕ, ◌+◌, ◌-◌, ◌≤◌, ◌<◌, List, [], ◌∷◌, length, true, false, Option, Some, None}
+use Rattle.std.specs.Prelude.{◌≡◌, ℕ, ◌+◌, ◌-◌, ◌≤◌, List, [], length, true, false, Option, Some, None}
 use Rattle.leader_token.specs.Lists.{times, Begins, NoneAbove, greater, longer, is_event}
 use Rattle.leader_token.specs.declared.kept.Found.{Found}
 use Rattle.leader_token.specs.declared.kept.View.{View}

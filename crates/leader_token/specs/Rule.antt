@@ -4,7 +4,7 @@ use mathlib.Core.Option.{none, some}
 use lib.ListN.{get_elem?}
 use Rattle.atomic_table.specs.Table.{State, Me}
 use Rattle.leader_token.specs.Lists.{total, times, Begins, NoneAbove, greater, longer, shorter, is_event}
-use Rattle.leader_token.specs.Passes.{first_view, joined, IsGot, MayPut, IsPut}
+use Rattle.leader_token.specs.Passes.{first_view, IsGot, IsPut}
 use Rattle.leader_token.specs.declared.kept.Found.{Found}
 use Rattle.leader_token.specs.declared.kept.View.{View}
 

@@ -14,6 +14,24 @@ pub struct Token<T: Kept> {
     ghost sized: { (table.shared.table_id.words ≡ 1) × (table.shared.table_id.slots ≡ 1) },
 }
 
+impl<T: Kept> Token<T> {
+    pub(crate) fn into_table(
+        self,
+    ) -> Table<Option<T>, View<T::Entry, T::Terms>, Key<T>, TokenRule<T>, Global>
+        ensures { result ≡ self.table }
+    {
+        let Self { table } = self;
+        table
+    }
+}
+
+/// The value is dropped with its token, unless a pass still has it.
+impl<T: Kept + Drop> Drop for Token<T> {
+    fn drop(self) {
+        let Self { table: _ } = self;
+    }
+}
+
 /// What one holder knows of a token. It has no bytes. A pass that is dropped still counts among the
 /// children of its root, so the token can't be closed any more.
 pub struct Pass<T: Kept> {

@@ -131,8 +131,7 @@ impl<T: Kept> Token<T> {
         requires root { ((view_of root).root ≡ true) × ((view_of root).base ≡ None) × ((view_of root).children ≡ 0) }
         ensures last { IsLast T.stands T.opens T.marks (view_of root) result }
     {
-        let Token { table } = self;
-        let mut closed = table.close_with(root.into_seat());
+        let mut closed = self.into_table().close_with(root.into_seat());
         let last = closed.take(0);
         closed.free();
         let Some(value) = last else { unreachable!() };
@@ -170,5 +169,4 @@ fn started<T: Kept, B: FirstView<T::Entry, T::Terms>>(
 /// list that its value stands for, and no two passes have the same one.
 pub fn own_events_differ<T: Kept>()
     ensures { OwnEventsDiffer T.stands T.opens T.marks }
-{
-}
+{}
