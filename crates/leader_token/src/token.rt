@@ -13,8 +13,12 @@ use crate::start::{FirstView, key};
 use atomic_table::{Refused, Seat, Table};
 use ev_types::NoMemory;
 use std::alloc::Global;
+use std::hint::spin_loop;
 use std::marker::Brand;
 use std::sync::Wait;
+
+// How often a thread looks at a token that is held before it sleeps.
+const LOOKS: u32 = 40;
 
 impl<T: Kept> Token<T> {
     /// Makes a token for a value that stands for a list without open events. Its root pass has seen that
@@ -59,11 +63,21 @@ impl<T: Kept> Token<T> {
             if let Some(value) = self.claim(&mut pass.seat) {
                 return Held { value };
             }
-            if self.table.shared.peek(0) == 1 {
-                self.table.shared.park(rt, 0, 1);
-            }
+            self.wait(rt);
         }
         unreachable!()
+    }
+
+    // A few looks at the word, and then a sleep while it is 1: a hold takes microseconds, and a sleep with
+    // its wake takes longer.
+    fn wait<R: Wait>(&self, rt: &R) {
+        for _ in 0..LOOKS {
+            if self.table.shared.peek(0) == 0 {
+                return;
+            }
+            spin_loop();
+        }
+        self.table.shared.park(rt, 0, 1);
     }
 
     // Gives the value and the token back, and wakes one that waits.
