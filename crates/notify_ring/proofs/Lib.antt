@@ -1,0 +1,8 @@
+pub mod Codes
+pub mod Sums
+pub mod Keeps
+pub mod Lists
+pub mod Draws
+pub mod Kin
+pub mod Drains
+pub mod Closing

@@ -1,0 +1,5 @@
+pub mod Kinds
+pub mod Postings
+pub mod Passes
+pub mod Rule
+pub mod Words

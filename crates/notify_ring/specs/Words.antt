@@ -1,0 +1,24 @@
+-- What contracts name of a ring, a poster and a drainer.
+use Rattle.atomic_table.specs.Seated.{TableId}
+use Rattle.notify_ring.specs.declared.view.View.{View}
+use Rattle.notify_ring.specs.declared.parts.Ring.{Ring}
+use Rattle.notify_ring.specs.declared.parts.Poster.{Poster}
+use Rattle.notify_ring.specs.declared.parts.Drainer.{Drainer}
+
+-- The ring's name, which no other ring has.
+abbrev pub id_of : Ring → TableId
+id_of ring = ring.table.shared.table_id
+
+-- The name of the ring that a poster belongs to, and what the poster knows.
+abbrev pub poster_ring : Poster → TableId
+poster_ring poster = poster.seat.table_id
+
+abbrev pub poster_view : Poster → View
+poster_view poster = poster.seat.me.0
+
+-- The name of the ring that a drainer belongs to, and what the drainer knows.
+abbrev pub drainer_ring : Drainer → TableId
+drainer_ring drainer = drainer.seat.table_id
+
+abbrev pub drainer_view : Drainer → View
+drainer_view drainer = drainer.seat.me.0

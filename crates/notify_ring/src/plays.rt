@@ -1,0 +1,143 @@
+// The rule of the ring's table, and what each of its steps tells.
+use crate::view::View;
+use atomic_table::{Join, Play, Split, TableRule};
+use std::marker::{Brand, PhantomData};
+
+/// Between any two steps: where each posting is, who drew it, and what each place holds.
+pub struct RingRule;
+
+impl TableRule<(), View, ()> for RingRule {
+    ghost use Rattle.notify_ring.specs.Rule.{RingHolds, first_view};
+
+    ghost holds = { λ _ s. RingHolds s.words s.views };
+
+    ghost first = { λ _. first_view };
+}
+
+/// A poster claims a place.
+pub struct Claim;
+
+impl Play<(), View> for Claim {
+    ghost use Rattle.notify_ring.specs.Rule.{claimed_view};
+    ghost use Rattle.std.specs.Prelude.{◌≡◌, []};
+
+    ghost then = { λ st m r n. n ≡ (claimed_view m.0 r, []) };
+}
+
+/// A claim is given back, or a handle or a gate is stored.
+pub struct NextFlight;
+
+impl Play<(), View> for NextFlight {
+    ghost use Rattle.notify_ring.specs.Rule.{next_view};
+    ghost use Rattle.std.specs.Prelude.{◌≡◌, []};
+
+    ghost then = { λ st m r n. n ≡ (next_view m.0, []) };
+}
+
+/// What is posted, which a proof picks.
+pub trait Posted {
+    ghost use Rattle.std.specs.Prelude.{List};
+    ghost use Rattle.ev_types.specs.declared.upcall.Handle.{Handle};
+    ghost use Rattle.ev_types.specs.declared.upcall.Kind.{Kind};
+
+    ghost handle: { Handle };
+
+    ghost kind: { Kind };
+}
+
+impl Posted for Brand {
+    ghost use Rattle.ev_types.specs.declared.upcall.Kind.TheVariants.{Read};
+
+    ghost handle = { record { 0 = 0 } };
+
+    ghost kind = { Read };
+}
+
+/// A poster draws a number.
+pub struct Draw<B> {
+    marker: PhantomData<B>,
+}
+
+impl<B: Posted> Play<(), View> for Draw<B> {
+    ghost use Rattle.notify_ring.specs.Rule.{drawn_view};
+    ghost use Rattle.std.specs.Prelude.{◌≡◌, []};
+
+    ghost then = { λ st m r n. n ≡ (drawn_view m.0 r B.handle B.kind, []) };
+}
+
+/// The root makes a poster, or takes one in.
+pub struct PosterPass;
+
+impl Split<View> for PosterPass {
+    ghost use Rattle.notify_ring.specs.Passes.{split_left, split_right};
+
+    ghost left = { split_left };
+
+    ghost right = { split_right };
+}
+
+impl Join<View> for PosterPass {
+    ghost use Rattle.notify_ring.specs.Passes.{joined, blank};
+
+    ghost both = { joined };
+
+    ghost spent = { blank };
+}
+
+/// The drainer loads the gate of the next number.
+pub struct LoadGate;
+
+impl Play<(), View> for LoadGate {
+    ghost use Rattle.notify_ring.specs.Rule.{GateLoaded};
+
+    ghost then = { λ st m r n. GateLoaded m r n };
+}
+
+/// The drainer loads the handle.
+pub struct LoadHandle;
+
+impl Play<(), View> for LoadHandle {
+    ghost use Rattle.notify_ring.specs.Rule.{HandleLoaded};
+
+    ghost then = { λ st m r n. HandleLoaded m r n };
+}
+
+/// The drainer clears the gate.
+pub struct ClearGate;
+
+impl Play<(), View> for ClearGate {
+    ghost use Rattle.notify_ring.specs.Rule.{cleared_view};
+    ghost use Rattle.std.specs.Prelude.{◌≡◌, []};
+
+    ghost then = { λ st m r n. n ≡ (cleared_view m.0, []) };
+}
+
+/// The drainer gives the place back.
+pub struct Release;
+
+impl Play<(), View> for Release {
+    ghost use Rattle.notify_ring.specs.Rule.{released_view};
+    ghost use Rattle.std.specs.Prelude.{◌≡◌, []};
+
+    ghost then = { λ st m r n. n ≡ (released_view m.0, []) };
+}
+
+/// The drainer's part of the first view is split off, and comes back at the end.
+pub struct DrainerPass;
+
+impl Split<View> for DrainerPass {
+    ghost use Rattle.notify_ring.specs.Rule.{poster_part, drainer_part};
+
+    ghost left = { poster_part };
+
+    ghost right = { drainer_part };
+}
+
+impl Join<View> for DrainerPass {
+    ghost use Rattle.notify_ring.specs.Passes.{blank};
+    ghost use Rattle.notify_ring.specs.Rule.{with_drainer};
+
+    ghost both = { with_drainer };
+
+    ghost spent = { blank };
+}
