@@ -2,4 +2,4 @@ use Rattle.std.proofs.Common.{[]}
 use Rattle.token_rows.proofs.tests.passes_begin_and_settle_events.Given as goal
 
 abbrev pub ghost-new : goal.ghost-new
-ghost-new a = (tt, [])
+ghost-new g a = (tt, [])
