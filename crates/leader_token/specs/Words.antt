@@ -1,5 +1,6 @@
--- What contracts name of a token and of a pass.
+-- What contracts name of a token, of a pass and of a value that is out.
 use Rattle.atomic_table.specs.Seated.{TableId}
+use Rattle.leader_token.specs.declared.held.Held.{Held}
 use Rattle.leader_token.specs.declared.kept.Kept.{Ghosts as Keeping}
 use Rattle.leader_token.specs.declared.kept.View.{View}
 use Rattle.leader_token.specs.declared.pass.Pass.{Pass}
@@ -17,3 +18,7 @@ module _ {T E Q : Type 0} where
   -- What a pass knows.
   abbrev pub view_of : {kept : Keeping T E Q} → Pass T E Q kept → View E Q
   view_of pass = pass.seat.me.0
+
+-- The value that a pass got.
+abbrev pub value_of : {T : Type 0} → Held T → T
+value_of held = held.value

@@ -3,7 +3,7 @@ ghost use Rattle.std.specs.Prelude.{◌≡◌, ◌+◌, ◌-◌, ◌<◌, true, 
 ghost use Rattle.leader_token.specs.Lists.{Begins};
 ghost use Rattle.leader_token.specs.Passes.{IsGot, IsLast, MayPut, IsPut, first_view, split_left, split_right, joined};
 ghost use Rattle.leader_token.specs.Rule.{MayStart, OwnEventsDiffer};
-ghost use Rattle.leader_token.specs.Words.{id_of, token_of, view_of};
+ghost use Rattle.leader_token.specs.Words.{id_of, token_of, value_of, view_of};
 
 use crate::held::Held;
 use crate::kept::{Kept, View};
@@ -57,7 +57,7 @@ impl<T: Kept> Token<T> {
         requires token { token_of pass.old ≡ id_of self.now }
         requires free { (view_of pass.old).base ≡ None }
         ensures token { token_of pass.new ≡ token_of pass.old }
-        ensures got { IsGot T.stands T.opens T.marks (view_of pass.old) result.value (view_of pass.new) }
+        ensures got { IsGot T.stands T.opens T.marks (view_of pass.old) (value_of result) (view_of pass.new) }
     {
         for _ in rt.forever() {
             if let Some(value) = self.claim(&mut pass.seat) {
@@ -101,9 +101,9 @@ impl<T: Kept> Token<T> {
     /// event alone. The pass has then seen the new list.
     pub fn put(&self, pass: &mut Pass<T>, held: Held<T>)
         requires token { token_of pass.old ≡ id_of self.now }
-        requires may { MayPut T.stands T.opens T.marks (view_of pass.old) held.value }
+        requires may { MayPut T.stands T.opens T.marks (view_of pass.old) (value_of held) }
         ensures token { token_of pass.new ≡ token_of pass.old }
-        ensures put { IsPut T.stands T.opens T.marks (view_of pass.old) held.value (view_of pass.new) }
+        ensures put { IsPut T.stands T.opens T.marks (view_of pass.old) (value_of held) (view_of pass.new) }
     {
         let Held { value } = held;
         self.release(&mut pass.seat, value);
