@@ -59,6 +59,7 @@ pub fn begin<R: Wait>(rt: &R, token: &Token<Desk>, pass: &mut Pass<Desk>) -> Opt
     requires free { ((view_of pass.old).base ≡ None) × ((view_of pass.old).mine ≡ None) }
     ensures token { token_of pass.new ≡ token_of pass.old }
     ensures free { (view_of pass.new).base ≡ None }
+    ensures kin { ((view_of pass.new).root ≡ (view_of pass.old).root) × ((view_of pass.new).children ≡ (view_of pass.old).children) }
     ensures mine { (view_of pass.new).mine ≡ result }
     ensures begun { IfSome result (λ event. Adds (Note.Begun event) (view_of pass.old).seen (view_of pass.new).seen × (length (view_of pass.new).seen ≡ event + 1)) }
 {
@@ -80,6 +81,7 @@ pub fn settle<R: Wait>(rt: &R, token: &Token<Desk>, pass: &mut Pass<Desk>, event
     requires own { ((view_of pass.old).base ≡ None) × ((view_of pass.old).mine ≡ Some event) }
     ensures token { token_of pass.new ≡ token_of pass.old }
     ensures free { (view_of pass.new).base ≡ None }
+    ensures kin { ((view_of pass.new).root ≡ (view_of pass.old).root) × ((view_of pass.new).children ≡ (view_of pass.old).children) }
     ensures yes { result ≡ true → ((view_of pass.new).mine ≡ None) × Adds (Note.Ended event) (view_of pass.old).seen (view_of pass.new).seen }
     ensures no { result ≡ false → (view_of pass.new).mine ≡ Some event }
 {

@@ -1,4 +1,4 @@
-use Rattle.std.proofs.Common.{◌≡◌, length, ap, ◌∙◌, sym, arith, Some, [], ◌∷◌, ◌++◌, length-append}
+use Rattle.std.proofs.Common.{◌≡◌, length, ap, ◌∙◌, arith, Some, [], ◌∷◌, ◌++◌, length-append}
 use Rattle.leader_token.specs.Lists.{is_event}
 use Rattle.leader_token.specs.Words.{view_of}
 use Rattle.token_rows.specs.declared.desk.Desk.{Desk}

@@ -1,4 +1,4 @@
-use Rattle.std.proofs.Common.{◌≡◌, ℕ, ◌∙◌, ap, sym, arith, None}
+use Rattle.std.proofs.Common.{◌≡◌, ◌∙◌, ap, arith, None}
 use Rattle.leader_token.specs.Words.{view_of}
 use Rattle.leader_token.specs.Lists.{is_event}
 use Rattle.leader_token.proofs.Told.{mine_is}
