@@ -1,5 +1,5 @@
-use Rattle.std.proofs.Common.{◌≡◌, true}
-use Rattle.notify_ring.specs.Words.{id_of, poster_ring, poster_view, drainer_ring}
+use Rattle.std.proofs.Common.{◌≡◌}
+use Rattle.notify_ring.specs.Words.{poster_ring, poster_view, drainer_ring}
 use Rattle.ring_rows.proofs.tests.a_ring_holds_256_postings.Given as goal
 
 abbrev pub invariant-loop-number : goal.invariant-loop-number
