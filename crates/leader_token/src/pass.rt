@@ -7,10 +7,14 @@ use crate::plays::TokenRule;
 use crate::start::Key;
 use atomic_table::{Seat, Table};
 use std::alloc::Global;
+use std::sync::atomic::AtomicU64;
 
 /// A token for one value: whoever got the value has it alone until it is put back.
 pub struct Token<T: Kept> {
     pub(crate) table: Table<Option<T>, View<T::Entry, T::Terms>, Key<T>, TokenRule<T>, Global>,
+    // How many threads sleep on the word or are about to. It is a hint that spares `put` a call of the kernel,
+    // and no contract speaks of it.
+    pub(crate) sleepers: AtomicU64,
     ghost sized: { (table.shared.table_id.words ≡ 1) × (table.shared.table_id.slots ≡ 1) },
 }
 
@@ -20,7 +24,7 @@ impl<T: Kept> Token<T> {
     ) -> Table<Option<T>, View<T::Entry, T::Terms>, Key<T>, TokenRule<T>, Global>
         ensures { result ≡ self.table }
     {
-        let Self { table } = self;
+        let Self { table, sleepers: _ } = self;
         table
     }
 }
@@ -28,7 +32,10 @@ impl<T: Kept> Token<T> {
 /// The value is dropped with its token, unless a pass still has it.
 impl<T: Kept + Drop> Drop for Token<T> {
     fn drop(self) {
-        let Self { table: _ } = self;
+        let Self {
+            table: _,
+            sleepers: _,
+        } = self;
     }
 }
 

@@ -16,6 +16,7 @@ use std::alloc::Global;
 use std::hint::spin_loop;
 use std::marker::Brand;
 use std::sync::Wait;
+use std::sync::atomic::{AtomicU64, Ordering};
 
 // How often a thread looks at a token that is held before it sleeps.
 const LOOKS: u32 = 40;
@@ -77,10 +78,20 @@ impl<T: Kept> Token<T> {
             }
             spin_loop();
         }
+        self.sleepers.fetch_add(1, Ordering::SeqCst);
         self.table.shared.park(rt, 0, 1);
+        self.sleepers.fetch_sub(1, Ordering::SeqCst);
     }
 
-    // Gives the value and the token back, and wakes one that waits.
+    // Wakes one that sleeps. A thread counts itself among the sleepers before it looks at the word for the last
+    // time, and this comes after the word was set, so none that sleeps is missed.
+    fn wake(&self) {
+        if self.sleepers.load(Ordering::SeqCst) > 0 {
+            self.table.shared.wake_one(0);
+        }
+    }
+
+    // Gives the value and the token back, and wakes one that sleeps.
     fn release(&self, seat: &mut Seat<Option<T>, View<T::Entry, T::Terms>>, value: T)
         requires table { seat.old.table_id ≡ id_of self.now }
         requires live { seat.old.me.0.spent ≡ false }
@@ -93,7 +104,7 @@ impl<T: Kept> Token<T> {
         let empty = shared.exchange(seat, 0, Some(value));
         let None = empty else { unreachable!() };
         shared.store::<Release<T>>(seat, 0, 0);
-        shared.wake_one(0);
+        self.wake();
     }
 
     /// Puts the value back. It neither waits nor takes memory. The value has to stand for a list that the
@@ -167,7 +178,10 @@ fn started<T: Kept, B: FirstView<T::Entry, T::Terms>>(
     };
     slots.push_reserved(Some(value));
     match Table::new(alloc, &[0], slots, &key::<T, B>()) {
-        Ok((table, seat)) => Ok((Token { table }, Pass { seat })),
+        Ok((table, seat)) => {
+            let sleepers = AtomicU64::new(0);
+            Ok((Token { table, sleepers }, Pass { seat }))
+        }
         Err(Refused { mut slots }) => {
             let last = slots.pop();
             let Some(Some(value)) = last else {
