@@ -6,7 +6,7 @@ ghost use Rattle.ring_rows.specs.Rows.{IsTaken};
 use ev_types::{Handle, Kind};
 use notify_ring::{Drainer, Poster, Posting, Ring};
 use std::alloc::Global;
-use std::thread::{Threads, join};
+use std::thread::{Threads, join, yield_now};
 
 /// What came out, and how many postings each poster made.
 #[derive(Drop)]
@@ -34,7 +34,9 @@ pub fn post_many(ring: &Ring, mut poster: Poster, base: u64, count: u64, tries: 
         } else {
             Kind::Write
         };
-        let _ = ring.post(&mut poster, Handle(base + made), kind);
+        if ring.post(&mut poster, Handle(base + made), kind).is_err() {
+            yield_now();
+        }
     }
     poster
 }
