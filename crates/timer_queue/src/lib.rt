@@ -1,0 +1,14 @@
+//! Timer queues (C++NPv2 section 3.4, `ACE_Timer_Queue`): the trait that every timer queue keeps, and the
+//! plain one over a sorted `Vec`.
+#![tactic(auto)]
+
+mod queue;
+mod sorted;
+mod timer;
+
+pub use queue::TimerQueue;
+pub use sorted::SortedTimers;
+pub use timer::Timer;
+
+#[cfg(test)]
+mod tests;
