@@ -1,0 +1,13 @@
+//! The handler repository of a reactor (C++NPv2 section 3.3): it keeps each event handler by its handle, and
+//! hands one out while an upcall on it is open.
+#![tactic(auto)]
+
+mod index;
+mod repository;
+mod seat;
+
+pub use repository::Repo;
+pub use seat::Seat;
+
+#[cfg(test)]
+mod tests;
