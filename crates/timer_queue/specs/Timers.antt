@@ -1,6 +1,6 @@
 -- The list of timers that a timer queue stands for, and what each call does to it
 -- (C++NPv2 section 3.4, `ACE_Timer_Queue`; POSA2, Reactor, "timer queue").
-use Rattle.std.specs.Prelude.{ℕ, ◌≡◌, Bool, true, not, ◌&&◌, ◌||◌, ◌==◌, nat_lt, List, [], ◌∷◌, if◌then◌else◌, filter, Option, Some, None}
+use Rattle.std.specs.Prelude.{ℕ, ◌≡◌, ◌≢◌, Bool, true, not, ◌&&◌, ◌||◌, ◌==◌, nat_lt, List, [], ◌∷◌, if◌then◌else◌, filter, AllPairs, Option, Some, None}
 use Rattle.std.specs.List.{list_any, list_all}
 use Rattle.timer_queue.specs.declared.timer.Timer.{Timer}
 
@@ -49,3 +49,7 @@ in_order (t ∷ rest) = with_timer t (in_order rest)
 pub record IsSchedule (timers : List Timer) : Type 0 where
   pub rising : is_rising timers ≡ true
   pub once : names_once timers ≡ true
+
+-- no two of these timers, which stand in any order, have one number
+abbrev pub AreApart : List Timer → Type 0
+AreApart timers = AllPairs (λ t u. t.timer ≢ u.timer) timers
