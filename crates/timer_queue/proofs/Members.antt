@@ -1,15 +1,13 @@
 -- A rising list of timers is settled by its members: timers that are held in any order, and the list that they
 -- stand for.
-use Rattle.std.proofs.Common.{ℕ, zero, suc, ◌≡◌, ◌≢◌, ◌+◌, ◌<◌, ◌==◌, Bool, true, false, not, ◌&&◌, ◌||◌, List, [], ◌∷◌, length, get_or, refl, sym, ap, ◌∙◌, subst, arith, cond, ◌⊎◌, inl, inr, Contains}
-use Rattle.std.proofs.lemmas.Bool.{and_parts, and_from, not-true, both_ways, cond-true, cond-false, eq-eqb, ne_eqb, cases_Bool}
+use Rattle.std.proofs.Common.{ℕ, zero, suc, ◌≡◌, ◌≢◌, ◌<◌, ◌==◌, Bool, true, false, not, ◌||◌, List, [], ◌∷◌, length, get_or, refl, sym, ap, ◌∙◌, subst, arith, cond, ◌⊎◌, inl, inr, Contains}
+use Rattle.std.proofs.lemmas.Bool.{and_parts, and_from, both_ways, cond-true, cond-false, ne_eqb, cases_Bool}
 use Rattle.std.proofs.lemmas.List.Sorted.{IsPermutation-sym, IsPermutation-swap, IsPermutation-trans, IsPermutation-cons, IsPermutation-refl, Contains-permutation}
-
 use Rattle.std.specs.List.{list_any, list_all, filter}
 use Rattle.std.specs.List.Sorted.{IsPermutation}
 use Rattle.timer_queue.specs.declared.timer.Timer.{Timer}
 use Rattle.timer_queue.specs.Timers.{comes_before, is_rising, is_scheduled, names_once, with_timer, in_order, AreApart, IsSchedule}
-use Rattle.timer_queue.proofs.Schedules.{before_not, schedule_with, schedule_none, schedule_filtered}
-use Rattle.timer_queue.proofs.Places.{none_at}
+use Rattle.timer_queue.proofs.Schedules.{before_not, schedule_with, schedule_none}
 
 -- the timer is one of the list
 abbrev pub Among : Timer → List Timer → Type 0
@@ -98,6 +96,7 @@ among_within a t (u ∷ xs) h = step (comes_before a u) (later (among_within a t
     later rest (inl s) = inr (rest (inl s))
     later rest (inr (inl s)) = inl s
     later rest (inr (inr m)) = inr (rest (inr m))
+
     step : (b : Bool) → (u ≡ t) ⊎ Among t (with_timer a xs) → Among t (cond b (a ∷ u ∷ xs) (u ∷ with_timer a xs))
     step true r = h
     step false r = r
@@ -109,6 +108,7 @@ members_in_order xs = record { there = there xs; back = back xs }
     there [] t h = h
     there (y ∷ ys) t (inl s) = among_within y t (in_order ys) (inl s)
     there (y ∷ ys) t (inr m) = among_within y t (in_order ys) (inr (there ys t m))
+
     back : (ys : List Timer) (t : Timer) → Among t (in_order ys) → Among t ys
     back [] t h = h
     back (y ∷ ys) t h = elim (among_with y t (in_order ys) h) [ inl s ↦ inl s | inr m ↦ inr (back ys t m) ]
@@ -130,8 +130,10 @@ rising_same (x ∷ xs) (y ∷ ys) h k m =
   where
     p : (list_all (λ u. comes_before x u) xs ≡ true) × (is_rising xs ≡ true)
     p = rising_parts x xs h
+
     q : (list_all (λ u. comes_before y u) ys ≡ true) × (is_rising ys ≡ true)
     q = rising_parts y ys k
+
     same : x ≡ y
     same = elim (m.there x (inl refl)) [
       | inl e ↦ sym e
@@ -140,11 +142,13 @@ rising_same (x ∷ xs) (y ∷ ys) h k m =
         | inr b ↦ absurd (both_ways _ (before_not x y (all_at (λ u. comes_before x u) y xs p.0 b)) (all_at (λ u. comes_before y u) x ys q.0 a))
       ]
     ]
+
     there : (t : Timer) → Among t xs → Among t ys
     there t a = elim (m.there t (inr a)) [
       | inl e ↦ absurd (before_self x (subst (λ u. comes_before x u ≡ true) (sym (same ∙ e)) (all_at (λ u. comes_before x u) t xs p.0 a)))
       | inr b ↦ b
     ]
+
     back : (t : Timer) → Among t ys → Among t xs
     back t a = elim (m.back t (inr a)) [
       | inl e ↦ absurd (before_self y (subst (λ u. comes_before y u ≡ true) (sym (sym same ∙ e)) (all_at (λ u. comes_before y u) t ys q.0 a)))
@@ -180,6 +184,7 @@ not_scheduled number xs ys m h = elim (cases_Bool (is_scheduled number ys)) [
       | inl here ↦ (z, inl refl, here)
       | inr other ↦ let r = some zs (subst (λ b. (b || is_scheduled number zs) ≡ true) other e) in (r.0, inr r.1, r.2)
     ]
+
     found : (zs : List Timer) → is_scheduled number ys ≡ true → is_scheduled number xs ≡ true
     found zs e = let r = some ys e in any_among (λ t. t.timer == number) r.0 xs (m.back r.0 r.1) r.2
 
