@@ -23,36 +23,41 @@ pub gathers-more : {K : Type 0} (facts : K → SinkFacts) (start : SinkFacts) (o
     Gathers facts start old put → Gathers facts start new (put ++ more)
 gathers-more facts start old new put more held output broken g =
     let same : facts (output_of new) ≡ facts (output_of old) = ap facts output in
-    record
-    { whole = λ b. rw (same, held) (holds-more start (facts (output_of old)) (held_of old) more put (g.whole (sym broken ∙ b)))
-    ; front = λ b. rw same (breaks-more start (facts (output_of old)) more put (g.front (sym broken ∙ b)))
+    record {
+      whole = λ b. rw (same, held) (holds-more start (facts (output_of old)) (held_of old) more put (g.whole (sym broken ∙ b)));
+      front = λ b. rw same (breaks-more start (facts (output_of old)) more put (g.front (sym broken ∙ b)));
     }
 
 -- what was held back was written
 pub written-all : (start old new : SinkFacts) (held put : List ℕ) → HoldsBack start held put old → TakesAll old held new → HoldsBack start [] put new
-written-all start old new held put h w = record
-    { written = put
-    ; takes = record
-        { text = subst (λ (bytes : List ℕ). GrowsBy start.text bytes new.text) h.all (grows-twice start.text old.text new.text h.written held h.takes.text w.text)
-        ; faults = w.faults ∙ h.takes.faults }
-    ; all = append-nil put }
+written-all start old new held put h w = record {
+  written = put;
+  takes = record {
+    text = subst (λ (bytes : List ℕ). GrowsBy start.text bytes new.text) h.all (grows-twice start.text old.text new.text h.written held h.takes.text w.text);
+    faults = w.faults ∙ h.takes.faults;
+  };
+  all = append-nil put;
+}
 
 -- a front of it was
 pub written-front : (start old new : SinkFacts) (held put : List ℕ) → HoldsBack start held put old → BreaksOff old held new → BreaksOff start put new
-written-front start old new held put h b = record
-    { front = h.written ++ b.front
-    ; is_front = subst (λ (whole : List ℕ). IsPrefixOf (h.written ++ b.front) whole) h.all (prefix-behind h.written b.front held b.is_front)
-    ; text = grows-twice start.text old.text new.text h.written b.front h.takes.text b.text
-    ; rose = rw (← h.takes.faults) b.rose }
+written-front start old new held put h b = record {
+  front = h.written ++ b.front;
+  is_front = subst (λ (whole : List ℕ). IsPrefixOf (h.written ++ b.front) whole) h.all (prefix-behind h.written b.front held b.is_front);
+  text = grows-twice start.text old.text new.text h.written b.front h.takes.text b.text;
+  rose = rw (← h.takes.faults) b.rose;
+}
 
 -- a flush of a buffer that is not broken
 pub gathers-flushed : {K : Type 0} (facts : K → SinkFacts) (start : SinkFacts) (old new : SinkBuffer K) (put : List ℕ) (done : Bool) →
     is_broken old ≡ false → WritesAll (facts (output_of old)) (held_of old) done (facts (output_of new)) →
     held_of new ≡ [] → (done ≡ true → is_broken new ≡ false) → (done ≡ false → is_broken new ≡ true) →
     Gathers facts start old put → Gathers facts start new put
-gathers-flushed facts start old new put true sound writes held whole front g = record
-    { whole = λ b. rw held (written-all start (facts (output_of old)) (facts (output_of new)) (held_of old) put (g.whole sound) writes)
-    ; front = λ b. absurd (cc (whole refl)) }
-gathers-flushed facts start old new put false sound writes held whole front g = record
-    { whole = λ b. absurd (cc (front refl))
-    ; front = λ b. written-front start (facts (output_of old)) (facts (output_of new)) (held_of old) put (g.whole sound) writes }
+gathers-flushed facts start old new put true sound writes held whole front g = record {
+  whole = λ b. rw held (written-all start (facts (output_of old)) (facts (output_of new)) (held_of old) put (g.whole sound) writes);
+  front = λ b. absurd (cc (whole refl));
+}
+gathers-flushed facts start old new put false sound writes held whole front g = record {
+  whole = λ b. absurd (cc (front refl));
+  front = λ b. written-front start (facts (output_of old)) (facts (output_of new)) (held_of old) put (g.whole sound) writes;
+}

@@ -1,4 +1,3 @@
-use Rattle.std.proofs.Common.{true, false, ◌≡◌}
 use Rattle.sink_buffer.proofs.Gathering.{holds-none}
 use Rattle.sink_buffer.proofs.buffer.SinkBuffer.new.Goals as goal
 
