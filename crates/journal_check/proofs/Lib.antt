@@ -1,3 +1,6 @@
 pub mod Clock
 pub mod Ended
+pub mod Lanes
+pub mod Best
+pub mod Kept
 pub mod Checking

@@ -1,3 +1,4 @@
 pub mod Small
+pub mod Lanes
 pub mod Refusal
 pub mod Laws

@@ -1,35 +1,40 @@
 //! The summary of the entries that were read, and what it says of the next one.
 
-ghost use Rattle.std.specs.Prelude.{◌≡◌, ◌==◌, ◌&&◌, ◌||◌, ◌<◌, ◌+◌, ◌^◌, ◌++◌, ◌∷◌, [], true, None, Some, OnOk, ℕ, List};
+ghost use Rattle.std.specs.Prelude.{◌≡◌, ◌==◌, not, if◌then◌else◌, ◌&&◌, ◌||◌, ◌<◌, ◌+◌, ◌^◌, ◌++◌, ◌∷◌, [], true, None, Some, OnOk, ℕ, List};
 ghost use Rattle.reactor_journal.specs.declared.entry.Entry.{Entry};
 ghost use Rattle.reactor_summary.specs.Summary as S;
+ghost use Rattle.reactor_summary.specs.Summary.{Summary};
 ghost use Rattle.reactor_summary.specs.Rules as R;
 ghost use Rattle.reactor_journal.specs.Follow as F;
 ghost use Rattle.std.specs.Option.{option_to_list};
 ghost use Rattle.journal_check.specs.Small.{IsSmall};
+ghost use Rattle.journal_check.specs.Lanes as L;
+ghost use Rattle.journal_check.specs.Lanes.{Shows, IsSound};
 
-use crate::events::{
-    drop_all, drop_masked, drop_timeouts, find_open, find_waiting, is_open, settle, take,
-    timeout_waits,
-};
+use crate::events::{find_open, is_open, settle};
 use crate::handles::{
     close, end_life, is_alive, is_busy, is_over, is_resumed, is_suspended, is_wanted, set_mask,
     set_suspended, some_wait,
 };
+use crate::queues::{
+    add_five, cancel, clear_all, clear_masked, pick, pop_from, push_to, timeout_waits,
+};
 use crate::timers::{
     arm, arm_again, disarm, disarm_all, due_event, is_armed, is_first, is_reached,
 };
-use crate::words::{class_of, upcall_of, winds_up};
+use crate::words::{lane_of, upcall_of, winds_up};
 use ev_types::{Answer, Handle, Kind, Mask, NoMemory, Upcall};
 use reactor_journal::Entry;
 use reactor_summary::{ArmedTimer, DueTimer, LiveHandle, OpenEvent, WaitingEvent};
 use std::alloc::Global;
+use std::collections::VecDeque;
 use std::marker::Model;
 
 /// The most handles that a journal may open.
 const MOST_HANDLES: u64 = 4_294_967_295;
 
-/// The summary of the entries that were read.
+/// The summary of the entries that were read. The waiting events stand in a queue for each handle that was opened
+/// and each class, so that an entry costs no look at events that wait behind others.
 #[derive(Drop)]
 pub struct Machine {
     entries: u64,
@@ -40,23 +45,26 @@ pub struct Machine {
     refused: u64,
     ended: bool,
     handles: Vec<LiveHandle>,
-    waiting: Vec<WaitingEvent>,
     opens: Vec<OpenEvent>,
     armed: Vec<ArmedTimer>,
+    queues: Vec<VecDeque<WaitingEvent>>,
 }
 
 impl Model for Machine {
-    ghost use Rattle.reactor_summary.specs.Summary.{Summary};
+    ghost use Rattle.std.specs.Prelude.{[], map};
+    ghost use Rattle.std.specs.VecDeque.{deque_items};
+    ghost use Rattle.journal_check.specs.Lanes.{Kept};
 
-    ghost Value = { Summary };
+    ghost Value = { Kept };
 
-    ghost view = { λ m. record { entries = m.entries; moment = m.moment; opened = m.opened; closed = m.closed; scheduled = m.scheduled; refused = m.refused; ended = m.ended; handles = m.handles.items; waiting = m.waiting.items; opens = m.opens.items; armed = m.armed.items } };
+    ghost view = { λ m. record { base = record { entries = m.entries; moment = m.moment; opened = m.opened; closed = m.closed; scheduled = m.scheduled; refused = m.refused; ended = m.ended; handles = m.handles.items; waiting = []; opens = m.opens.items; armed = m.armed.items }; queues = map deque_items m.queues.items } };
 }
 
 impl Machine {
     /// That of no entries.
     pub fn new(alloc: Global) -> Machine
-        ensures { result ≡ S.nothing }
+        ensures base { result.base ≡ S.nothing }
+        ensures queues { result.queues ≡ [] }
     {
         Machine {
             entries: 0,
@@ -67,58 +75,33 @@ impl Machine {
             refused: 0,
             ended: false,
             handles: Vec::new(alloc),
-            waiting: Vec::new(alloc),
             opens: Vec::new(alloc),
             armed: Vec::new(alloc),
+            queues: Vec::new(alloc),
         }
     }
 
     fn live(&self) -> u64
-        ensures { result ≡ R.live self.now }
+        ensures { result ≡ R.live self.now.base }
     {
         self.opened.saturating_sub(self.closed)
     }
 
-    fn is_free(&self, handle: Handle) -> bool
-        ensures { result ≡ S.is_free self.now handle.0 }
-    {
-        is_resumed(&self.handles, handle) && !is_busy(&self.opens, handle)
-    }
-
-    #[tactic(auto, using(crate::proofs::Clock::find_more))]
-    fn first_free(&self, class: usize) -> Option<WaitingEvent>
-        ensures { result ≡ S.first_free self.now class }
-    {
-        for w in self.waiting.as_slice() {
-            if class_of(w.upcall) == class && self.is_free(w.handle) {
-                return Some(*w);
-            }
-        }
-        None
-    }
-
     /// The event to be started next.
-    #[tactic(auto, unfolding(reactor_summary::specs::Summary::pick))]
     fn pick(&self) -> Option<WaitingEvent>
-        ensures { result ≡ S.pick self.now }
+        ensures { (s : Summary) → Shows self.now s → IsSound s → result ≡ S.pick s }
     {
-        if let Some(w) = self.first_free(0) {
-            return Some(w);
-        }
-        if let Some(w) = self.first_free(1) {
-            return Some(w);
-        }
-        if let Some(w) = self.first_free(2) {
-            return Some(w);
-        }
-        if let Some(w) = self.first_free(3) {
-            return Some(w);
-        }
-        self.first_free(4)
+        pick(&self.handles, &self.opens, &self.queues)
+    }
+
+    fn some_wait(&self) -> bool
+        ensures { result ≡ S.some_wait self.now.base }
+    {
+        some_wait(&self.handles, &self.opens)
     }
 
     fn is_pick(&self, event: u64) -> bool
-        ensures { result ≡ S.is_pick self.now event }
+        ensures { (s : Summary) → Shows self.now s → IsSound s → result ≡ S.is_pick s event }
     {
         match self.pick() {
             Some(w) => w.event == event,
@@ -126,23 +109,34 @@ impl Machine {
         }
     }
 
-    fn some_wait(&self) -> bool
-        ensures { result ≡ S.some_wait self.now }
+    fn may_begin(&self, picked: bool) -> bool
+        ensures { result ≡ (picked && (not (S.is_overdue self.now.base) && not (S.some_wait self.now.base))) }
     {
-        some_wait(&self.handles, &self.opens)
+        picked && (!is_reached(self.moment, &self.armed) && !self.some_wait())
+    }
+
+    fn timeout_waits(&self, timer: u64) -> bool
+        ensures { result ≡ L.has_timeout self.now timer }
+    {
+        timeout_waits(&self.queues, &self.handles, timer)
+    }
+
+    fn may_cancel(&self, timer: u64) -> bool
+        ensures { result ≡ (S.is_armed self.now.base timer || L.has_timeout self.now timer) }
+    {
+        is_armed(&self.armed, timer) || self.timeout_waits(timer)
     }
 
     fn may_refuse(&self, live: u64, fault: bool, most: u64) -> bool
-        ensures { result ≡ (live == R.live self.now && (R.live self.now == most || (self.now.opened == F.most_handles || (fault || self.now.ended)))) }
+        ensures { result ≡ (live == R.live self.now.base && (R.live self.now.base == most || (self.now.base.opened == F.most_handles || (fault || self.now.base.ended)))) }
     {
         live == self.live()
             && (self.live() == most || (self.opened == MOST_HANDLES || (fault || self.ended)))
     }
 
-    /// The case of each kind of entry. `due` says whether a timer may come due now, and `ready` whether a report
-    /// may come now.
-    fn fits<N>(&self, due: bool, ready: bool, entry: &Entry<N>, most: u64) -> bool
-        ensures { result ≡ R.fits most due ready self.now entry.now }
+    /// The case of each kind of entry but two.
+    fn fits_alone<N>(&self, due: bool, ready: bool, entry: &Entry<N>, most: u64) -> bool
+        ensures { L.is_alone entry.now ≡ true → result ≡ R.fits most due ready self.now.base entry.now }
     {
         match entry {
             Entry::Opened { handle, .. } => {
@@ -157,9 +151,7 @@ impl Machine {
                 *timer == self.scheduled
                     && (is_alive(&self.handles, *handle) && self.moment < *first)
             }
-            Entry::Cancelled { timer } => {
-                is_armed(&self.armed, *timer) || timeout_waits(&self.waiting, *timer)
-            }
+            Entry::Cancelled { .. } => false,
             Entry::Polled { now } => self.moment <= *now && !self.some_wait(),
             Entry::Due { timer } => due && is_first(self.moment, *timer, &self.armed),
             Entry::Ready { handle, kind } => {
@@ -169,9 +161,7 @@ impl Machine {
             }
             Entry::Posted { handle, .. } => is_alive(&self.handles, *handle),
             Entry::Stale { handle, .. } => !is_alive(&self.handles, *handle),
-            Entry::Started { event } => {
-                self.is_pick(*event) && (!is_reached(self.moment, &self.armed) && !self.some_wait())
-            }
+            Entry::Started { .. } => false,
             Entry::Returned { event, .. } => is_open(&self.opens, *event),
             Entry::Masked { handle, .. } => is_alive(&self.handles, *handle),
             Entry::Suspended { handle } => is_resumed(&self.handles, *handle),
@@ -185,29 +175,38 @@ impl Machine {
         }
     }
 
+    /// The case of each kind of entry. `due` says whether a timer may come due now, and `ready` whether a report
+    /// may come now.
+    fn fits<N>(&self, due: bool, ready: bool, entry: &Entry<N>, most: u64) -> bool
+        ensures { (s : Summary) → Shows self.now s → IsSound s → result ≡ R.fits most due ready s entry.now }
+    {
+        match entry {
+            Entry::Started { event } => self.may_begin(self.is_pick(*event)),
+            Entry::Cancelled { timer } => self.may_cancel(*timer),
+            _ => self.fits_alone(due, ready, entry, most),
+        }
+    }
+
     /// Whether the entry may follow.
     pub fn may_follow<N>(&self, due: bool, ready: bool, entry: &Entry<N>, most: u64) -> bool
-        ensures { result ≡ R.may_follow most due ready self.now entry.now }
+        ensures { (s : Summary) → Shows self.now s → IsSound s → result ≡ R.may_follow most due ready s entry.now }
     {
         (winds_up(entry) || !self.ended) && self.fits(due, ready, entry, most)
     }
 
     /// Adds the event that an entry makes, if it makes one.
     fn push(&mut self, made: Option<WaitingEvent>) -> Result<(), NoMemory>
-        ensures { OnOk result (self.new ≡ record self.old { waiting = self.old.waiting ++ option_to_list made }) }
+        ensures { OnOk result (self.new ≡ record self.old { queues = L.pushed self.old.queues (option_to_list made) }) }
     {
         match made {
             None => Ok(()),
-            Some(w) => {
-                self.waiting.push(w)?;
-                Ok(())
-            }
+            Some(w) => push_to(&mut self.queues, lane_of(&w), w),
         }
     }
 
     /// Adds the event of a report or of a notification.
     fn report(&mut self, handle: Handle, upcall: Upcall) -> Result<(), NoMemory>
-        ensures { OnOk result (self.new ≡ record self.old { waiting = self.old.waiting ++ record { event = self.old.entries; handle = handle; upcall = upcall; due = None } ∷ [] }) }
+        ensures { OnOk result (self.new ≡ record self.old { queues = L.pushed self.old.queues (record { event = self.old.base.entries; handle = handle; upcall = upcall; due = None } ∷ []) }) }
     {
         let event = self.entries;
         self.push(Some(WaitingEvent {
@@ -218,10 +217,11 @@ impl Machine {
         }))
     }
 
-    fn open(&mut self, handle: Handle, mask: Mask) -> Result<(), NoMemory>
-        requires { self.old.opened + 1 < 2 ^ 64 }
-        ensures { OnOk result (self.new ≡ record (S.step {N = ℕ} self.old (Entry.Opened handle mask)) { entries = self.old.entries }) }
+    fn open(&mut self, alloc: Global, handle: Handle, mask: Mask) -> Result<(), NoMemory>
+        requires { self.old.base.opened + 1 < 2 ^ 64 }
+        ensures { OnOk result (self.new ≡ L.kept_after {N = ℕ} self.old (Entry.Opened handle mask)) }
     {
+        add_five(alloc, &mut self.queues)?;
         self.handles.push(LiveHandle {
             handle,
             mask,
@@ -239,8 +239,8 @@ impl Machine {
         first: u64,
         every: u64,
     ) -> Result<(), NoMemory>
-        requires { self.old.scheduled + 1 < 2 ^ 64 }
-        ensures { OnOk result (self.new ≡ record (S.step {N = ℕ} self.old (Entry.Scheduled timer handle first every)) { entries = self.old.entries }) }
+        requires { self.old.base.scheduled + 1 < 2 ^ 64 }
+        ensures { OnOk result (self.new ≡ L.kept_after {N = ℕ} self.old (Entry.Scheduled timer handle first every)) }
     {
         arm(
             &mut self.armed,
@@ -256,8 +256,8 @@ impl Machine {
     }
 
     fn come_due(&mut self, timer: u64) -> Result<(), NoMemory>
-        requires { S.is_first_due self.old timer ≡ true }
-        ensures { OnOk result (self.new ≡ record (S.step {N = ℕ} self.old (Entry.Due timer)) { entries = self.old.entries }) }
+        requires { S.is_first_due self.old.base timer ≡ true }
+        ensures { OnOk result (self.new ≡ L.kept_after {N = ℕ} self.old (Entry.Due timer)) }
     {
         let made = due_event(self.entries, self.moment, timer, &self.armed);
         disarm(&mut self.armed, timer);
@@ -265,50 +265,53 @@ impl Machine {
     }
 
     fn cancel(&mut self, timer: u64)
-        ensures { self.new ≡ record (S.step {N = ℕ} self.old (Entry.Cancelled timer)) { entries = self.old.entries } }
+        ensures { self.new ≡ L.kept_after {N = ℕ} self.old (Entry.Cancelled timer) }
     {
         disarm(&mut self.armed, timer);
-        drop_timeouts(&mut self.waiting, timer);
+        cancel(&mut self.queues, &self.handles, timer);
+    }
+
+    fn begin(&mut self, w: WaitingEvent) -> Result<(), NoMemory>
+        ensures { OnOk result (self.new ≡ L.kept_started self.old w) }
+    {
+        pop_from(&mut self.queues, lane_of(&w));
+        arm_again(&mut self.armed, self.moment, w.handle, w.due)?;
+        self.opens.push(OpenEvent {
+            event: w.event,
+            handle: w.handle,
+            upcall: w.upcall,
+            moment: self.moment,
+        })?;
+        Ok(())
     }
 
     fn start(&mut self, event: u64) -> Result<(), NoMemory>
-        ensures { OnOk result (self.new ≡ record (S.step {N = ℕ} self.old (Entry.Started event)) { entries = self.old.entries }) }
+        ensures { (s : Summary) → Shows self.old s → IsSound s → S.is_pick s event ≡ true → OnOk result (Shows self.new (record (S.step {N = ℕ} s (Entry.Started event)) { entries = s.entries })) }
     {
-        let found = find_waiting(&self.waiting, event);
-        take(&mut self.waiting, event);
-        match found {
+        match self.pick() {
             None => Ok(()),
-            Some(w) => {
-                arm_again(&mut self.armed, self.moment, w.handle, w.due)?;
-                self.opens.push(OpenEvent {
-                    event: w.event,
-                    handle: w.handle,
-                    upcall: w.upcall,
-                    moment: self.moment,
-                })?;
-                Ok(())
-            }
+            Some(w) => self.begin(w),
         }
     }
 
     fn mask(&mut self, handle: Handle, mask: Mask)
-        ensures { self.new ≡ record (S.step {N = ℕ} self.old (Entry.Masked handle mask)) { entries = self.old.entries } }
+        ensures { self.new ≡ L.kept_after {N = ℕ} self.old (Entry.Masked handle mask) }
     {
         set_mask(&mut self.handles, handle, mask);
-        drop_masked(&mut self.waiting, handle, mask);
+        clear_masked(&mut self.queues, handle, mask);
     }
 
     fn end(&mut self, handle: Handle)
-        ensures { self.new ≡ record (S.step {N = ℕ} self.old (Entry.Removed handle)) { entries = self.old.entries } }
+        ensures { self.new ≡ L.kept_after {N = ℕ} self.old (Entry.Removed handle) }
     {
         end_life(&mut self.handles, handle);
-        drop_all(&mut self.waiting, handle);
+        clear_all(&mut self.queues, handle);
         disarm_all(&mut self.armed, handle);
     }
 
     /// The event that asks for the same upcall once more, where the handle is alive.
     fn once_more(&self, o: OpenEvent) -> Option<WaitingEvent>
-        ensures { option_to_list result ≡ S.waiting_again self.now (Some o) }
+        ensures { option_to_list result ≡ S.waiting_again self.now.base (Some o) }
     {
         if is_alive(&self.handles, o.handle) {
             Some(WaitingEvent {
@@ -323,7 +326,7 @@ impl Machine {
     }
 
     fn again(&self, event: u64) -> Option<WaitingEvent>
-        ensures { option_to_list result ≡ S.waiting_again self.now (S.open_event self.now event) }
+        ensures { option_to_list result ≡ S.waiting_again self.now.base (S.open_event self.now.base event) }
     {
         match find_open(&self.opens, event) {
             None => None,
@@ -332,7 +335,7 @@ impl Machine {
     }
 
     fn settle_again(&mut self, event: u64) -> Result<(), NoMemory>
-        ensures { OnOk result (self.new ≡ record (S.step {N = ℕ} self.old (Entry.Returned event Answer.Again 0)) { entries = self.old.entries }) }
+        ensures { OnOk result (self.new ≡ L.kept_after {N = ℕ} self.old (Entry.Returned event Answer.Again 0)) }
     {
         let made = self.again(event);
         settle(&mut self.opens, event);
@@ -341,7 +344,7 @@ impl Machine {
 
     #[tactic(auto, using(crate::proofs::Ended::no_owner))]
     fn settle_close(&mut self, event: u64)
-        ensures { self.new ≡ record (S.step {N = ℕ} self.old (Entry.Returned event Answer.Close 0)) { entries = self.old.entries } }
+        ensures { self.new ≡ L.kept_after {N = ℕ} self.old (Entry.Returned event Answer.Close 0) }
     {
         let found = find_open(&self.opens, event);
         settle(&mut self.opens, event);
@@ -352,7 +355,7 @@ impl Machine {
     }
 
     fn settle(&mut self, event: u64, answer: Answer) -> Result<(), NoMemory>
-        ensures { OnOk result (self.new ≡ record (S.step {N = ℕ} self.old (Entry.Returned event answer 0)) { entries = self.old.entries }) }
+        ensures { OnOk result (self.new ≡ L.kept_after {N = ℕ} self.old (Entry.Returned event answer 0)) }
     {
         match answer {
             Answer::Keep => {
@@ -367,17 +370,18 @@ impl Machine {
         }
     }
 
-    /// What the entry changes, but for the number of entries.
-    fn apply<N>(&mut self, entry: &Entry<N>) -> Result<(), NoMemory>
-        requires opened { self.old.opened + 1 < 2 ^ 64 }
-        requires closed { self.old.closed + 1 < 2 ^ 64 }
-        requires scheduled { self.old.scheduled + 1 < 2 ^ 64 }
-        requires refused { self.old.refused + 1 < 2 ^ 64 }
-        requires due { (timer : ℕ) → entry.now ≡ Entry.Due timer → S.is_first_due self.old timer ≡ true }
-        ensures { OnOk result (self.new ≡ record (S.step self.old entry.now) { entries = self.old.entries }) }
+    /// What an entry that is no `Started` changes, but for the number of entries.
+    fn apply<N>(&mut self, alloc: Global, entry: &Entry<N>) -> Result<(), NoMemory>
+        requires opened { self.old.base.opened + 1 < 2 ^ 64 }
+        requires closed { self.old.base.closed + 1 < 2 ^ 64 }
+        requires scheduled { self.old.base.scheduled + 1 < 2 ^ 64 }
+        requires refused { self.old.base.refused + 1 < 2 ^ 64 }
+        requires due { (timer : ℕ) → entry.now ≡ Entry.Due timer → S.is_first_due self.old.base timer ≡ true }
+        requires other { (event : ℕ) → entry.now ≡ Entry.Started event → ⊥ }
+        ensures { OnOk result (self.new ≡ L.kept_after self.old entry.now) }
     {
         match entry {
-            Entry::Opened { handle, mask } => self.open(*handle, *mask),
+            Entry::Opened { handle, mask } => self.open(alloc, *handle, *mask),
             Entry::Scheduled {
                 timer,
                 handle,
@@ -398,7 +402,7 @@ impl Machine {
                 self.report(*handle, Upcall::Notice { kind: *kind })
             }
             Entry::Stale { .. } => Ok(()),
-            Entry::Started { event } => self.start(*event),
+            Entry::Started { .. } => Ok(()),
             Entry::Returned { event, answer, .. } => self.settle(*event, *answer),
             Entry::Masked { handle, mask } => {
                 self.mask(*handle, *mask);
@@ -432,14 +436,36 @@ impl Machine {
         }
     }
 
-    /// Reads one more entry, which may follow.
-    pub fn step<N>(&mut self, entry: &Entry<N>) -> Result<(), NoMemory>
-        requires small { IsSmall self.old }
-        requires due { (timer : ℕ) → entry.now ≡ Entry.Due timer → S.is_first_due self.old timer ≡ true }
-        ensures { OnOk result (self.new ≡ S.step self.old entry.now) }
+    /// What an entry changes, but for the number of entries.
+    fn change<N>(&mut self, alloc: Global, entry: &Entry<N>) -> Result<(), NoMemory>
+        requires opened { self.old.base.opened + 1 < 2 ^ 64 }
+        requires closed { self.old.base.closed + 1 < 2 ^ 64 }
+        requires scheduled { self.old.base.scheduled + 1 < 2 ^ 64 }
+        requires refused { self.old.base.refused + 1 < 2 ^ 64 }
+        requires due { (timer : ℕ) → entry.now ≡ Entry.Due timer → S.is_first_due self.old.base timer ≡ true }
+        ensures { (s : Summary) → Shows self.old s → IsSound s → IsSound (S.step s entry.now) → ((event : ℕ) → entry.now ≡ Entry.Started event → S.is_pick s event ≡ true) → OnOk result (Shows self.new (record (S.step s entry.now) { entries = s.entries })) }
     {
-        self.apply(entry)?;
-        self.entries += 1;
+        match entry {
+            Entry::Started { event } => self.start(*event),
+            _ => self.apply(alloc, entry),
+        }
+    }
+
+    fn count(&mut self, entries: u64)
+        ensures { self.new ≡ record self.old { base = record self.old.base { entries = entries } } }
+    {
+        self.entries = entries;
+    }
+
+    /// Reads one more entry, which may follow.
+    pub fn step<N>(&mut self, alloc: Global, entry: &Entry<N>) -> Result<(), NoMemory>
+        requires small { IsSmall self.old.base }
+        requires due { (timer : ℕ) → entry.now ≡ Entry.Due timer → S.is_first_due self.old.base timer ≡ true }
+        ensures { (s : Summary) → Shows self.old s → IsSound s → IsSound (S.step s entry.now) → ((event : ℕ) → entry.now ≡ Entry.Started event → S.is_pick s event ≡ true) → OnOk result (Shows self.new (S.step s entry.now)) }
+    {
+        let entries = self.entries + 1;
+        self.change(alloc, entry)?;
+        self.count(entries);
         Ok(())
     }
 }

@@ -3,9 +3,11 @@
 ghost use Rattle.std.specs.Prelude.{◌≡◌};
 ghost use Rattle.reactor_journal.specs.Past as P;
 ghost use Rattle.reactor_journal.specs.Follow as F;
+ghost use Rattle.journal_check.specs.Lanes as L;
 
 use ev_types::{Kind, Mask, Upcall};
 use reactor_journal::Entry;
+use reactor_summary::WaitingEvent;
 
 /// Whether the mask has the kind.
 pub fn has_kind(mask: Mask, kind: Kind) -> bool
@@ -42,16 +44,11 @@ pub fn class_of(upcall: Upcall) -> usize
     }
 }
 
-/// Whether the upcall asks for a kind of report that the mask lacks.
-pub fn is_without(mask: Mask, upcall: Upcall) -> bool
-    ensures { result ≡ P.is_without mask upcall }
+/// The queue of an event: five for each handle, one for each class.
+pub fn lane_of(event: &WaitingEvent) -> u128
+    ensures { result ≡ L.lane_of event.now }
 {
-    match upcall {
-        Upcall::Input => !mask.read,
-        Upcall::Output => !mask.write,
-        Upcall::Except => !mask.except,
-        _ => false,
-    }
+    event.handle.0 as u128 * 5 + class_of(event.upcall) as u128
 }
 
 /// Whether the upcall is a timeout of the timer.

@@ -1,0 +1,10 @@
+use Rattle.std.proofs.Common.{map, take}
+use Rattle.std.specs.List.{list_any}
+use Rattle.std.specs.VecDeque.{deque_items}
+use Rattle.reactor_summary.specs.Summary.{Summary}
+use Rattle.journal_check.specs.Lanes.{HasLanes, IsSound}
+use Rattle.journal_check.proofs.Best.{Picks, admits}
+use Rattle.journal_check.proofs.queues.pick.Given as goal
+
+abbrev pub invariant-loop-h : goal.invariant-loop-h
+invariant-loop-h l = (s : Summary) → HasLanes (map deque_items l.queues) s.waiting → (sound : IsSound s) → Picks sound.event sound.bound (λ w. list_any (admits l.opens w) (take l.h-index l.handles)) 0 l.best
