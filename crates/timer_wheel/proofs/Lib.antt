@@ -1,0 +1,8 @@
+pub mod Walks
+pub mod Links
+pub mod Spokes
+pub mod Changes
+pub mod Steps
+pub mod Swaps
+pub mod Contents
+pub mod Firsts

@@ -1,0 +1,3 @@
+pub mod Spokes
+pub mod Content
+pub mod Chains

@@ -1,0 +1,165 @@
+//! The timer wheel.
+ghost use Rattle.std.specs.Prelude.{◌≡◌, ◌≤◌, ◌<◌, ℕ, [], IfOk, length, slice_index_or, None, Contains, ◌∷◌, vec_capacity};
+ghost use Rattle.std.specs.List.Sorted.{IsPermutation};
+ghost use Rattle.timer_queue.specs.Timers.{in_order};
+ghost use Rattle.timer_wheel.specs.Chains.{IsWheel};
+ghost use Rattle.timer_wheel.specs.Spokes.{timers_of, of_spoke, Follows};
+
+use crate::Place;
+use crate::chain::{add, no_heads, take_out};
+use crate::first::{earlier, find_first, is_behind};
+use ev_types::{Handle, NoMemory};
+use std::alloc::Global;
+use std::marker::Model;
+use timer_queue::{Timer, TimerQueue};
+
+/// A timer queue that is a wheel of `SPOKES` chains. A timer stands in the spoke of its tick, which is its
+/// deadline by the resolution.
+#[derive(Drop)]
+pub struct WheelTimers<const SPOKES: usize> {
+    // The first place of each spoke.
+    heads: Vec<Option<usize>>,
+    // The timers that are scheduled. Each is in the chain of its spoke.
+    places: Vec<Place>,
+    // The milliseconds of a tick.
+    resolution: u64,
+    // The timer that comes due first.
+    first: Option<Timer>,
+}
+
+impl<const SPOKES: usize> Model for WheelTimers<SPOKES> {
+    ghost use Rattle.std.specs.Prelude.{◌-◌, vec_len, vec_capacity};
+    ghost use Rattle.timer_wheel.specs.Content.{Content};
+    ghost use Rattle.timer_wheel.specs.Chains.{IsWheel};
+
+    ghost Value = { Content };
+
+    ghost view = { λ w. record { heads = w.heads.items; places = w.places.items; resolution = w.resolution; spare = vec_capacity w.places - vec_len w.places } };
+
+    ghost invariant = { λ w. IsWheel SPOKES w.resolution w.heads.items w.places.items w.first };
+}
+
+impl<const SPOKES: usize> WheelTimers<SPOKES> {
+    /// An empty timer wheel of 1 to 4,096 spokes and at least 1 millisecond a tick. It holds the memory of its
+    /// heads alone.
+    pub fn new(alloc: Global, resolution: u64) -> Result<WheelTimers<SPOKES>, NoMemory>
+        requires spokes { 1 ≤ SPOKES }
+        requires most { SPOKES ≤ 4096 }
+        requires ticks { 1 ≤ resolution }
+        ensures places { IfOk result (λ w. w.places ≡ []) }
+        ensures ticks { IfOk result (λ w. w.resolution ≡ resolution) }
+    {
+        let heads = no_heads(alloc, SPOKES)?;
+        Ok(WheelTimers {
+            heads,
+            places: Vec::new(alloc),
+            resolution,
+            first: None,
+        })
+    }
+
+    /// Lends the first place of each spoke's chain. The chain along `next` has the timers of the spoke, in
+    /// order of (deadline, timer).
+    pub fn heads(&self) -> &[Option<usize>]
+        ensures heads { result.now ≡ self.now.heads }
+        ensures spokes { length result.now ≡ SPOKES }
+        ensures chains { (spoke : ℕ) → spoke < SPOKES → Follows self.now.places (slice_index_or result.now spoke None) (of_spoke SPOKES self.now.resolution spoke (in_order (timers_of self.now.places))) }
+    {
+        &self.heads
+    }
+
+    /// Lends the places.
+    pub fn places(&self) -> &[Place]
+        ensures { result.now ≡ self.now.places }
+    {
+        &self.places
+    }
+}
+
+impl<const SPOKES: usize> TimerQueue for WheelTimers<SPOKES> {
+    ghost timers = { λ w. in_order (timers_of w.places) };
+
+    ghost spare = { λ w. w.spare };
+
+    fn reserve(&mut self, n: usize) -> Result<(), NoMemory> {
+        self.places.reserve(n)?;
+        Ok(())
+    }
+
+    fn schedule(&mut self, t: Timer) {
+        add(&mut self.heads, &mut self.places, self.resolution, t);
+        self.first = earlier(self.first, t);
+    }
+
+    fn cancel(&mut self, timer: u64) -> bool {
+        let Some(place) = self.places.iter().position(|p| p.timer.timer == timer) else {
+            return false;
+        };
+        let t = self.places[place].timer;
+        remove(
+            &mut self.heads,
+            &mut self.places,
+            &mut self.first,
+            self.resolution,
+            t,
+        );
+        true
+    }
+
+    fn cancel_all(&mut self, handle: Handle) {
+        while let Some(place) = self
+            .places
+            .iter()
+            .position(|p| p.timer.handle.0 == handle.0)
+        {
+            let t = self.places[place].timer;
+            remove(
+                &mut self.heads,
+                &mut self.places,
+                &mut self.first,
+                self.resolution,
+                t,
+            );
+        }
+    }
+
+    fn earliest(&self) -> Option<u64> {
+        self.first.map(|t| t.deadline)
+    }
+
+    fn pop_due(&mut self, now: u64) -> Option<Timer> {
+        let t = self.first?;
+        if now < t.deadline {
+            return None;
+        }
+        remove(
+            &mut self.heads,
+            &mut self.places,
+            &mut self.first,
+            self.resolution,
+            t,
+        );
+        Some(t)
+    }
+}
+
+// Takes a timer out, and looks for the first anew where it was the first.
+fn remove(
+    heads: &mut Vec<Option<usize>>,
+    places: &mut Vec<Place>,
+    first: &mut Option<Timer>,
+    resolution: u64,
+    t: Timer,
+)
+    requires wheel { IsWheel (length heads.old.items) resolution heads.old.items places.old.items first.old }
+    requires there { Contains (timers_of places.old.items) t }
+    ensures wheel { IsWheel (length heads.old.items) resolution heads.new.items places.new.items first.new }
+    ensures timers { IsPermutation (timers_of places.old.items) (t ∷ timers_of places.new.items) }
+    ensures capacity { vec_capacity places.new ≡ vec_capacity places.old }
+{
+    take_out(heads, places, resolution, t);
+    if is_behind(first, &t) {
+        return;
+    }
+    *first = find_first(heads, places, resolution);
+}
