@@ -26,8 +26,15 @@ static void put(const char *text, size_t n) {
 
 static void put_number(int64_t n) {
     char digits[24];
-    put(digits, (size_t)sprintf(digits, "%lld", (long long)n));
+    char *front = digits + sizeof digits;
+    uint64_t rest = n < 0 ? 0 - (uint64_t)n : (uint64_t)n;
+    do *--front = (char)('0' + rest % 10);
+    while (rest /= 10);
+    if (n < 0) *--front = '-';
+    put(front, (size_t)(digits + sizeof digits - front));
 }
+
+static int is_plain(unsigned char b) { return b >= 0x20 && b <= 0x7e && b != '\\'; }
 
 static const char *name_of(int32_t kind) {
     static const char *names[] = {"LM_SHUTDOWN", "LM_TRACE", "LM_DEBUG", "LM_INFO", "LM_NOTICE", "LM_WARNING",
@@ -50,12 +57,17 @@ static void put_record(const unsigned char *p, int little) {
     if (name_of(kind)) put(name_of(kind), strlen(name_of(kind)));
     else put_number(kind);
     put(": ", 2);
-    for (uint32_t i = 0; i < m && p[28 + i]; i++) {
-        unsigned char b = p[28 + i];
-        char escape[5];
-        if (b >= 0x20 && b <= 0x7e && b != '\\') put((char *)&b, 1);
-        else if (b == '\\') put("\\\\", 2);
-        else { sprintf(escape, "\\x%02x", b); put(escape, 4); }
+    for (uint32_t i = 0; i < m && p[28 + i];) {
+        uint32_t run = i;
+        while (run < m && is_plain(p[28 + run])) run++;
+        put((const char *)p + 28 + i, run - i);
+        i = run;
+        if (i < m && p[28 + i]) {
+            char escape[5];
+            if (p[28 + i] == '\\') put("\\\\", 2);
+            else { sprintf(escape, "\\x%02x", p[28 + i]); put(escape, 4); }
+            i++;
+        }
     }
     put("\n", 1);
 }
