@@ -1,0 +1,14 @@
+//! Laws of every legal journal. Each function has an empty body: what it says is its contract, over the
+//! definitions alone.
+
+ghost use Rattle.reactor_turns.specs.Laws.{NoCloseWhileAlive, ClosesLast};
+
+/// While a handle is alive its handler has never answered Close.
+pub fn no_close_while_alive<N>()
+    ensures { NoCloseWhileAlive N }
+{}
+
+/// Where a handler ended its own life, Close is the last answer that it gave.
+pub fn closed_itself_last<N>()
+    ensures { ClosesLast N }
+{}
