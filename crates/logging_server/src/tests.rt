@@ -221,18 +221,39 @@ fn long_input_stops_at_its_limit(rt: HostRuntime) -> Result<(), Fail> {
     Ok(())
 }
 
+/// A header with the fields of a record, and 65,536 bytes of a message, as two pieces.
+fn long_record(alloc: Global, header: &[u8]) -> Result<Vec<Vec<u8>>, Fail> {
+    let mut pieces = Vec::new(alloc);
+    pieces.push(Vec::from_slice(alloc, header)?)?;
+    pieces.push(vec![in alloc; b'a'; 65_536]?)?;
+    Ok(pieces)
+}
+
+/// Runs `one` on pieces that never fail.
+fn run_owned(alloc: Global, pieces: Vec<Vec<u8>>) -> Result<Outcome, Fail> {
+    let words = [String::from_str(alloc, "one")?];
+    let input = MemSource::new(pieces, Vec::new(alloc));
+    let served = logd_main(alloc, &words, input, room(alloc, None)?);
+    Ok(Outcome {
+        output: served.output,
+        status: served.status,
+        at: served.at,
+    })
+}
+
 #[test]
 fn the_longest_message_fits(rt: HostRuntime) -> Result<(), Fail> {
     let alloc = rt.alloc();
     let header = b"\0\0\0\0\0\x01\0\x14\0\0\0\x04\0\0\0\x07\0\0\0\x01\0\0\0\x02\0\x01\0\0";
-    let message = vec![in alloc; b'a'; 65_536]?;
-    let outcome = run(alloc, &[header, message.as_slice()], &[], None)?;
+    let outcome = run_owned(alloc, long_record(alloc, header)?)?;
     let mut lines = Vec::from_slice(alloc, b"0 1,2 7 LM_DEBUG: ")?;
-    lines.extend_from_slice(&message)?;
+    for _ in 0..65_536 {
+        lines.push(b'a')?;
+    }
     lines.extend_from_slice(b"\n0 closed: end\n")?;
     assert_eq!(rt; outcome.output.bytes(), lines.as_slice());
     let longer = b"\0\0\0\0\0\x01\0\x14\0\0\0\x04\0\0\0\x07\0\0\0\x01\0\0\0\x02\0\x01\0\x01";
-    let refused = run(alloc, &[longer, message.as_slice()], &[], None)?;
+    let refused = run_owned(alloc, long_record(alloc, longer)?)?;
     assert_eq!(rt;
         refused.output.bytes(),
         b"0 closed: malformed 0\n".as_slice()
@@ -241,24 +262,24 @@ fn the_longest_message_fits(rt: HostRuntime) -> Result<(), Fail> {
     Ok(())
 }
 
+/// Runs other words, and gives the status and how much was written.
+fn run_words(alloc: Global, words: &[&str]) -> Result<(u8, usize), Fail> {
+    let mut owned = Vec::new(alloc);
+    for word in words {
+        owned.push(String::from_str(alloc, word)?)?;
+    }
+    let input = MemSource::new(Vec::new(alloc), Vec::new(alloc));
+    let served = logd_main(alloc, &owned, input, room(alloc, None)?);
+    Ok((served.status, served.output.bytes().len()))
+}
+
 #[test]
 fn other_words_are_refused(rt: HostRuntime) -> Result<(), Fail> {
     let alloc = rt.alloc();
-    for words in [
-        [].as_slice(),
-        ["one", "x"].as_slice(),
-        ["two"].as_slice(),
-        ["One"].as_slice(),
-    ] {
-        let mut owned = Vec::new(alloc);
-        for word in words {
-            owned.push(String::from_str(alloc, word)?)?;
-        }
-        let input = MemSource::new(Vec::new(alloc), Vec::new(alloc));
-        let served = logd_main(alloc, &owned, input, room(alloc, None)?);
-        assert_eq!(rt; served.status, 1);
-        assert_eq!(rt; served.output.bytes(), [].as_slice());
-    }
+    assert_eq!(rt; run_words(alloc, &[])?, (1, 0));
+    assert_eq!(rt; run_words(alloc, &["one", "x"])?, (1, 0));
+    assert_eq!(rt; run_words(alloc, &["two"])?, (1, 0));
+    assert_eq!(rt; run_words(alloc, &["One"])?, (1, 0));
     let line = format!(in alloc; "{}{}", crate::fault_line(1, 0), crate::fault_line(11, 9))?;
     assert_eq!(rt; line.as_str(), "logd: usage\nlogd: input over 9\n");
     Ok(())
