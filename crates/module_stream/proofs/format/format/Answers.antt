@@ -1,0 +1,18 @@
+use Rattle.std.proofs.Common.{◌≡◌, ◌∙◌, ℕ, sym, ap, subst, IfOk}
+use Rattle.message_block.specs.Messages.{MessageState}
+use Rattle.module_stream.specs.Tasks.{formatted, text_or, text_message}
+use Rattle.module_stream.proofs.format.format.Goals as goal
+
+-- the message is a record
+pub returns-in-Some : goal.returns-in-Some
+unfolding formatted
+returns-in-Some c =
+    let is : text_message c.priority.result c.in-Some.entry ≡ formatted c.args.message =
+    ap (λ (p : ℕ). text_message p c.in-Some.entry) c.priority.ensures
+    ∙ ap (text_or c.args.message) (sym c.in-Some.is ∙ c.in_ok-entry.ensures) in
+    subst (λ (m : MessageState). IfOk c.text_as_message.result (λ text. text ≡ m)) is c.text_as_message.ensures
+
+-- it is none
+pub returns-in-None : goal.returns-in-None
+unfolding formatted
+returns-in-None c = ap (text_or c.args.message) (sym c.in-None.is ∙ c.in_ok-entry.ensures)

@@ -1,0 +1,4 @@
+pub mod Composition
+pub mod Tasks
+pub mod Streams
+pub mod Laws

@@ -1,0 +1,25 @@
+//! Streams of modules: each module has a task for the messages that go from the head to the tail, and one for those that go
+//! from the tail to the head (C++NPv2 chapter 9, `ACE_Stream`, `ACE_Module` and `ACE_Task`). A stream keeps the tasks that its
+//! callers make. This crate has three: one that makes the text of a log record, one that ends a message with a line feed, and
+//! one that passes messages on.
+#![tactic(auto)]
+
+mod format;
+mod laws;
+mod messages;
+mod pass;
+mod row;
+mod separate;
+mod stream;
+mod task;
+#[cfg(test)]
+mod tests;
+mod text;
+
+pub use format::FormatTask;
+pub use laws::formats_what_spells_a_record;
+pub use messages::Messages;
+pub use pass::PassTask;
+pub use separate::SeparateTask;
+pub use stream::{Module, PushRefused, Stream, StreamRefused};
+pub use task::Task;

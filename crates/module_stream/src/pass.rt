@@ -1,0 +1,33 @@
+//! The task that passes messages on.
+ghost use Rattle.std.specs.Prelude.{◌≡◌};
+
+use crate::messages::Messages;
+use crate::task::{Task, one};
+use ev_types::NoMemory;
+use message_block::Message;
+use std::alloc::Global;
+
+/// A task that gives each message as it was put.
+#[derive(Drop)]
+pub struct PassTask {
+    alloc: Global,
+}
+
+impl PassTask {
+    /// The task. It takes no memory.
+    pub fn new(alloc: Global) -> PassTask {
+        PassTask { alloc }
+    }
+}
+
+impl Task for PassTask {
+    ghost gives = { λ _ messages. messages };
+
+    fn put(&mut self, m: Message) -> Result<Messages, NoMemory> {
+        one(self.alloc, m)
+    }
+
+    fn finish(&mut self) -> Result<Messages, NoMemory> {
+        Ok(Messages::new(Vec::new(self.alloc)))
+    }
+}

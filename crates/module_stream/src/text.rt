@@ -1,0 +1,81 @@
+//! Texts of records as messages.
+ghost use Rattle.std.specs.Prelude.{◌≡◌, ◌≤◌, ◌<◌, ◌++◌, ℕ, Some, IfOk, length};
+ghost use Rattle.log_lines.specs.Texts.{record_text};
+ghost use Rattle.module_stream.specs.Tasks.{block_of, text_message};
+
+use cdr_record::LogRecord;
+use ev_base::{Sink, Wrote};
+use ev_types::NoMemory;
+use log_lines::put_record_text;
+use message_block::{Block, Message};
+use sink_buffer::SinkBuffer;
+use std::alloc::Global;
+
+/// How many bytes a block has at most. The text of a record has fewer: a message of 65,536 bytes has at most four times as many
+/// in its text.
+const MOST_BYTES: usize = 1_048_576;
+
+/// A sink that gathers a text. It fails where there is no memory for it.
+#[derive(Drop)]
+struct TextSink {
+    text: Vec<u8>,
+    faults: u64,
+    ghost within: { length text.items ≤ 1048576 },
+}
+
+impl Sink for TextSink {
+    ghost facts = { λ s. record { faults = s.faults; text = Some s.text.items } };
+
+    fn write(&mut self, piece: &[u8]) -> Wrote {
+        if piece.len() <= MOST_BYTES - self.text.len()
+            && self.text.extend_from_slice(piece).is_ok()
+        {
+            return Wrote::Bytes(piece.len());
+        }
+        self.faults = self.faults.saturating_add(1);
+        Wrote::Failed
+    }
+}
+
+/// The text of a record.
+fn text_of(alloc: Global, entry: &LogRecord) -> Result<Vec<u8>, NoMemory>
+    ensures text { IfOk result (λ text. text.items ≡ record_text entry.now) }
+    ensures within { IfOk result (λ text. length text.items ≤ 1048576) }
+{
+    let mut out = SinkBuffer::new(TextSink {
+        text: Vec::new(alloc),
+        faults: 0,
+    });
+    put_record_text(&mut out, entry);
+    out.flush();
+    if out.is_broken() {
+        return Err(NoMemory);
+    }
+    Ok(out.into_output().text)
+}
+
+/// A block of these bytes, without space.
+pub(crate) fn full_block(alloc: Global, bytes: &[u8]) -> Result<Block, NoMemory>
+    requires { length bytes.now ≤ 1048576 }
+    ensures { IfOk result (λ block. block ≡ block_of bytes.now) }
+{
+    let mut block = Block::new(alloc, bytes.len())?;
+    block.write(bytes).unwrap();
+    Ok(block)
+}
+
+/// The text of a record as a message of one block.
+pub(crate) fn text_as_message(
+    alloc: Global,
+    entry: &LogRecord,
+    priority: u32,
+) -> Result<Message, NoMemory>
+    ensures { IfOk result (λ message. message ≡ text_message priority entry.now) }
+{
+    let text = text_of(alloc, entry)?;
+    let block = full_block(alloc, &text)?;
+    match Message::new(alloc, block, priority) {
+        Ok(message) => Ok(message),
+        Err((_, refused)) => Err(refused),
+    }
+}
