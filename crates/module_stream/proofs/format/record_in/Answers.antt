@@ -1,9 +1,7 @@
-use Rattle.std.proofs.Common.{◌≡◌, ◌∙◌, Bool, true, false, [], ◌++◌, length, sym, vec_len, arith}
+use Rattle.std.proofs.Common.{◌≡◌, ◌∙◌, [], length, sym, vec_len, arith}
 use Rattle.std.proofs.lemmas.Bool.{eqb-true, eqb-false, some_since}
 use Rattle.std.proofs.lemmas.List.{nil_from_length}
 use Rattle.std.proofs.lemmas.Grind.{common_steps}
-use Rattle.std.specs.Prelude.{is_some}
-use Rattle.std.specs.Option.{option_to_list}
 use Rattle.module_stream.proofs.Alone.{others_not_alone, is_alone}
 use Rattle.module_stream.proofs.format.record_in.Goals as goal
 
