@@ -1,0 +1,6 @@
+pub mod Lists
+pub mod Rising
+pub mod Edits
+pub mod Picked
+pub mod Owners
+pub mod Soundness

@@ -1,0 +1,4 @@
+pub mod Rises
+pub mod Tables
+pub mod Sound
+pub mod State

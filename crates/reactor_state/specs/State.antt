@@ -1,0 +1,79 @@
+-- What a reactor's state stands for, and how much room it has.
+use Rattle.std.specs.Prelude.{ℕ, zero, suc, ◌≡◌, ◌≤◌, ◌<◌, ◌+◌, ◌*◌, ◌^◌, Bool, if◌then◌else◌, List, length, map, slice_get, vec_capacity, Option, Some}
+use Rattle.reactor_journal.specs.declared.entry.Entry.{Entry}
+use Rattle.reactor_summary.specs.Summary.{Summary, step}
+use Rattle.timer_queue.specs.declared.timer.Timer.{Timer}
+use Rattle.reactor_state.specs.declared.places.Places.{Places}
+use Rattle.reactor_state.specs.declared.places.Pick.{Pick}
+use Rattle.reactor_state.specs.declared.state.ReactorState.{ReactorState}
+use Rattle.reactor_state.specs.Tables.{alive_count, queues, by_class, queue_of, capacities, HasRoom, HasArmed, HasTimerRoom}
+use Rattle.reactor_state.specs.Sound.{IsSound}
+
+-- the summary after an entry without a note
+abbrev pub after : Summary → Entry (Unit {0}) → Summary
+after s e = step s e
+
+-- no places
+abbrev pub no_places : Places
+no_places = record { handles = 0; timers = 0; timeouts = 0; events = 0; opens = 0 }
+
+-- the numbers of a summary, and how many of its handles are alive
+pub record Numbers : Type 0 where
+  pub entries : ℕ
+  pub moment : ℕ
+  pub opened : ℕ
+  pub closed : ℕ
+  pub scheduled : ℕ
+  pub refused : ℕ
+  pub ended : Bool
+  pub alive : ℕ
+
+abbrev pub numbers_in : Summary → Numbers
+numbers_in s = record { entries = s.entries; moment = s.moment; opened = s.opened; closed = s.closed; scheduled = s.scheduled; refused = s.refused; ended = s.ended; alive = alive_count s.handles }
+
+module _ {Q : Type 0} where
+  -- it can take so many more handles, timers, waiting timeouts, other waiting events (of each of the four other
+  -- classes) and open events without memory
+  pub record HasPlaces (spare : Q → ℕ) (need : Places) (state : ReactorState Q) : Type 0 where
+    pub handles : length state.handles.items + need.handles ≤ vec_capacity state.handles
+    pub timers : HasTimerRoom spare need.timers state.armed
+    pub waiting : HasRoom (capacities state.waiting) need.timeouts need.events (queues state.waiting)
+    pub opens : length state.opens.items + need.opens ≤ vec_capacity state.opens
+
+  -- its numbers
+  abbrev pub numbers_of : ReactorState Q → Numbers
+  numbers_of state = record { entries = state.entries; moment = state.moment; opened = state.opened; closed = state.closed; scheduled = state.scheduled; refused = state.refused; ended = state.ended; alive = state.alive }
+
+  -- it stands for the summary, which is one that a reactor reaches
+  pub record Shows (timers : Q → List Timer) (state : ReactorState Q) (s : Summary) : Type 0 where
+    pub numbers : numbers_of state ≡ numbers_in s
+    pub handles : state.handles.items ≡ s.handles
+    pub opens : state.opens.items ≡ s.opens
+    pub waiting : queues state.waiting ≡ by_class s.waiting
+    pub armed : HasArmed timers state.armed s.armed
+    pub sound : IsSound s
+
+  -- it stands for some summary with P
+  abbrev pub CanStep : (Q → List Timer) → ReactorState Q → (Summary → Type 0) → Type 0
+  CanStep timers state P = (s : Summary) × Shows timers state s × P s
+
+  -- for each summary with P that the old state stands for, the new one stands for the next
+  abbrev pub TakesTo : (Q → List Timer) → ReactorState Q → (Summary → Type 0) → (Summary → Summary) → ReactorState Q → Type 0
+  TakesTo timers old P next new = (s : Summary) → Shows timers old s → P s → Shows timers new (next s)
+
+  -- P holds of each summary that it stands for
+  abbrev pub Tells : (Q → List Timer) → ReactorState Q → (Summary → Type 0) → Type 0
+  Tells timers state P = (s : Summary) → Shows timers state s → P s
+
+  -- the pick stands where it says
+  abbrev pub IsPlaced : ReactorState Q → Pick → Type 0
+  IsPlaced state p = slice_get (queue_of p.event.upcall (queues state.waiting)) p.place ≡ Some p.event
+
+-- there is room in the numbers for one more entry
+abbrev pub HasNumber : Summary → Type 0
+HasNumber s = s.entries < 2 ^ 62
+
+-- how many places of the journal are owed: five for each open event, two for each alive handle, one for each other
+-- live one, and one while the reactor was not stopped
+abbrev pub owed : Summary → ℕ
+owed s = 5 * length s.opens + (alive_count s.handles + length s.handles) + (if s.ended then 0 else 1)

@@ -1,0 +1,146 @@
+//! The armed timers: a timer queue, and beside it the handle of each timer by its number.
+
+ghost use Rattle.std.specs.Prelude.{◌≡◌, ◌≤◌, ◌<◌, ◌+◌, ◌-◌, ◌==◌, ℕ, Bool, not, false, [], List, length, map, filter, vec_capacity, OnOk, IsOk, MatchOption, if◌then◌else◌};
+ghost use Rattle.std.specs.List.{list_any, HoldsAt, AllWithin};
+ghost use Rattle.timer_queue.specs.Timers.{is_scheduled};
+ghost use Rattle.reactor_journal.specs.Past.{count};
+ghost use Rattle.reactor_summary.specs.Summary as S;
+ghost use Rattle.reactor_summary.specs.declared.parts.ArmedTimer.{ArmedTimer};
+ghost use Rattle.reactor_state.specs.Rises.{RisesIn};
+ghost use Rattle.reactor_state.specs.Tables.{timer_of, armed_of, HasArmed, HasTimerRoom};
+
+use ev_types::{Handle, NoMemory};
+use std::alloc::Global;
+use timer_queue::{Timer, TimerQueue};
+
+/// An armed timer's number, and the handle whose event handler is called.
+#[derive(Clone, Copy)]
+pub struct Owner {
+    pub timer: u64,
+    pub handle: Handle,
+}
+
+/// The armed timers.
+pub struct Armed<Q> {
+    pub timers: Q,
+    // In rising order of the timers' numbers.
+    pub owners: Vec<Owner>,
+}
+
+/// The place of the first owner whose timer is not below this one.
+fn owner_from(owners: &[Owner], timer: u64) -> usize
+    ensures bound { result ≤ length owners.now }
+    ensures below { (hi : ℕ) → RisesIn timer_of 0 hi owners.now → AllWithin (λ o. o.timer < timer) owners.now 0 result }
+    ensures above { (hi : ℕ) → RisesIn timer_of 0 hi owners.now → AllWithin (λ o. timer ≤ o.timer) owners.now result (length owners.now) }
+{
+    owners.partition_point(|o| o.timer < timer)
+}
+
+/// The place of the timer's owner.
+fn owner_of(owners: &[Owner], timer: u64) -> Option<usize>
+    ensures { MatchOption result
+        ((hi : ℕ) → RisesIn timer_of 0 hi owners.now → list_any (λ o. o.timer == timer) owners.now ≡ false)
+        (λ place. (place < length owners.now) × HoldsAt (λ o. o.timer ≡ timer) owners.now place) }
+{
+    let place = owner_from(owners, timer);
+    if place < owners.len() && owners[place].timer == timer {
+        Some(place)
+    } else {
+        None
+    }
+}
+
+/// Adds an owner at its place.
+fn put(owners: &mut Vec<Owner>, owner: Owner)
+    requires { length owners.old.items < vec_capacity owners.old }
+    ensures rising { (hi : ℕ) → RisesIn timer_of 0 hi owners.old.items → owner.timer < hi → list_any (λ o. o.timer == owner.timer) owners.old.items ≡ false → RisesIn timer_of 0 hi owners.new.items }
+    ensures counts { (p : ℕ → ℕ → Bool) → count (λ o. p o.timer o.handle.0) owners.new.items ≡ count (λ o. p o.timer o.handle.0) owners.old.items + (if p owner.timer owner.handle.0 then 1 else 0) }
+    ensures len { length owners.new.items ≡ length owners.old.items + 1 }
+    ensures capacity { vec_capacity owners.new ≡ vec_capacity owners.old }
+{
+    let place = owner_from(owners, owner.timer);
+    match owners.insert(place, owner) {
+        Ok(()) => {}
+        Err(_) => unreachable!(),
+    }
+}
+
+/// Takes the timer's owner out.
+fn take_out(owners: &mut Vec<Owner>, timer: u64)
+    ensures items { (hi : ℕ) → RisesIn timer_of 0 hi owners.old.items → owners.new.items ≡ filter (λ o. not (timer == o.timer)) owners.old.items }
+    ensures len { length owners.new.items ≤ length owners.old.items }
+    ensures capacity { vec_capacity owners.new ≡ vec_capacity owners.old }
+{
+    if let Some(place) = owner_of(owners, timer) {
+        owners.remove(place);
+    }
+}
+
+/// Takes the owners of a handle out.
+fn take_all(owners: &mut Vec<Owner>, handle: Handle)
+    ensures items { owners.new.items ≡ filter (λ o. not (o.handle.0 == handle.0)) owners.old.items }
+    ensures len { length owners.new.items ≤ length owners.old.items }
+    ensures capacity { vec_capacity owners.new ≡ vec_capacity owners.old }
+{
+    owners.retain(|o| o.handle.0 != handle.0);
+}
+
+impl<Q: TimerQueue> Armed<Q> {
+    /// Those of a timer queue that has none. It takes no memory.
+    pub fn new(alloc: Global, timers: Q) -> Armed<Q>
+        requires { Q.timers timers ≡ [] }
+        ensures { HasArmed Q.timers result [] }
+    {
+        Armed {
+            timers,
+            owners: Vec::new(alloc),
+        }
+    }
+
+    /// Makes room for so many more.
+    pub fn reserve(&mut self, more: usize) -> Result<(), NoMemory>
+        ensures same { (armed : List ArmedTimer) → HasArmed Q.timers self.old armed → HasArmed Q.timers self.new armed }
+        ensures room { OnOk result (HasTimerRoom Q.spare more self.new) }
+        ensures kept { (n : ℕ) → HasTimerRoom Q.spare n self.old → HasTimerRoom Q.spare n self.new }
+        ensures at_once { HasTimerRoom Q.spare more self.old → IsOk result }
+    {
+        self.timers.reserve(more)?;
+        self.owners.reserve(more)?;
+        Ok(())
+    }
+
+    /// Arms a timer that is not armed.
+    pub fn arm(&mut self, t: Timer)
+        requires fresh { is_scheduled t.timer (Q.timers self.old.timers) ≡ false }
+        requires room { HasTimerRoom Q.spare 1 self.old }
+        ensures armed { (armed : List ArmedTimer) → HasArmed Q.timers self.old armed → HasArmed Q.timers self.new (S.with_timer (armed_of t) armed) }
+        ensures room { (n : ℕ) → HasTimerRoom Q.spare n self.old → HasTimerRoom Q.spare (n - 1) self.new }
+    {
+        self.timers.schedule(t);
+        put(
+            &mut self.owners,
+            Owner {
+                timer: t.timer,
+                handle: t.handle,
+            },
+        );
+    }
+
+    /// Takes a timer away.
+    pub fn disarm(&mut self, timer: u64)
+        ensures armed { (armed : List ArmedTimer) → HasArmed Q.timers self.old armed → HasArmed Q.timers self.new (S.without_timer timer armed) }
+        ensures room { (n : ℕ) → HasTimerRoom Q.spare n self.old → HasTimerRoom Q.spare n self.new }
+    {
+        self.timers.cancel(timer);
+        take_out(&mut self.owners, timer);
+    }
+
+    /// Takes the timers of a handle away.
+    pub fn disarm_all(&mut self, handle: Handle)
+        ensures armed { (armed : List ArmedTimer) → HasArmed Q.timers self.old armed → HasArmed Q.timers self.new (filter (λ a. not (a.handle.0 == handle.0)) armed) }
+        ensures room { (n : ℕ) → HasTimerRoom Q.spare n self.old → HasTimerRoom Q.spare n self.new }
+    {
+        self.timers.cancel_all(handle);
+        take_all(&mut self.owners, handle);
+    }
+}
