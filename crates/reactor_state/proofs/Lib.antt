@@ -4,3 +4,5 @@ pub mod Edits
 pub mod Picked
 pub mod Owners
 pub mod Soundness
+pub mod Queued
+pub mod Stepped

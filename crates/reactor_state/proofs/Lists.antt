@@ -193,3 +193,43 @@ count_dropped p q keeps (x ∷ xs) a turned h = step (q x) (keeps x) (turned x) 
         omega (arith, count_cons p x xs, count-filter_le p keeps xs, here)
     step false true t rest e = omega (arith, count_cons p x xs, count_cons p x (filter keeps xs), rest e)
     step false false t rest e = absurd (cc)
+
+-- a filter keeps no more than there are
+pub length-filter_le : {A : Type 0} (p : A → Bool) (xs : List A) → length (filter p xs) ≤ length xs
+length-filter_le p [] = omega arith
+length-filter_le p (x ∷ xs) = step (p x) (length-filter_le p xs)
+  where
+    step : (b : Bool) → length (filter p xs) ≤ length xs → length (cond b (x ∷ filter p xs) (filter p xs)) ≤ length (x ∷ xs)
+    step true rest = omega arith
+    step false rest = omega arith
+
+-- what passes among those that are kept
+pub any-filter : {A : Type 0} (p q : A → Bool) (xs : List A) → list_any q (filter p xs) ≡ list_any (λ x. q x && p x) xs
+any-filter p q [] = refl
+any-filter p q (x ∷ xs) = step (p x) (q x) (any-filter p q xs)
+  where
+    step : (b c : Bool) → list_any q (filter p xs) ≡ list_any (λ y. q y && p y) xs → list_any q (cond b (x ∷ filter p xs) (filter p xs)) ≡ ((q x && b) || list_any (λ y. q y && p y) xs)
+    step b c rest = both b
+      where
+        and_false : (d : Bool) → (d && false) ≡ false
+        and_false true = refl
+        and_false false = refl
+
+        and_true : (d : Bool) → (d && true) ≡ d
+        and_true true = refl
+        and_true false = refl
+
+        both : (b : Bool) → list_any q (cond b (x ∷ filter p xs) (filter p xs)) ≡ ((q x && b) || list_any (λ y. q y && p y) xs)
+        both true = ap (λ d. q x || d) rest ∙ ap (λ d. d || list_any (λ y. q y && p y) xs) (sym (and_true (q x)))
+        both false = rest ∙ ap (λ d. d || list_any (λ y. q y && p y) xs) (sym (and_false (q x)))
+
+-- two filters in either order
+pub filter_turned : {A : Type 0} (p q : A → Bool) (xs : List A) → filter p (filter q xs) ≡ filter q (filter p xs)
+filter_turned p q [] = refl
+filter_turned p q (x ∷ xs) = step (p x) (q x) refl refl (filter_turned p q xs)
+  where
+    step : (b c : Bool) → p x ≡ b → q x ≡ c → filter p (filter q xs) ≡ filter q (filter p xs) → filter p (cond c (x ∷ filter q xs) (filter q xs)) ≡ filter q (cond b (x ∷ filter p xs) (filter p xs))
+    step true true hp hq rest = cond-true (p x) (x ∷ filter p (filter q xs)) (filter p (filter q xs)) hp ∙ ap (λ ys. x ∷ ys) rest ∙ sym (cond-true (q x) (x ∷ filter q (filter p xs)) (filter q (filter p xs)) hq)
+    step true false hp hq rest = rest ∙ sym (cond-false (q x) (x ∷ filter q (filter p xs)) (filter q (filter p xs)) hq)
+    step false true hp hq rest = cond-false (p x) (x ∷ filter p (filter q xs)) (filter p (filter q xs)) hp ∙ rest
+    step false false hp hq rest = rest

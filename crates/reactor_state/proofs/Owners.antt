@@ -54,7 +54,7 @@ module _ {Q : Type 0} where
       → HasArmed timers new (S.with_timer (armed_of t) armed)
   armed_more timers old new armed t has fresh scheduled rising counts =
       let absent : list_any (λ (a : ArmedTimer). a.timer == t.timer) armed ≡ false =
-          sym (ap (list_any (λ (a : ArmedTimer). a.timer == t.timer)) has.timers_are) ∙ any-map (λ (a : ArmedTimer). a.timer == t.timer) armed_of (timers old.timers) ∙ fresh in
+      sym (ap (list_any (λ (a : ArmedTimer). a.timer == t.timer)) has.timers_are) ∙ any-map (λ (a : ArmedTimer). a.timer == t.timer) armed_of (timers old.timers) ∙ fresh in
       record {
         timers_are = ap (map armed_of) scheduled ∙ with_timer_map t (timers old.timers) ∙ ap (S.with_timer (armed_of t)) has.timers_are;
         owners = record {

@@ -173,9 +173,12 @@ module _ {A : Type 0} (key : A → ℕ) where
       let apart : key x ≢ key y = eqb-false (key x) (key y) other in
       (l, u, (omega arith, h.1, h.2))
   rises-insert lo hi (suc place) (x ∷ xs) y l u within h below above absent =
-      let less : key x < key y = below zero x (omega arith) (omega arith) in
-      (h.0, h.1, rises-insert (suc (key x)) hi place xs y (omega arith) u (omega arith) h.2 (λ k d m n. below (suc k) d (omega arith) (omega arith)) (λ k d m n. above (suc k) d (omega arith) (omega arith))
-          (or_parts (key x == key y) (list_any (λ z. key z == key y) xs) absent).1)
+      let less : key x < key y = below zero x (omega arith) (omega arith) in (
+        h.0,
+        h.1,
+        rises-insert (suc (key x)) hi place xs y (omega arith) u (omega arith) h.2 (λ k d m n. below (suc k) d (omega arith) (omega arith)) (λ k d m n. above (suc k) d (omega arith) (omega arith))
+            (or_parts (key x == key y) (list_any (λ z. key z == key y) xs) absent).1,
+      )
 
   pub rises_from : (low lo hi : ℕ) (xs : List A) → low ≤ lo → RisesIn key lo hi xs → RisesIn key low hi xs
   rises_from low lo hi [] l h = tt

@@ -1,7 +1,11 @@
 -- What a reactor's state stands for, and how much room it has.
-use Rattle.std.specs.Prelude.{ℕ, zero, suc, ◌≡◌, ◌≤◌, ◌<◌, ◌+◌, ◌*◌, ◌^◌, Bool, if◌then◌else◌, List, length, map, slice_get, vec_capacity, Option, Some}
+use Rattle.std.specs.Prelude.{ℕ, zero, suc, ◌≡◌, ◌≤◌, ◌<◌, ◌+◌, ◌*◌, ◌^◌, Bool, ◌++◌, if◌then◌else◌, List, length, map, slice_get, vec_capacity, Option, Some, option_map}
+use Rattle.ev_types.specs.declared.upcall.Handle.{Handle}
+use Rattle.ev_types.specs.declared.upcall.Answer.{Answer}
+use Rattle.ev_types.specs.declared.upcall.Answer.TheVariants.{Keep, Again, Close}
 use Rattle.reactor_journal.specs.declared.entry.Entry.{Entry}
-use Rattle.reactor_summary.specs.Summary.{Summary, step}
+use Rattle.reactor_summary.specs.declared.parts.OpenEvent.{OpenEvent}
+use Rattle.reactor_summary.specs.Summary.{Summary, step, with_end, of_handle, without_events_of, without_timers_of, waiting_again, event_of}
 use Rattle.timer_queue.specs.declared.timer.Timer.{Timer}
 use Rattle.reactor_state.specs.declared.places.Places.{Places}
 use Rattle.reactor_state.specs.declared.places.Pick.{Pick}
@@ -12,6 +16,16 @@ use Rattle.reactor_state.specs.Sound.{IsSound}
 -- the summary after an entry without a note
 abbrev pub after : Summary → Entry (Unit {0}) → Summary
 after s e = step s e
+
+-- the summary where the life of a handle ended, but for the entry that ended it
+abbrev pub without_handle : Handle → Summary → Summary
+without_handle handle s = record s { handles = map (with_end (of_handle handle)) s.handles; waiting = without_events_of (of_handle handle) s.waiting; armed = without_timers_of (of_handle handle) s.armed }
+
+-- the summary where an event was answered, but for the entry and the open events
+abbrev pub answered : Option OpenEvent → Answer → Summary → Summary
+answered found Keep s = s
+answered found Again s = record s { waiting = s.waiting ++ waiting_again s found }
+answered found Close s = record s { handles = map (with_end (option_map event_of found)) s.handles; waiting = without_events_of (option_map event_of found) s.waiting; armed = without_timers_of (option_map event_of found) s.armed }
 
 -- no places
 abbrev pub no_places : Places
@@ -44,13 +58,17 @@ module _ {Q : Type 0} where
   abbrev pub numbers_of : ReactorState Q → Numbers
   numbers_of state = record { entries = state.entries; moment = state.moment; opened = state.opened; closed = state.closed; scheduled = state.scheduled; refused = state.refused; ended = state.ended; alive = state.alive }
 
-  -- it stands for the summary, which is one that a reactor reaches
-  pub record Shows (timers : Q → List Timer) (state : ReactorState Q) (s : Summary) : Type 0 where
+  -- its tables have what the summary has
+  pub record HasTables (timers : Q → List Timer) (state : ReactorState Q) (s : Summary) : Type 0 where
     pub numbers : numbers_of state ≡ numbers_in s
     pub handles : state.handles.items ≡ s.handles
     pub opens : state.opens.items ≡ s.opens
     pub waiting : queues state.waiting ≡ by_class s.waiting
     pub armed : HasArmed timers state.armed s.armed
+
+  -- it stands for the summary, which is one that a reactor reaches
+  pub record Shows (timers : Q → List Timer) (state : ReactorState Q) (s : Summary) : Type 0 where
+    pub tables : HasTables timers state s
     pub sound : IsSound s
 
   -- it stands for some summary with P

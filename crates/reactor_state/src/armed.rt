@@ -1,15 +1,17 @@
 //! The armed timers: a timer queue, and beside it the handle of each timer by its number.
 
-ghost use Rattle.std.specs.Prelude.{◌≡◌, ◌≤◌, ◌<◌, ◌+◌, ◌-◌, ◌==◌, ℕ, Bool, not, false, [], List, length, map, filter, vec_capacity, OnOk, IsOk, MatchOption, if◌then◌else◌};
+ghost use Rattle.std.specs.Prelude.{◌≡◌, ◌≤◌, ◌<◌, ◌+◌, ◌-◌, ◌==◌, ◌^◌, ℕ, Bool, not, true, false, [], List, length, map, filter, vec_capacity, OnOk, IsOk, MatchOption, if◌then◌else◌};
 ghost use Rattle.std.specs.List.{list_any, HoldsAt, AllWithin};
 ghost use Rattle.timer_queue.specs.Timers.{is_scheduled};
-ghost use Rattle.reactor_journal.specs.Past.{count};
+ghost use Rattle.reactor_journal.specs.Past.{count, next_deadline};
 ghost use Rattle.reactor_summary.specs.Summary as S;
 ghost use Rattle.reactor_summary.specs.declared.parts.ArmedTimer.{ArmedTimer};
 ghost use Rattle.reactor_state.specs.Rises.{RisesIn};
+ghost use Rattle.reactor_state.specs.Sound.{IsReached, is_due_of};
 ghost use Rattle.reactor_state.specs.Tables.{timer_of, armed_of, HasArmed, HasTimerRoom};
 
 use ev_types::{Handle, NoMemory};
+use reactor_summary::DueTimer;
 use std::alloc::Global;
 use timer_queue::{Timer, TimerQueue};
 
@@ -85,6 +87,19 @@ fn take_all(owners: &mut Vec<Owner>, handle: Handle)
     owners.retain(|o| o.handle.0 != handle.0);
 }
 
+/// The least of deadline + every, deadline + 2 * every and so on that is above the moment.
+#[tactic(auto, using(crate::proofs::Soundness::next_within))]
+fn next_deadline(deadline: u64, every: u64, moment: u64) -> u64
+    requires periodic { 0 < every }
+    requires short { every ≤ 4294967295 }
+    requires reached { deadline ≤ moment }
+    requires moment { moment ≤ 2 ^ 62 }
+    ensures { result ≡ next_deadline deadline every moment }
+{
+    let steps = (moment - deadline) / every;
+    deadline + (steps + 1) * every
+}
+
 impl<Q: TimerQueue> Armed<Q> {
     /// Those of a timer queue that has none. It takes no memory.
     pub fn new(alloc: Global, timers: Q) -> Armed<Q>
@@ -124,6 +139,31 @@ impl<Q: TimerQueue> Armed<Q> {
                 handle: t.handle,
             },
         );
+    }
+
+    /// Arms a periodic timer that came due again, at the deadline of its row after the one that was reached.
+    pub fn arm_again(&mut self, moment: u64, handle: Handle, due: Option<DueTimer>)
+        requires moment { moment ≤ 2 ^ 62 }
+        requires reached { IsReached moment due }
+        requires fresh { (t : ℕ) → is_due_of t due ≡ true → is_scheduled t (Q.timers self.old.timers) ≡ false }
+        requires room { HasTimerRoom Q.spare 1 self.old }
+        ensures armed { (armed : List ArmedTimer) → HasArmed Q.timers self.old armed → HasArmed Q.timers self.new (S.with_next moment handle due armed) }
+        ensures room { (n : ℕ) → HasTimerRoom Q.spare n self.old → HasTimerRoom Q.spare (n - 1) self.new }
+    {
+        match due {
+            None => {}
+            Some(due) => {
+                if due.every != 0 {
+                    let deadline = next_deadline(due.deadline, due.every, moment);
+                    self.arm(Timer {
+                        deadline,
+                        timer: due.timer,
+                        handle,
+                        every: due.every,
+                    });
+                }
+            }
+        }
     }
 
     /// Takes a timer away.

@@ -8,6 +8,7 @@ mod handles;
 mod opens;
 mod places;
 mod state;
+mod steps;
 mod waiting;
 mod words;
 

@@ -3,7 +3,7 @@
 ghost use Rattle.std.specs.Prelude.{◌≡◌};
 ghost use Rattle.reactor_journal.specs.Past as P;
 
-use ev_types::{Kind, Upcall, Mask};
+use ev_types::{Kind, Mask, Upcall};
 
 /// Whether the mask has the kind.
 pub fn has_kind(mask: Mask, kind: Kind) -> bool

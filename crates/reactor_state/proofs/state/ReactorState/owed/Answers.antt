@@ -9,10 +9,10 @@ use Rattle.reactor_state.proofs.state.ReactorState.owed.Goals as goal
 pub returns : goal.returns
 returns g c s shows =
     let state = c.args.self.now in
-    let opens : c.deref.result.now ≡ s.opens = c.deref.ensures.value ∙ shows.opens in
-    let handles : c.deref-2.result.now ≡ s.handles = c.deref-2.ensures.value ∙ shows.handles in
-    let alive : state.alive ≡ alive_count s.handles = ap (λ (n : Numbers). n.alive) shows.numbers in
-    let ended : state.ended ≡ s.ended = ap (λ (n : Numbers). n.ended) shows.numbers in
+    let opens : c.deref.result.now ≡ s.opens = c.deref.ensures.value ∙ shows.tables.opens in
+    let handles : c.deref-2.result.now ≡ s.handles = c.deref-2.ensures.value ∙ shows.tables.handles in
+    let alive : state.alive ≡ alive_count s.handles = ap (λ (n : Numbers). n.alive) shows.tables.numbers in
+    let ended : state.ended ≡ s.ended = ap (λ (n : Numbers). n.ended) shows.tables.numbers in
     let few : state.alive ≤ length c.deref-2.result.now = omega (arith, count_le (λ (h : LiveHandle). h.alive) s.handles, ap length handles) in
     c.owed_of.ensures few
     ∙ ap (λ (os : List OpenEvent). 5 * length os + (state.alive + length c.deref-2.result.now) + cond state.ended 0 1) opens

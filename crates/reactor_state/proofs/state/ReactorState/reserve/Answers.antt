@@ -3,11 +3,13 @@ use Rattle.reactor_state.proofs.state.ReactorState.reserve.Goals as goal
 
 pub returns-in_err-reserve-2-clause-shows : goal.returns-in_err-reserve-2-clause-shows
 returns-in_err-reserve-2-clause-shows g c s shows = record {
-  numbers = shows.numbers;
-  handles = c.in_ok-reserve.ensures.items ∙ shows.handles;
-  opens = shows.opens;
-  waiting = shows.waiting;
-  armed = c.in_err-reserve-2.ensures.same s.armed shows.armed;
+  tables = record {
+    numbers = shows.tables.numbers;
+    handles = c.in_ok-reserve.ensures.items ∙ shows.tables.handles;
+    opens = shows.tables.opens;
+    waiting = shows.tables.waiting;
+    armed = c.in_err-reserve-2.ensures.same s.armed shows.tables.armed;
+  };
   sound = shows.sound;
 }
 
@@ -21,11 +23,13 @@ returns-in_err-reserve-2-clause-kept g c p has = record {
 
 pub returns-in_err-reserve-3-clause-shows : goal.returns-in_err-reserve-3-clause-shows
 returns-in_err-reserve-3-clause-shows g c s shows = record {
-  numbers = shows.numbers;
-  handles = c.in_ok-reserve.ensures.items ∙ shows.handles;
-  opens = shows.opens;
-  waiting = c.in_err-reserve-3.ensures.queues ∙ shows.waiting;
-  armed = c.in_ok-reserve-2.ensures.same s.armed shows.armed;
+  tables = record {
+    numbers = shows.tables.numbers;
+    handles = c.in_ok-reserve.ensures.items ∙ shows.tables.handles;
+    opens = shows.tables.opens;
+    waiting = c.in_err-reserve-3.ensures.queues ∙ shows.tables.waiting;
+    armed = c.in_ok-reserve-2.ensures.same s.armed shows.tables.armed;
+  };
   sound = shows.sound;
 }
 
@@ -39,11 +43,13 @@ returns-in_err-reserve-3-clause-kept g c p has = record {
 
 pub returns-in_err-reserve-4-clause-shows : goal.returns-in_err-reserve-4-clause-shows
 returns-in_err-reserve-4-clause-shows g c s shows = record {
-  numbers = shows.numbers;
-  handles = c.in_ok-reserve.ensures.items ∙ shows.handles;
-  opens = c.in_err-reserve-4.ensures.items ∙ shows.opens;
-  waiting = c.in_ok-reserve-3.ensures.queues ∙ shows.waiting;
-  armed = c.in_ok-reserve-2.ensures.same s.armed shows.armed;
+  tables = record {
+    numbers = shows.tables.numbers;
+    handles = c.in_ok-reserve.ensures.items ∙ shows.tables.handles;
+    opens = c.in_err-reserve-4.ensures.items ∙ shows.tables.opens;
+    waiting = c.in_ok-reserve-3.ensures.queues ∙ shows.tables.waiting;
+    armed = c.in_ok-reserve-2.ensures.same s.armed shows.tables.armed;
+  };
   sound = shows.sound;
 }
 
@@ -57,11 +63,13 @@ returns-in_err-reserve-4-clause-kept g c p has = record {
 
 pub returns-clause-shows : goal.returns-clause-shows
 returns-clause-shows g c s shows = record {
-  numbers = shows.numbers;
-  handles = c.in_ok-reserve.ensures.items ∙ shows.handles;
-  opens = c.in_ok-reserve-4.ensures.items ∙ shows.opens;
-  waiting = c.in_ok-reserve-3.ensures.queues ∙ shows.waiting;
-  armed = c.in_ok-reserve-2.ensures.same s.armed shows.armed;
+  tables = record {
+    numbers = shows.tables.numbers;
+    handles = c.in_ok-reserve.ensures.items ∙ shows.tables.handles;
+    opens = c.in_ok-reserve-4.ensures.items ∙ shows.tables.opens;
+    waiting = c.in_ok-reserve-3.ensures.queues ∙ shows.tables.waiting;
+    armed = c.in_ok-reserve-2.ensures.same s.armed shows.tables.armed;
+  };
   sound = shows.sound;
 }
 
@@ -72,4 +80,3 @@ returns-clause-kept g c p has = record {
   waiting = c.in_ok-reserve-3.ensures.kept p.timeouts p.events has.waiting;
   opens = omega (arith, has.opens, ap length c.in_ok-reserve-4.ensures.items, c.in_ok-reserve-4.ensures.capacity);
 }
-

@@ -1,0 +1,35 @@
+use Rattle.std.proofs.Common.{◌≡◌, ◌+◌, ◌-◌, ◌==◌, ℕ, suc, List, [], ◌∷◌, ◌++◌, Option, Bool, not, true, false, Some, None, length, map, refl, sym, ap, ◌∙◌, subst, arith}
+use Rattle.ev_types.specs.declared.upcall.Answer.TheVariants.{Keep, Again, Close}
+use Rattle.reactor_journal.specs.Past.{upcall_of}
+use Rattle.reactor_journal.specs.declared.entry.Entry.TheVariants.{Opened, Scheduled, Cancelled, Polled, Due, Ready, Posted, Stale, Started, Returned, Masked, Suspended, Resumed, Refused, Removed, Closed, Ended}
+use Rattle.reactor_summary.specs.declared.parts.LiveHandle.{LiveHandle}
+use Rattle.reactor_summary.specs.declared.parts.WaitingEvent.{WaitingEvent}
+use Rattle.reactor_summary.specs.Summary as S
+use Rattle.reactor_summary.specs.Summary.{Summary}
+use Rattle.reactor_state.specs.State.{Numbers, numbers_in, numbers_of, without_handle}
+use Rattle.reactor_state.specs.Tables.{alive_count, queues}
+use Rattle.reactor_state.proofs.Soundness.{sound_after}
+use Rattle.std.specs.List.{filter, find}
+use Rattle.std.specs.Option.{option_map}
+use Rattle.ev_types.specs.declared.upcall.Answer.{Answer}
+use Rattle.reactor_journal.specs.declared.entry.Entry.{Entry}
+use Rattle.reactor_summary.specs.declared.parts.OpenEvent.{OpenEvent}
+use Rattle.reactor_state.specs.State.{HasTables, Shows, answered}
+use Rattle.reactor_state.proofs.Stepped.{settled}
+use Rattle.reactor_state.proofs.state.ReactorState.settle.Goals as goal
+
+pub returns-clause-steps : goal.returns-clause-steps
+returns-clause-steps g c note s shows number =
+    let old = c.args.self.now in
+    let tables = shows.tables in
+    let found : c.find_open-found.result ≡ S.open_event s c.args.event = c.find_open-found.ensures ∙ ap (find (λ (o : OpenEvent). o.event == c.args.event)) (c.deref.ensures.value ∙ tables.opens) in
+    let entries : old.entries + 1 ≡ s.entries + 1 = ap (λ (n : Numbers). n.entries + 1) tables.numbers in
+    record {
+      tables = settled g.Q.TimerQueue.timers c.args.event (old.entries + 1) c.args.answer note s c.answered.new.self
+          (subst (λ (o : Option OpenEvent). HasTables g.Q.TimerQueue.timers c.answered.new.self (answered o c.args.answer (record s { opens = filter (λ (o : OpenEvent). not (c.args.event == o.event)) s.opens }))) found
+          (c.answered.ensures.tables (record s { opens = filter (λ (o : OpenEvent). not (c.args.event == o.event)) s.opens }) s.opened
+          (record { numbers = tables.numbers; handles = tables.handles; opens = c.settle.ensures.items ∙ ap (filter (λ (o : OpenEvent). not (c.args.event == o.event))) tables.opens; waiting = tables.waiting; armed = tables.armed })
+          shows.sound.handles))
+          entries;
+      sound = sound_after {N = g.row.N.Denot} (Returned c.args.event c.args.answer note) s number tt shows.sound;
+    }
