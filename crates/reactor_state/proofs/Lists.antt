@@ -126,6 +126,21 @@ count_found p q (x ∷ xs) a h t = step (q x) (λ e. count_found p q xs a e t) h
     step true rest e = let same : x ≡ a = cc in let here : one (p x) ≡ 1 = ap one (ap p same ∙ t) in omega (arith, count_cons p x xs, here)
     step false rest e = omega (arith, count_cons p x xs, rest e)
 
+-- whether what was found passes
+abbrev pub passes : {A : Type 0} → (A → Bool) → Option A → Bool
+passes q None = false
+passes q (Some a) = q a
+
+-- no more pass both tests
+pub count_both : {A : Type 0} (q r : A → Bool) (xs : List A) → count (λ x. q x && r x) xs ≤ count q xs
+count_both q r [] = omega arith
+count_both q r (x ∷ xs) = step (q x) (r x) (count_both q r xs)
+  where
+    step : (b d : Bool) → count (λ y. q y && r y) xs ≤ count q xs → cond (b && d) (suc (count (λ y. q y && r y) xs)) (count (λ y. q y && r y) xs) ≤ cond b (suc (count q xs)) (count q xs)
+    step true true rest = omega arith
+    step true false rest = omega arith
+    step false d rest = rest
+
 -- ---- edits
 
 -- a filter that all pass takes nothing
@@ -146,6 +161,10 @@ filter_place q (x ∷ xs) (suc p) out others l =
     ∙ ap (λ ys. x ∷ ys) (filter_place q xs p out (λ k d h ne. others (suc k) d (omega arith) (omega arith)) (omega arith))
 
 -- ---- searches from a place on
+
+pub find_agree : {A : Type 0} (p q : A → Bool) (xs : List A) → ((x : A) → p x ≡ q x) → find p xs ≡ find q xs
+find_agree p q [] h = refl
+find_agree p q (x ∷ xs) h = ap (λ b. cond b (Some x) (find p xs)) (h x) ∙ ap (λ o. cond (q x) (Some x) o) (find_agree p q xs h)
 
 find_same : {A : Type 0} (p q : A → Bool) (xs : List A) → AllWithin (λ x. p x ≡ q x) xs 0 (length xs) → find p xs ≡ find q xs
 find_same p q [] h = refl
@@ -233,3 +252,46 @@ filter_turned p q (x ∷ xs) = step (p x) (q x) refl refl (filter_turned p q xs)
     step true false hp hq rest = rest ∙ sym (cond-false (q x) (x ∷ filter q (filter p xs)) (filter q (filter p xs)) hq)
     step false true hp hq rest = cond-false (p x) (x ∷ filter p (filter q xs)) (filter p (filter q xs)) hp ∙ rest
     step false false hp hq rest = rest
+
+-- a filter of what passes all of it
+pub filter_every : {A : Type 0} (xs : List A) → filter (λ x. true) xs ≡ xs
+filter_every [] = refl
+filter_every (x ∷ xs) = ap (λ ys. x ∷ ys) (filter_every xs)
+
+-- a filter of what is kept asks what is kept alone
+pub filter_on : {A : Type 0} (p q r : A → Bool) (xs : List A) → ((x : A) → r x ≡ true → p x ≡ q x) → filter p (filter r xs) ≡ filter q (filter r xs)
+filter_on p q r [] h = refl
+filter_on p q r (x ∷ xs) h = step (r x) refl (filter_on p q r xs h)
+  where
+    step : (b : Bool) → r x ≡ b → filter p (filter r xs) ≡ filter q (filter r xs) → filter p (cond b (x ∷ filter r xs) (filter r xs)) ≡ filter q (cond b (x ∷ filter r xs) (filter r xs))
+    step true t rest = ap (λ b. cond b (x ∷ filter p (filter r xs)) (filter p (filter r xs))) (h x t) ∙ ap (λ ys. cond (q x) (x ∷ ys) ys) rest
+    step false f rest = rest
+
+pub filter_passed : {A : Type 0} (p r : A → Bool) (xs : List A) → ((x : A) → r x ≡ true → p x ≡ true) → filter p (filter r xs) ≡ filter r xs
+filter_passed p r xs h = filter_on p (λ x. true) r xs h ∙ filter_every (filter r xs)
+
+-- a filter of what none is takes nothing
+pub filter_none_of : {A : Type 0} (q : A → Bool) (xs : List A) → list_any q xs ≡ false → filter (λ x. not (q x)) xs ≡ xs
+filter_none_of q [] h = refl
+filter_none_of q (x ∷ xs) h =
+    let both : (q x ≡ false) × (list_any q xs ≡ false) = or_parts (q x) (list_any q xs) h in
+    cond-true (not (q x)) (x ∷ filter (λ y. not (q y)) xs) (filter (λ y. not (q y)) xs) (ap not both.0) ∙ ap (λ ys. x ∷ ys) (filter_none_of q xs both.1)
+
+-- an edit that the test does not see
+pub count_map : {A : Type 0} (p : A → Bool) (f : A → A) (xs : List A) → ((x : A) → p (f x) ≡ p x) → count p (map f xs) ≡ count p xs
+count_map p f [] h = refl
+count_map p f (x ∷ xs) h = ap (λ b. cond b (suc (count p (map f xs))) (count p (map f xs))) (h x) ∙ ap (λ n. cond (p x) (suc n) n) (count_map p f xs h)
+
+-- the one that is counted passes what is counted of both
+pub found_both : {A : Type 0} (q r : A → Bool) (xs : List A) → 1 ≤ count (λ x. q x && r x) xs → count q xs ≤ 1 → passes r (find q xs) ≡ true
+found_both q r [] h once = absurd (omega arith)
+found_both q r (x ∷ xs) h once = step (q x) refl (r x) refl (λ a b. found_both q r xs a b) h once
+  where
+    fewer : count (λ y. q y && r y) xs ≤ count q xs
+    fewer = count_both q r xs
+
+    step : (b : Bool) → q x ≡ b → (d : Bool) → r x ≡ d → (1 ≤ count (λ y. q y && r y) xs → count q xs ≤ 1 → passes r (find q xs) ≡ true)
+        → 1 ≤ cond (b && d) (suc (count (λ y. q y && r y) xs)) (count (λ y. q y && r y) xs) → cond b (suc (count q xs)) (count q xs) ≤ 1 → passes r (cond b (Some x) (find q xs)) ≡ true
+    step true t true u rest a c = u
+    step true t false u rest a c = absurd (omega (arith, fewer))
+    step false f d u rest a c = rest a c

@@ -16,7 +16,7 @@ use Rattle.reactor_state.specs.declared.places.Pick.{Pick}
 use Rattle.reactor_state.specs.Tables.{is_free, Queues, of_class, by_class, queue_of}
 
 -- a search of those that pass
-find-filter : {A : Type 0} (p q : A → Bool) (xs : List A) → find q (filter p xs) ≡ find (λ x. p x && q x) xs
+pub find-filter : {A : Type 0} (p q : A → Bool) (xs : List A) → find q (filter p xs) ≡ find (λ x. p x && q x) xs
 find-filter p q [] = refl
 find-filter p q (x ∷ xs) = step (p x) (find-filter p q xs)
   where

@@ -3,20 +3,22 @@ use Rattle.std.proofs.Common.{ℕ, zero, suc, ◌≡◌, ◌+◌, ◌-◌, ◌<�
 use Rattle.std.specs.Prelude.{slice_get}
 use Rattle.std.proofs.lemmas.Bool.{cond-true, cond-false, eqb-true}
 use Rattle.std.proofs.lemmas.List.{append-nil, length-append}
-use Rattle.std.proofs.lemmas.List.Elements.{filter-append}
+use Rattle.std.proofs.lemmas.List.Elements.{filter-append, filter_agree}
 use Rattle.std.proofs.lemmas.List.Edits.{length-remove}
 use Rattle.std.specs.List.{list_any, find, filter, remove}
+use Rattle.ev_types.specs.declared.upcall.Mask.{Mask}
 use Rattle.ev_types.specs.declared.upcall.Kind.{Kind}
 use Rattle.ev_types.specs.declared.upcall.Kind.TheVariants.{Read, Write, Except as ExceptKind}
 use Rattle.ev_types.specs.declared.upcall.Upcall.{Upcall}
 use Rattle.ev_types.specs.declared.upcall.Upcall.TheVariants.{Input, Output, Except, Timeout, Notice}
-use Rattle.reactor_journal.specs.Past.{class_of, upcall_of, count}
+use Rattle.reactor_journal.specs.Past.{class_of, upcall_of, is_timeout_of, is_without, count}
 use Rattle.reactor_summary.specs.declared.parts.WaitingEvent.{WaitingEvent}
 use Rattle.reactor_state.specs.Rises.{RisesIn}
 use Rattle.reactor_state.specs.Sound.{event_number}
-use Rattle.reactor_state.specs.Tables.{Queues, of_class, by_class, queue_of, with_queue, kept, Capacities, HasRoom, HasRoomFor}
-use Rattle.reactor_state.proofs.Lists.{filter_turned, any-filter, any_and, find_absent, length-filter_le}
-use Rattle.reactor_state.proofs.Rising.{passes, any_found, find_at, filter_at, filter_absent, rises-filter, none_below}
+use Rattle.reactor_state.specs.Tables.{Queues, of_class, by_class, queue_of, with_queue, kept, dropped, masked, Capacities, HasRoom, HasRoomFor}
+use Rattle.reactor_state.proofs.Lists.{passes, find_agree, filter_every, filter_on, filter_passed, filter_turned, any-filter, any_and, find_absent, length-filter_le}
+use Rattle.reactor_state.proofs.Picked.{find-filter}
+use Rattle.reactor_state.proofs.Rising.{any_found, find_at, filter_at, filter_absent, rises-filter, none_below}
 
 abbrev five : List WaitingEvent → List WaitingEvent → List WaitingEvent → List WaitingEvent → List WaitingEvent → Queues
 five t n o e i = record { timeouts = t; notices = n; outputs = o; excepts = e; inputs = i }
@@ -176,3 +178,116 @@ taken_room Input place c n m q l room = record { timeouts = room.timeouts; notic
 -- of what the calls made
 pub room_moved : (c c' : Capacities) (q q' : Queues) (n m : ℕ) → c' ≡ c → q' ≡ q → HasRoom c n m q → HasRoom c' n m q'
 room_moved c c' q q' n m hc hq room = subst (λ (d : Capacities). HasRoom d n m q') (sym hc) (subst (λ (r : Queues). HasRoom c n m r) (sym hq) room)
+
+-- ---- those of a timer, or of a mask, are dropped
+
+timeout_only : (u : Upcall) (t k : ℕ) → (class_of u == suc k) ≡ true → is_timeout_of t u ≡ false
+timeout_only (Timeout timer) t k h = let no : 0 ≡ suc k = eqb-true 0 (suc k) h in absurd (omega arith)
+timeout_only (Notice kind) t k h = refl
+timeout_only Output t k h = refl
+timeout_only Except t k h = refl
+timeout_only Input t k h = refl
+
+without_0 : (u : Upcall) (mask : Mask) → (class_of u == 0) ≡ true → is_without mask u ≡ false
+without_0 (Timeout timer) mask h = refl
+without_0 (Notice kind) mask h = refl
+without_0 Output mask h = absurd (cc)
+without_0 Except mask h = absurd (cc)
+without_0 Input mask h = absurd (cc)
+
+without_1 : (u : Upcall) (mask : Mask) → (class_of u == 1) ≡ true → is_without mask u ≡ false
+without_1 (Timeout timer) mask h = refl
+without_1 (Notice kind) mask h = refl
+without_1 Output mask h = absurd (cc)
+without_1 Except mask h = absurd (cc)
+without_1 Input mask h = absurd (cc)
+
+without_2 : (u : Upcall) (mask : Mask) → (class_of u == 2) ≡ true → is_without mask u ≡ not mask.write
+without_2 (Timeout timer) mask h = absurd (cc)
+without_2 (Notice kind) mask h = absurd (cc)
+without_2 Output mask h = refl
+without_2 Except mask h = absurd (cc)
+without_2 Input mask h = absurd (cc)
+
+without_3 : (u : Upcall) (mask : Mask) → (class_of u == 3) ≡ true → is_without mask u ≡ not mask.except
+without_3 (Timeout timer) mask h = absurd (cc)
+without_3 (Notice kind) mask h = absurd (cc)
+without_3 Output mask h = absurd (cc)
+without_3 Except mask h = refl
+without_3 Input mask h = absurd (cc)
+
+without_4 : (u : Upcall) (mask : Mask) → (class_of u == 4) ≡ true → is_without mask u ≡ not mask.read
+without_4 (Timeout timer) mask h = absurd (cc)
+without_4 (Notice kind) mask h = absurd (cc)
+without_4 Output mask h = absurd (cc)
+without_4 Except mask h = absurd (cc)
+without_4 Input mask h = refl
+
+-- a class that loses none
+unmoved : (k : ℕ) (p : WaitingEvent → Bool) (ws : List WaitingEvent) → ((w : WaitingEvent) → (class_of w.upcall == k) ≡ true → p w ≡ true) → of_class k ws ≡ of_class k (filter p ws)
+unmoved k p ws h = sym (filter_turned (λ (w : WaitingEvent). class_of w.upcall == k) p ws ∙ filter_passed p (λ (w : WaitingEvent). class_of w.upcall == k) ws h)
+
+pub cancelled_by_class : (t : ℕ) (ws : List WaitingEvent) → record (by_class ws) { timeouts = filter (λ (w : WaitingEvent). not (is_timeout_of t w.upcall)) (of_class 0 ws) } ≡ by_class (filter (λ (w : WaitingEvent). not (is_timeout_of t w.upcall)) ws)
+cancelled_by_class t ws = five_same (filter_turned (λ (w : WaitingEvent). not (is_timeout_of t w.upcall)) (λ (w : WaitingEvent). class_of w.upcall == 0) ws) (other 0) (other 1) (other 2) (other 3)
+  where
+    other : (k : ℕ) → of_class (suc k) ws ≡ of_class (suc k) (filter (λ (w : WaitingEvent). not (is_timeout_of t w.upcall)) ws)
+    other k = unmoved (suc k) (λ (w : WaitingEvent). not (is_timeout_of t w.upcall)) ws (λ w h. ap not (timeout_only w.upcall t k h))
+
+and_true : (b : Bool) → (b && true) ≡ b
+and_true true = refl
+and_true false = refl
+
+and_false : (b : Bool) → (b && false) ≡ false
+and_false true = refl
+and_false false = refl
+
+dropped_is : (b : Bool) (x : ℕ) (ws : List WaitingEvent) → dropped b x ws ≡ filter (λ (w : WaitingEvent). not (x == w.handle.0 && b)) ws
+dropped_is true x ws = filter_agree (λ (w : WaitingEvent). not (x == w.handle.0)) (λ (w : WaitingEvent). not (x == w.handle.0 && true)) (λ w. ap not (sym (and_true (x == w.handle.0)))) ws
+dropped_is false x ws = sym (filter_agree (λ (w : WaitingEvent). not (x == w.handle.0 && false)) (λ (w : WaitingEvent). true) (λ w. ap not (and_false (x == w.handle.0))) ws ∙ filter_every ws)
+
+pub masked_by_class : (x : ℕ) (mask : Mask) (ws : List WaitingEvent) → masked x mask (by_class ws) ≡ by_class (filter (λ (w : WaitingEvent). not (x == w.handle.0 && is_without mask w.upcall)) ws)
+masked_by_class x mask ws =
+    five_same (same 0 (λ w h. without_0 w.upcall mask h)) (same 1 (λ w h. without_1 w.upcall mask h))
+    (less 2 (not mask.write) (λ w h. without_2 w.upcall mask h)) (less 3 (not mask.except) (λ w h. without_3 w.upcall mask h)) (less 4 (not mask.read) (λ w h. without_4 w.upcall mask h))
+  where
+    same : (k : ℕ) → ((w : WaitingEvent) → (class_of w.upcall == k) ≡ true → is_without mask w.upcall ≡ false) → of_class k ws ≡ of_class k (filter (λ (w : WaitingEvent). not (x == w.handle.0 && is_without mask w.upcall)) ws)
+    same k h = unmoved k (λ (w : WaitingEvent). not (x == w.handle.0 && is_without mask w.upcall)) ws (λ w t. ap (λ b. not (x == w.handle.0 && b)) (h w t) ∙ ap not (and_false (x == w.handle.0)))
+
+    less : (k : ℕ) (b : Bool) → ((w : WaitingEvent) → (class_of w.upcall == k) ≡ true → is_without mask w.upcall ≡ b) → dropped b x (of_class k ws) ≡ of_class k (filter (λ (w : WaitingEvent). not (x == w.handle.0 && is_without mask w.upcall)) ws)
+    less k b h =
+        dropped_is b x (of_class k ws)
+        ∙ filter_on (λ (w : WaitingEvent). not (x == w.handle.0 && b)) (λ (w : WaitingEvent). not (x == w.handle.0 && is_without mask w.upcall)) (λ (w : WaitingEvent). class_of w.upcall == k) ws (λ w t. ap (λ d. not (x == w.handle.0 && d)) (sym (h w t)))
+        ∙ filter_turned (λ (w : WaitingEvent). not (x == w.handle.0 && is_without mask w.upcall)) (λ (w : WaitingEvent). class_of w.upcall == k) ws
+
+-- the first timeout of a timer is in the first queue
+pub timeout_in : (t : ℕ) (ws : List WaitingEvent) → find (λ (w : WaitingEvent). is_timeout_of t w.upcall) (of_class 0 ws) ≡ find (λ (w : WaitingEvent). is_timeout_of t w.upcall) ws
+timeout_in t ws = find-filter (λ (w : WaitingEvent). class_of w.upcall == 0) (λ (w : WaitingEvent). is_timeout_of t w.upcall) ws ∙ find_agree (λ (w : WaitingEvent). class_of w.upcall == 0 && is_timeout_of t w.upcall) (λ (w : WaitingEvent). is_timeout_of t w.upcall) ws (λ w. both w.upcall)
+  where
+    both : (u : Upcall) → (class_of u == 0 && is_timeout_of t u) ≡ is_timeout_of t u
+    both (Timeout timer) = refl
+    both (Notice kind) = refl
+    both Output = refl
+    both Except = refl
+    both Input = refl
+
+pub cancelled_room : (p : WaitingEvent → Bool) (c : Capacities) (n m : ℕ) (q : Queues) → HasRoom c n m q → HasRoom c n m (record q { timeouts = filter p q.timeouts })
+cancelled_room p c n m q room = record { timeouts = omega (arith, room.timeouts, length-filter_le p q.timeouts); notices = room.notices; outputs = room.outputs; excepts = room.excepts; inputs = room.inputs }
+
+dropped_le : (b : Bool) (x : ℕ) (ws : List WaitingEvent) → length (dropped b x ws) ≤ length ws
+dropped_le true x ws = length-filter_le (λ (w : WaitingEvent). not (x == w.handle.0)) ws
+dropped_le false x ws = omega arith
+
+pub masked_room : (x : ℕ) (mask : Mask) (c : Capacities) (n m : ℕ) (q : Queues) → HasRoom c n m q → HasRoom c n m (masked x mask q)
+masked_room x mask c n m q room = record {
+  timeouts = room.timeouts;
+  notices = room.notices;
+  outputs = omega (arith, room.outputs, dropped_le (not mask.write) x q.outputs);
+  excepts = omega (arith, room.excepts, dropped_le (not mask.except) x q.excepts);
+  inputs = omega (arith, room.inputs, dropped_le (not mask.read) x q.inputs);
+}
+
+pub less_room : (c : Capacities) (n m : ℕ) (q : Queues) → HasRoom c n m q → HasRoom c (n - 1) m q
+less_room c n m q room = record { timeouts = omega (arith, room.timeouts); notices = room.notices; outputs = room.outputs; excepts = room.excepts; inputs = room.inputs }
+
+pub timeout_room : (t : ℕ) (w : WaitingEvent) (c : Capacities) (n m : ℕ) (q : Queues) → HasRoom c n m q → HasRoomFor (Timeout t) c q → HasRoom c (n - 1) m (with_queue (Timeout t) (q.timeouts ++ w ∷ []) q)
+timeout_room t w c n m q room one = record { timeouts = omega (arith, one_longer w q.timeouts, room.timeouts); notices = room.notices; outputs = room.outputs; excepts = room.excepts; inputs = room.inputs }

@@ -7,12 +7,7 @@ use Rattle.std.specs.Prelude.{nat_lt}
 use Rattle.std.specs.List.{find, list_any, filter, insert, remove, All, AllWithin, HoldsAt}
 use Rattle.std.specs.List.Sorted.{IsPartitionedBy}
 use Rattle.reactor_state.specs.Rises.{RisesIn}
-use Rattle.reactor_state.proofs.Lists.{find_absent, any_and, filter_place}
-
--- whether what was found passes
-abbrev pub passes : {A : Type 0} → (A → Bool) → Option A → Bool
-passes q None = false
-passes q (Some a) = q a
+use Rattle.reactor_state.proofs.Lists.{passes, find_absent, any_and, filter_place}
 
 module _ {A : Type 0} (key : A → ℕ) where
   -- each number is at least the least

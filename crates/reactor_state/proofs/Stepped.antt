@@ -3,6 +3,7 @@ use Rattle.std.proofs.Common.{ℕ, suc, ◌≡◌, ◌+◌, ◌-◌, ◌<◌, �
 use Rattle.std.specs.Prelude.{slice_get}
 use Rattle.std.proofs.lemmas.List.{append-nil}
 use Rattle.std.specs.List.{list_any, find, filter, remove}
+use Rattle.ev_types.specs.declared.upcall.Mask.{Mask}
 use Rattle.ev_types.specs.declared.upcall.Handle.{Handle}
 use Rattle.ev_types.specs.declared.upcall.Answer.{Answer}
 use Rattle.ev_types.specs.declared.upcall.Answer.TheVariants.{Keep, Again, Close}
@@ -22,9 +23,9 @@ use Rattle.timer_queue.specs.Timers as T
 use Rattle.reactor_state.specs.declared.state.ReactorState.{ReactorState}
 use Rattle.reactor_state.specs.Rises.{RisesIn}
 use Rattle.reactor_state.specs.Sound.{event_number, is_due_of, times, IsReached, IsSound}
-use Rattle.reactor_state.specs.Tables.{alive_count, armed_of, Queues, queues, by_class, queue_of, with_queue, with_event, kept, HasArmed}
+use Rattle.reactor_state.specs.Tables.{alive_count, IsOnce, armed_of, Queues, queues, by_class, queue_of, with_queue, with_event, kept, HasArmed}
 use Rattle.reactor_state.specs.State.{Numbers, numbers_in, numbers_of, HasTables, Shows, answered, without_handle}
-use Rattle.reactor_state.proofs.Lists.{one, count_cons, count-append, count_found, count_none, count_le, found_each}
+use Rattle.reactor_state.proofs.Lists.{one, count_map, count_cons, count-append, count_found, count_none, count_le, found_each}
 use Rattle.reactor_state.proofs.Queued.{pushed_by_class, found_by_class, taken_by_class, kept_by_class}
 
 -- one entry more
@@ -67,6 +68,21 @@ event_found place hi w q ws is rising placed = found_by_class w.upcall hi place 
 -- an event is started
 abbrev pub started : Option WaitingEvent → ℕ → Summary → Summary
 started o event s = record s { waiting = filter (λ (v : WaitingEvent). not (event == v.event)) s.waiting; opens = s.opens ++ S.opens_from s.moment o; armed = S.with_started s.moment o s.armed }
+
+-- a mask, or a suspension, leaves alive what is
+either_alive : (b : Bool) (g h : LiveHandle) → g.alive ≡ h.alive → (let k : LiveHandle = cond b g h in k.alive) ≡ h.alive
+either_alive true g h e = e
+either_alive false g h e = refl
+
+pub masked_alive : (x : ℕ) (mask : Mask) (hs : List LiveHandle) → alive_count (map (S.with_mask x mask) hs) ≡ alive_count hs
+masked_alive x mask hs = count_map (λ (h : LiveHandle). h.alive) (S.with_mask x mask) hs (λ h. either_alive (x == h.handle.0) (record h { mask = mask }) h refl)
+
+pub suspended_alive : (x : ℕ) (suspended : Bool) (hs : List LiveHandle) → alive_count (map (S.with_suspended x suspended) hs) ≡ alive_count hs
+suspended_alive x suspended hs = count_map (λ (h : LiveHandle). h.alive) (S.with_suspended x suspended) hs (λ h. either_alive (x == h.handle.0) (record h { suspended = suspended }) h refl)
+
+-- no timer is armed twice
+pub armed_once : (s : Summary) → IsSound s → IsOnce s.armed
+armed_once s sound n = omega (arith, sound.once n)
 
 map_none : (hs : List LiveHandle) → map (S.with_end None) hs ≡ hs
 map_none [] = refl
@@ -151,3 +167,11 @@ module _ {Q : Type 0} where
 
   pub none_answered : (timers : Q → List Timer) (state : ReactorState Q) (found : Option OpenEvent) (answer : Answer) (s : Summary) → found ≡ None → HasTables timers state s → HasTables timers state (answered found answer s)
   none_answered timers state found answer s h tables = subst (λ (o : Option OpenEvent). HasTables timers state (answered o answer s)) (sym h) (subst (HasTables timers state) (sym (same_answered answer s)) tables)
+
+  -- the next timer's number is of no armed one
+  pub number_is_fresh : (timers : Q → List Timer) (state : ReactorState Q) (s : Summary) → Shows timers state s → T.is_scheduled state.scheduled (timers state.armed.timers) ≡ false
+  number_is_fresh timers state s shows =
+      let scheduled : state.scheduled ≡ s.scheduled = ap (λ (n : Numbers). n.scheduled) shows.tables.numbers in
+      let fresh : times state.scheduled s.armed s.waiting ≡ 0 = shows.sound.fresh state.scheduled (omega arith) in
+      let none : list_any (λ (a : ArmedTimer). a.timer == state.scheduled) s.armed ≡ false = count_none (λ (a : ArmedTimer). a.timer == state.scheduled) s.armed (omega arith) in
+      sym (any-map (λ (a : ArmedTimer). a.timer == state.scheduled) armed_of (timers state.armed.timers)) ∙ ap (list_any (λ (a : ArmedTimer). a.timer == state.scheduled)) shows.tables.armed.timers_are ∙ none

@@ -1,7 +1,8 @@
 -- The tables of a reactor's state, as the summary has what stands in them.
-use Rattle.std.specs.Prelude.{ℕ, ◌≡◌, ◌≤◌, ◌<◌, ◌+◌, ◌^◌, ◌==◌, Bool, not, ◌&&◌, List, [], ◌∷◌, ◌++◌, length, map, filter, vec_capacity, Option, Some, None}
+use Rattle.std.specs.Prelude.{ℕ, ◌≡◌, ◌≤◌, ◌<◌, ◌+◌, ◌^◌, ◌==◌, Bool, not, ◌&&◌, if◌then◌else◌, List, [], ◌∷◌, ◌++◌, length, map, filter, vec_capacity, Option, Some, None}
 use Rattle.std.specs.List.{list_any, remove}
 use Rattle.std.specs.VecDeque.{deque_items, deque_capacity}
+use Rattle.ev_types.specs.declared.upcall.Mask.{Mask}
 use Rattle.ev_types.specs.declared.upcall.Upcall.{Upcall}
 use Rattle.ev_types.specs.declared.upcall.Upcall.TheVariants.{Input, Output, Except, Timeout, Notice}
 use Rattle.reactor_journal.specs.Past.{class_of, count}
@@ -70,6 +71,14 @@ with_event w q = with_queue w.upcall (queue_of w.upcall q ++ w ∷ []) q
 abbrev pub kept : (WaitingEvent → Bool) → Queues → Queues
 kept p q = record { timeouts = filter p q.timeouts; notices = filter p q.notices; outputs = filter p q.outputs; excepts = filter p q.excepts; inputs = filter p q.inputs }
 
+-- without the events of a handle, where that is asked for
+abbrev pub dropped : Bool → ℕ → List WaitingEvent → List WaitingEvent
+dropped which x events = if which then filter (λ w. not (x == w.handle.0)) events else events
+
+-- without the reports of a handle that its mask lacks
+abbrev pub masked : ℕ → Mask → Queues → Queues
+masked x mask q = record q { outputs = dropped (not mask.write) x q.outputs; excepts = dropped (not mask.except) x q.excepts; inputs = dropped (not mask.read) x q.inputs }
+
 -- how many places each queue has
 pub record Capacities : Type 0 where
   pub timeouts : ℕ
@@ -102,6 +111,15 @@ HasRoomFor Input c q = length q.inputs < c.inputs
 -- a timer of the timer queue, as the summary has it
 abbrev pub armed_of : Timer → ArmedTimer
 armed_of t = record { deadline = t.deadline; timer = t.timer; handle = t.handle; every = t.every }
+
+-- no timer is armed twice
+abbrev pub IsOnce : List ArmedTimer → Type 0
+IsOnce armed = (n : ℕ) → count (λ (a : ArmedTimer). a.timer == n) armed ≤ 1
+
+-- the first deadline
+abbrev pub first_deadline : List ArmedTimer → Option ℕ
+first_deadline [] = None
+first_deadline (a ∷ armed) = Some a.deadline
 
 -- the number of an owner's timer, by which they stand in rising order
 abbrev pub timer_of : Owner → ℕ

@@ -1,14 +1,15 @@
 //! The armed timers: a timer queue, and beside it the handle of each timer by its number.
 
-ghost use Rattle.std.specs.Prelude.{◌≡◌, ◌≤◌, ◌<◌, ◌+◌, ◌-◌, ◌==◌, ◌^◌, ℕ, Bool, not, true, false, [], List, length, map, filter, vec_capacity, OnOk, IsOk, MatchOption, if◌then◌else◌};
-ghost use Rattle.std.specs.List.{list_any, HoldsAt, AllWithin};
+ghost use Rattle.std.specs.Prelude.{◌≡◌, ◌≤◌, ◌<◌, ◌+◌, ◌-◌, ◌==◌, ◌^◌, ℕ, Bool, not, true, false, [], List, length, map, filter, vec_capacity, OnOk, IsOk, Some, IfSome, IfNone, MatchOption, if◌then◌else◌};
+ghost use Rattle.std.specs.List.{list_any, find, HoldsAt, AllWithin};
+ghost use Rattle.std.specs.Option.{option_map};
 ghost use Rattle.timer_queue.specs.Timers.{is_scheduled};
 ghost use Rattle.reactor_journal.specs.Past.{count, next_deadline};
 ghost use Rattle.reactor_summary.specs.Summary as S;
 ghost use Rattle.reactor_summary.specs.declared.parts.ArmedTimer.{ArmedTimer};
 ghost use Rattle.reactor_state.specs.Rises.{RisesIn};
 ghost use Rattle.reactor_state.specs.Sound.{IsReached, is_due_of};
-ghost use Rattle.reactor_state.specs.Tables.{timer_of, armed_of, HasArmed, HasTimerRoom};
+ghost use Rattle.reactor_state.specs.Tables.{timer_of, armed_of, first_deadline, IsOnce, HasArmed, HasTimerRoom};
 
 use ev_types::{Handle, NoMemory};
 use reactor_summary::DueTimer;
@@ -182,5 +183,46 @@ impl<Q: TimerQueue> Armed<Q> {
     {
         self.timers.cancel_all(handle);
         take_all(&mut self.owners, handle);
+    }
+
+    /// Takes out the first timer, if its deadline is reached.
+    pub fn pop_due(&mut self, now: u64) -> Option<Timer>
+        ensures due { IfSome result (λ t. (armed : List ArmedTimer) → HasArmed Q.timers self.old armed → IsOnce armed → HasArmed Q.timers self.new (S.without_timer t.timer armed)) }
+        ensures first { IfSome result (λ t. (armed : List ArmedTimer) → HasArmed Q.timers self.old armed → (S.is_first now t.timer armed ≡ true) × (find (λ a. a.timer == t.timer) armed ≡ Some (armed_of t))) }
+        ensures none { IfNone result ((armed : List ArmedTimer) → HasArmed Q.timers self.old armed → S.is_reached now armed ≡ false) }
+        ensures unchanged { IfNone result ((armed : List ArmedTimer) → HasArmed Q.timers self.old armed → HasArmed Q.timers self.new armed) }
+        ensures room { (n : ℕ) → HasTimerRoom Q.spare n self.old → HasTimerRoom Q.spare n self.new }
+    {
+        match self.timers.pop_due(now) {
+            None => None,
+            Some(t) => {
+                take_out(&mut self.owners, t.timer);
+                Some(t)
+            }
+        }
+    }
+
+    /// How many timers are armed.
+    pub fn len(&self) -> usize
+        ensures { (armed : List ArmedTimer) → HasArmed Q.timers self.now armed → result ≡ length armed }
+    {
+        self.owners.len()
+    }
+
+    /// The handle of the timer, if it is armed.
+    pub fn handle_of(&self, timer: u64) -> Option<Handle>
+        ensures { (armed : List ArmedTimer) → HasArmed Q.timers self.now armed → IsOnce armed → result ≡ option_map (λ a. a.handle) (find (λ a. a.timer == timer) armed) }
+    {
+        match owner_of(&self.owners, timer) {
+            Some(place) => Some(self.owners[place].handle),
+            None => None,
+        }
+    }
+
+    /// The first deadline.
+    pub fn earliest(&self) -> Option<u64>
+        ensures { (armed : List ArmedTimer) → HasArmed Q.timers self.now armed → result ≡ first_deadline armed }
+    {
+        self.timers.earliest()
     }
 }

@@ -5,10 +5,12 @@
 
 mod armed;
 mod handles;
+mod masks;
 mod opens;
 mod places;
 mod state;
 mod steps;
+mod timing;
 mod waiting;
 mod words;
 

@@ -3,10 +3,11 @@
 ghost use Rattle.std.specs.Prelude.{◌≡◌, ◌≤◌, ◌+◌, ◌-◌, ◌*◌, ◌==◌, ◌&&◌, if◌then◌else◌, ℕ, [], length, map, nat_le, OnOk, IsOk, IfSome};
 ghost use Rattle.std.specs.List.{find};
 ghost use Rattle.std.specs.Option.{option_map};
+ghost use Rattle.reactor_journal.specs.Past as P;
 ghost use Rattle.reactor_summary.specs.Summary as S;
 ghost use Rattle.reactor_summary.specs.Summary.{Summary};
 ghost use Rattle.reactor_summary.specs.Rules as R;
-ghost use Rattle.reactor_state.specs.Tables.{armed_of};
+ghost use Rattle.reactor_state.specs.Tables.{armed_of, first_deadline};
 ghost use Rattle.reactor_state.specs.State.{Shows, HasPlaces, Tells, IsPlaced, owed};
 
 use crate::armed::Armed;
@@ -198,6 +199,38 @@ impl<Q: TimerQueue> ReactorState<Q> {
         ensures { Tells Q.timers self.now (λ s. result ≡ option_map (λ h. h.handle) (find (λ h. nat_le from.0 h.handle.0 && h.alive) s.handles)) }
     {
         next_alive(&self.handles, from)
+    }
+
+    /// How many timers are armed.
+    pub fn armed_count(&self) -> usize
+        ensures { Tells Q.timers self.now (λ s. result ≡ length s.armed) }
+    {
+        self.armed.len()
+    }
+
+    /// The handle of the timer, if it is armed.
+    pub fn armed_handle(&self, timer: u64) -> Option<Handle>
+        ensures { Tells Q.timers self.now (λ s. result ≡ option_map (λ a. a.handle) (S.armed_timer s timer)) }
+    {
+        self.armed.handle_of(timer)
+    }
+
+    /// The handle of the first timeout of the timer that waits. It may walk all timeouts that wait.
+    pub fn timeout_handle(&self, timer: u64) -> Option<Handle>
+        ensures { Tells Q.timers self.now (λ s. result ≡ option_map (λ w. w.handle) (find (λ w. P.is_timeout_of timer w.upcall) s.waiting)) }
+    {
+        self.waiting.timeout_handle(timer)
+    }
+
+    /// How many milliseconds are left from the moment to the first deadline, 0 where it is reached; `None` where no timer is
+    /// armed.
+    pub fn time_to_deadline(&self) -> Option<u64>
+        ensures { Tells Q.timers self.now (λ s. result ≡ option_map (λ d. d - s.moment) (first_deadline s.armed)) }
+    {
+        match self.armed.earliest() {
+            Some(deadline) => Some(deadline.saturating_sub(self.moment)),
+            None => None,
+        }
     }
 
     /// The event to be started next: the first of the first class that has an event of a free handle. It goes past those

@@ -1,6 +1,6 @@
 //! What each entry of a journal changes of the state.
 
-ghost use Rattle.std.specs.Prelude.{◌≡◌, ◌≤◌, ◌<◌, ◌+◌, ◌-◌, ◌==◌, ◌^◌, ℕ, true, Some, if◌then◌else◌, ◌++◌, length, IfSome, IfNone};
+ghost use Rattle.std.specs.Prelude.{◌≡◌, ◌≤◌, ◌<◌, ◌+◌, ◌-◌, ◌==◌, ◌^◌, ℕ, Bool, true, Some, if◌then◌else◌, ◌++◌, length, IfSome, IfNone};
 ghost use Rattle.std.specs.List.{list_any};
 ghost use Rattle.reactor_journal.specs.declared.entry.Entry.{Entry};
 ghost use Rattle.reactor_summary.specs.Summary as S;
@@ -16,7 +16,7 @@ use crate::opens::{find_open, settle};
 use crate::places::Pick;
 use crate::state::ReactorState;
 use crate::words::upcall_of;
-use ev_types::{Answer, Handle, Kind, Mask};
+use ev_types::{Answer, Handle, Kind, Mask, Upcall};
 use reactor_summary::{DueTimer, LiveHandle, OpenEvent, WaitingEvent};
 use timer_queue::{Timer, TimerQueue};
 
@@ -189,6 +189,41 @@ impl<Q: TimerQueue> ReactorState<Q> {
         ensures places { (p : Places) → HasPlaces Q.spare p self.old → HasPlaces Q.spare p self.new }
     {
         self.ended = true;
+        self.entries += 1;
+    }
+
+    /// A notification is delivered: `Posted`, whoever posted it. It uses a place for an event.
+    pub fn post(&mut self, handle: Handle, kind: Kind)
+        requires can { CanStep Q.timers self.old HasNumber }
+        requires room { HasPlaces Q.spare (record no_places { events = 1 }) self.old }
+        ensures steps { (from seq : ℕ) → TakesTo Q.timers self.old HasNumber (λ s. after s (Entry.Posted handle kind from seq)) self.new }
+        ensures places { (p : Places) → HasPlaces Q.spare p self.old → HasPlaces Q.spare (record p { events = p.events - 1 }) self.new }
+    {
+        self.waiting.push(WaitingEvent {
+            event: self.entries,
+            handle,
+            upcall: Upcall::Notice { kind },
+            due: None,
+        });
+        self.entries += 1;
+    }
+
+    /// A notification is for a handle that is not alive: `Stale`, whatever it is. There is one entry more, and nothing else.
+    pub fn skip(&mut self)
+        requires { CanStep Q.timers self.old HasNumber }
+        ensures steps { (stale : Handle) (from seq : ℕ) → TakesTo Q.timers self.old HasNumber (λ s. after s (Entry.Stale stale from seq)) self.new }
+        ensures places { (p : Places) → HasPlaces Q.spare p self.old → HasPlaces Q.spare p self.new }
+    {
+        self.entries += 1;
+    }
+
+    /// A handler that an upcall offered is not registered: `Refused`, whatever was noted.
+    pub fn refuse<N>(&mut self)
+        requires { CanStep Q.timers self.old HasNumber }
+        ensures steps { (live : ℕ) (fault : Bool) (note : N) → TakesTo Q.timers self.old HasNumber (λ s. S.step s (Entry.Refused live fault note)) self.new }
+        ensures places { (p : Places) → HasPlaces Q.spare p self.old → HasPlaces Q.spare p self.new }
+    {
+        self.refused += 1;
         self.entries += 1;
     }
 }

@@ -8,13 +8,13 @@ ghost use Rattle.reactor_journal.specs.Past as P;
 ghost use Rattle.reactor_summary.specs.Summary as S;
 ghost use Rattle.reactor_state.specs.Rises.{RisesIn};
 ghost use Rattle.reactor_state.specs.Sound.{handle_number};
-ghost use Rattle.reactor_state.specs.Tables.{is_free, queues, by_class, queue_of, with_queue, with_event, kept, capacities, HasRoom, HasRoomFor};
+ghost use Rattle.reactor_state.specs.Tables.{is_free, queues, by_class, queue_of, with_queue, with_event, kept, dropped, masked, capacities, HasRoom, HasRoomFor};
 
 use crate::handles::is_resumed;
 use crate::opens::is_busy;
 use crate::places::Pick;
 use crate::words::is_timeout_of;
-use ev_types::{Handle, NoMemory, Upcall};
+use ev_types::{Handle, Mask, NoMemory, Upcall};
 use reactor_summary::{LiveHandle, OpenEvent, WaitingEvent};
 use std::alloc::Global;
 use std::collections::VecDeque;
@@ -68,6 +68,30 @@ fn drop_timeouts(queue: &mut VecDeque<WaitingEvent>, timer: u64)
     ensures capacity { deque_capacity queue.new ≡ deque_capacity queue.old }
 {
     queue.retain(|w| !is_timeout_of(timer, w.upcall));
+}
+
+/// Takes the events of the handle out of a queue, where that is asked for.
+fn drop_if(queue: &mut VecDeque<WaitingEvent>, which: bool, handle: Handle)
+    ensures items { deque_items queue.new ≡ dropped which handle.0 (deque_items queue.old) }
+    ensures capacity { deque_capacity queue.new ≡ deque_capacity queue.old }
+{
+    if which {
+        drop_of(queue, handle);
+    }
+}
+
+/// The handle of the first timeout of the timer in a queue.
+#[tactic(auto, using(crate::proofs::Lists::find_more))]
+fn first_timeout(queue: &VecDeque<WaitingEvent>, timer: u64) -> Option<Handle>
+    ensures { result ≡ option_map (λ w. w.handle) (find (λ w. P.is_timeout_of timer w.upcall) (deque_items queue.now)) }
+{
+    for place in 0..queue.len() {
+        let event = queue[place];
+        if is_timeout_of(timer, event.upcall) {
+            return Some(event.handle);
+        }
+    }
+    None
 }
 
 /// Takes the event at a place out of a queue.
@@ -176,5 +200,22 @@ impl Waiting {
         ensures capacities { capacities self.new ≡ capacities self.old }
     {
         drop_timeouts(&mut self.timeouts, timer);
+    }
+
+    /// Takes the reports of the handle away that its mask lacks.
+    pub fn drop_masked(&mut self, handle: Handle, mask: Mask)
+        ensures queues { queues self.new ≡ masked handle.0 mask (queues self.old) }
+        ensures capacities { capacities self.new ≡ capacities self.old }
+    {
+        drop_if(&mut self.outputs, !mask.write, handle);
+        drop_if(&mut self.excepts, !mask.except, handle);
+        drop_if(&mut self.inputs, !mask.read, handle);
+    }
+
+    /// The handle of the first timeout of the timer.
+    pub fn timeout_handle(&self, timer: u64) -> Option<Handle>
+        ensures { result ≡ option_map (λ w. w.handle) (find (λ w. P.is_timeout_of timer w.upcall) (queues self.now).timeouts) }
+    {
+        first_timeout(&self.timeouts, timer)
     }
 }

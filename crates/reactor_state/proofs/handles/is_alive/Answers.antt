@@ -1,6 +1,7 @@
 use Rattle.std.proofs.Common.{◌==◌, sym, ap, ◌∙◌}
 use Rattle.reactor_state.specs.Sound.{handle_number}
-use Rattle.reactor_state.proofs.Rising.{any_found, passes}
+use Rattle.reactor_state.proofs.Lists.{passes}
+use Rattle.reactor_state.proofs.Rising.{any_found}
 use Rattle.reactor_state.proofs.handles.is_alive.Goals as goal
 
 pub returns-in-Some : goal.returns-in-Some

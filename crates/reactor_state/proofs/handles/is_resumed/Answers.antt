@@ -1,6 +1,7 @@
 use Rattle.std.proofs.Common.{not, ◌==◌, ◌&&◌, sym, ap, ◌∙◌}
 use Rattle.reactor_state.specs.Sound.{handle_number}
-use Rattle.reactor_state.proofs.Rising.{any_found, passes}
+use Rattle.reactor_state.proofs.Lists.{passes}
+use Rattle.reactor_state.proofs.Rising.{any_found}
 use Rattle.reactor_state.proofs.handles.is_resumed.Goals as goal
 
 pub returns-then-h : goal.returns-then-h

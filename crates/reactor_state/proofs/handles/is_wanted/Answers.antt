@@ -1,7 +1,8 @@
 use Rattle.std.proofs.Common.{◌==◌, ◌&&◌, sym, ap, ◌∙◌}
 use Rattle.reactor_journal.specs.Past as P
 use Rattle.reactor_state.specs.Sound.{handle_number}
-use Rattle.reactor_state.proofs.Rising.{any_found, passes}
+use Rattle.reactor_state.proofs.Lists.{passes}
+use Rattle.reactor_state.proofs.Rising.{any_found}
 use Rattle.reactor_state.proofs.handles.is_wanted.Goals as goal
 
 pub returns-then-h : goal.returns-then-h
