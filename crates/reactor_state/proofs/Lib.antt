@@ -6,3 +6,4 @@ pub mod Owners
 pub mod Soundness
 pub mod Queued
 pub mod Stepped
+pub mod Room

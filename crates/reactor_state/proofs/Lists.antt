@@ -1,6 +1,6 @@
 -- Searches, counts and edits of lists.
-use Rattle.std.proofs.Common.{ℕ, zero, suc, ◌≡◌, ◌≢◌, ◌+◌, ◌<◌, ◌≤◌, Bool, true, false, not, ◌&&◌, ◌||◌, List, [], ◌∷◌, ◌++◌, length, get_or, set, take, drop, map, refl, sym, ap, ◌∙◌, subst, drop-cons, add-one, cond, Option, Some, None, arith}
-use Rattle.std.proofs.lemmas.Bool.{and_parts, cond-true, cond-false, cases_Bool, or_parts}
+use Rattle.std.proofs.Common.{ℕ, zero, suc, ◌≡◌, ◌≢◌, ◌+◌, ◌<◌, ◌≤◌, Bool, true, false, not, ◌&&◌, ◌||◌, List, [], ◌∷◌, ◌++◌, length, get_or, set, drop, map, refl, sym, ap, ◌∙◌, subst, drop-cons, add-one, cond, Option, Some, None, arith}
+use Rattle.std.proofs.lemmas.Bool.{and_parts, cond-true, cond-false, or_parts}
 use Rattle.std.proofs.lemmas.List.Sums.{list_all-from_AllPass}
 use Rattle.std.specs.List.{find, list_any, list_all, filter, insert, remove, AllWithin}
 use Rattle.reactor_journal.specs.Past.{count}

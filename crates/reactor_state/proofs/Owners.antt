@@ -1,6 +1,5 @@
 -- The armed timers in their two tables.
-use Rattle.std.proofs.Common.{ℕ, zero, suc, ◌≡◌, ◌+◌, ◌-◌, ◌<◌, ◌≤◌, ◌==◌, max, Bool, true, false, not, ◌&&◌, ◌||◌, List, [], ◌∷◌, ◌++◌, length, map, refl, sym, ap, ◌∙◌, subst, cond, Option, Some, None, arith, inl, inr}
-use Rattle.std.specs.Prelude.{nat_lt}
+use Rattle.std.proofs.Common.{ℕ, zero, ◌≡◌, ◌+◌, ◌<◌, ◌≤◌, ◌==◌, Bool, true, false, not, ◌&&◌, List, [], ◌∷◌, length, map, refl, sym, ap, ◌∙◌, subst, cond, Option, Some, None, arith, inl, inr}
 use Rattle.std.proofs.lemmas.Bool.{cases_eq, eq-eqb, ne_eqb, eqb-true, and_from, lt-leb}
 use Rattle.std.proofs.lemmas.List.Elements.{filter_agree}
 use Rattle.std.specs.List.{list_any, find, filter, All}
@@ -17,7 +16,7 @@ use Rattle.reactor_state.specs.declared.armed.Owner.{Owner}
 use Rattle.reactor_state.specs.declared.armed.Armed.{Armed}
 use Rattle.reactor_state.specs.Rises.{RisesIn}
 use Rattle.reactor_state.specs.Tables.{timer_of, armed_of, IsOnce, HasOwners, HasArmed}
-use Rattle.reactor_state.proofs.Lists.{one, count_cons, count_agree, count-filter, none_counted, count_none, count_all, count_found, found_each, found_both, find_absent, filter_none_of, passes}
+use Rattle.reactor_state.proofs.Lists.{one, count_cons, count-filter, none_counted, count_none, count_all, count_found, found_each, found_both, find_absent, filter_none_of, passes}
 use Rattle.reactor_state.proofs.Rising.{rises_to, rises-filter}
 
 pub eqb_sym : (a b : ℕ) → (a == b) ≡ (b == a)

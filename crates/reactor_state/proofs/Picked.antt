@@ -1,19 +1,16 @@
 -- The event that is picked, and where it stands.
-use Rattle.std.proofs.Common.{ℕ, zero, suc, ◌≡◌, ◌+◌, ◌<◌, ◌==◌, Bool, true, false, not, ◌&&◌, List, [], ◌∷◌, length, get_or, refl, sym, ap, ◌∙◌, subst, cond, Option, Some, None, arith}
+use Rattle.std.proofs.Common.{ℕ, zero, suc, ◌≡◌, ◌==◌, Bool, true, false, ◌&&◌, List, [], ◌∷◌, refl, sym, ap, ◌∙◌, cond, Option, Some, None}
 use Rattle.std.proofs.lemmas.Bool.{eqb-true}
 use Rattle.std.specs.Prelude.{slice_get, IfSome}
-use Rattle.std.specs.List.{list_any, find, filter}
-use Rattle.std.specs.Option.{option_map}
+use Rattle.std.specs.List.{find, filter}
 use Rattle.ev_types.specs.declared.upcall.Upcall.{Upcall}
 use Rattle.ev_types.specs.declared.upcall.Upcall.TheVariants.{Input, Output, Except, Timeout, Notice}
 use Rattle.reactor_journal.specs.Past.{class_of}
 use Rattle.reactor_summary.specs.declared.parts.LiveHandle.{LiveHandle}
 use Rattle.reactor_summary.specs.declared.parts.OpenEvent.{OpenEvent}
 use Rattle.reactor_summary.specs.declared.parts.WaitingEvent.{WaitingEvent}
-use Rattle.reactor_summary.specs.Summary as S
 use Rattle.reactor_summary.specs.Summary.{Summary, pick, else_, first_free}
-use Rattle.reactor_state.specs.declared.places.Pick.{Pick}
-use Rattle.reactor_state.specs.Tables.{is_free, Queues, of_class, by_class, queue_of}
+use Rattle.reactor_state.specs.Tables.{is_free, Queues, of_class, queue_of}
 
 -- a search of those that pass
 pub find-filter : {A : Type 0} (p q : A → Bool) (xs : List A) → find q (filter p xs) ≡ find (λ x. p x && q x) xs

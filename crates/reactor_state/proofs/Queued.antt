@@ -11,7 +11,7 @@ use Rattle.ev_types.specs.declared.upcall.Kind.{Kind}
 use Rattle.ev_types.specs.declared.upcall.Kind.TheVariants.{Read, Write, Except as ExceptKind}
 use Rattle.ev_types.specs.declared.upcall.Upcall.{Upcall}
 use Rattle.ev_types.specs.declared.upcall.Upcall.TheVariants.{Input, Output, Except, Timeout, Notice}
-use Rattle.reactor_journal.specs.Past.{class_of, upcall_of, is_timeout_of, is_without, count}
+use Rattle.reactor_journal.specs.Past.{class_of, upcall_of, is_timeout_of, is_without}
 use Rattle.reactor_summary.specs.declared.parts.WaitingEvent.{WaitingEvent}
 use Rattle.reactor_state.specs.Rises.{RisesIn}
 use Rattle.reactor_state.specs.Sound.{event_number}

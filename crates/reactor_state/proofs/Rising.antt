@@ -1,13 +1,12 @@
 -- Lists in rising order of a number: what is found at a number, and what an edit there is.
-use Rattle.std.proofs.Common.{ℕ, zero, suc, ◌≡◌, ◌≢◌, ◌+◌, ◌<◌, ◌≤◌, ◌==◌, Bool, true, false, not, ◌&&◌, ◌||◌, List, [], ◌∷◌, ◌++◌, length, get_or, set, take, drop, map, refl, sym, ap, ◌∙◌, subst, cond, Option, Some, None, arith, inl, inr}
-use Rattle.std.proofs.lemmas.Bool.{and_parts, cond-true, cond-false, cases_Bool, or_parts, eqb-true, eqb-false, eq-eqb, ne_eqb, ltb-true, lt-ltb, cases_lt, cases_eq}
+use Rattle.std.proofs.Common.{ℕ, zero, suc, ◌≡◌, ◌≢◌, ◌<◌, ◌≤◌, ◌==◌, Bool, true, false, not, ◌&&◌, ◌||◌, List, [], ◌∷◌, ◌++◌, length, get_or, set, map, refl, sym, ap, ◌∙◌, subst, cond, Some, arith, inl, inr}
+use Rattle.std.proofs.lemmas.Bool.{cond-true, cond-false, or_parts, eqb-true, eqb-false, eq-eqb, ne_eqb, ltb-true, lt-ltb, cases_lt, cases_eq}
 use Rattle.std.proofs.lemmas.List.Folds.{list_any_none}
-use Rattle.std.proofs.lemmas.List.{get_or_default}
 use Rattle.std.specs.Prelude.{nat_lt}
-use Rattle.std.specs.List.{find, list_any, filter, insert, remove, All, AllWithin, HoldsAt}
+use Rattle.std.specs.List.{find, list_any, filter, insert, remove, AllWithin, HoldsAt}
 use Rattle.std.specs.List.Sorted.{IsPartitionedBy}
 use Rattle.reactor_state.specs.Rises.{RisesIn}
-use Rattle.reactor_state.proofs.Lists.{passes, find_absent, any_and, filter_place}
+use Rattle.reactor_state.proofs.Lists.{passes, any_and, filter_place}
 
 module _ {A : Type 0} (key : A → ℕ) where
   -- each number is at least the least

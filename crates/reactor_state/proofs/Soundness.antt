@@ -1,19 +1,18 @@
 -- Each entry that fits keeps what holds of a summary.
-use Rattle.std.proofs.Common.{ℕ, zero, suc, ◌≡◌, ◌≢◌, ◌+◌, ◌-◌, ◌*◌, ◌/◌, ◌^◌, ◌<◌, ◌≤◌, ◌==◌, Bool, true, false, not, ◌&&◌, ◌||◌, List, [], ◌∷◌, ◌++◌, length, map, refl, sym, ap, ◌∙◌, subst, cond, Option, Some, None, arith, inl, inr}
+use Rattle.std.proofs.Common.{ℕ, suc, ◌≡◌, ◌+◌, ◌-◌, ◌*◌, ◌/◌, ◌^◌, ◌<◌, ◌≤◌, ◌==◌, Bool, true, false, not, ◌&&◌, ◌||◌, List, [], ◌∷◌, ◌++◌, length, refl, sym, ap, ◌∙◌, subst, cond, Option, Some, None, arith, inl, inr}
 use Rattle.std.specs.Prelude.{nat_le}
 use Rattle.std.proofs.Math.Nat.{div-mul-le_self}
-use Rattle.std.proofs.lemmas.Bool.{and_parts, eqb-true, eq-eqb, ne_eqb, leb-true, cases_eq, or_parts}
+use Rattle.std.proofs.lemmas.Bool.{and_parts, eqb-true, eq-eqb, ne_eqb, leb-true, cases_eq}
 use Rattle.std.proofs.lemmas.List.{append-nil, length-append, length-map}
 use Rattle.std.specs.List.{list_any, find, filter}
-use Rattle.ev_types.specs.declared.upcall.Mask.{Mask}
 use Rattle.ev_types.specs.declared.upcall.Handle.{Handle}
 use Rattle.ev_types.specs.declared.upcall.Upcall.TheVariants.{Timeout, Notice}
-use Rattle.ev_types.specs.declared.upcall.Answer.TheVariants.{Keep, Again, Close}
+use Rattle.ev_types.specs.declared.upcall.Answer.TheVariants.{Again, Close}
 use Rattle.reactor_journal.specs.Event.{Event}
 use Rattle.reactor_journal.specs.Past as P
 use Rattle.reactor_journal.specs.Past.{count, upcall_of}
 use Rattle.reactor_journal.specs.declared.entry.Entry.{Entry}
-use Rattle.reactor_journal.specs.declared.entry.Entry.TheVariants.{Opened, Scheduled, Cancelled, Polled, Due, Ready, Posted, Stale, Started, Returned, Masked, Suspended, Resumed, Refused, Removed, Closed, Ended}
+use Rattle.reactor_journal.specs.declared.entry.Entry.TheVariants.{Opened, Scheduled, Cancelled, Polled, Due, Ready, Posted, Started, Returned, Masked, Suspended, Resumed, Refused, Removed, Closed}
 use Rattle.reactor_summary.specs.declared.parts.LiveHandle.{LiveHandle}
 use Rattle.reactor_summary.specs.declared.parts.DueTimer.{DueTimer}
 use Rattle.reactor_summary.specs.declared.parts.WaitingEvent.{WaitingEvent}
@@ -26,7 +25,7 @@ use Rattle.reactor_summary.proofs.Lists.{each_same, each_append, each_filter}
 use Rattle.reactor_state.specs.Rises.{RisesIn}
 use Rattle.reactor_state.specs.Sound.{handle_number, event_number, is_due_of, times, IsReached, IsWithin, IsSound, Fits}
 use Rattle.reactor_state.specs.State.{HasNumber}
-use Rattle.reactor_state.proofs.Lists.{one, count_cons, count-append, count-filter_le, count_found, found_each, count_dropped}
+use Rattle.reactor_state.proofs.Lists.{one, count_cons, count-append, count-filter_le, found_each, count_dropped}
 use Rattle.reactor_state.proofs.Rising.{none_below, filter_absent, rises_to, rises-filter, rises-append, rises-map}
 use Rattle.reactor_state.proofs.Owners.{eqb_sym, count-with_timer}
 

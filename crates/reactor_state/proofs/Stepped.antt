@@ -1,17 +1,14 @@
 -- What a step makes of the tables and of the room.
-use Rattle.std.proofs.Common.{ℕ, suc, ◌≡◌, ◌+◌, ◌-◌, ◌<◌, ◌≤◌, ◌==◌, Bool, true, false, not, List, [], ◌∷◌, ◌++◌, length, map, refl, sym, ap, ◌∙◌, subst, cond, Option, Some, None, arith, add-one}
+use Rattle.std.proofs.Common.{ℕ, suc, ◌≡◌, ◌+◌, ◌-◌, ◌≤◌, ◌==◌, Bool, true, false, not, List, [], ◌∷◌, ◌++◌, map, refl, sym, ap, ◌∙◌, subst, cond, Option, Some, None, arith, add-one}
 use Rattle.std.specs.Prelude.{slice_get}
 use Rattle.std.proofs.lemmas.List.{append-nil}
 use Rattle.std.specs.List.{list_any, find, filter, remove}
 use Rattle.ev_types.specs.declared.upcall.Mask.{Mask}
-use Rattle.ev_types.specs.declared.upcall.Handle.{Handle}
 use Rattle.ev_types.specs.declared.upcall.Answer.{Answer}
 use Rattle.ev_types.specs.declared.upcall.Answer.TheVariants.{Keep, Again, Close}
 use Rattle.reactor_journal.specs.declared.entry.Entry.TheVariants.{Returned}
-use Rattle.ev_types.specs.declared.upcall.Upcall.{Upcall}
 use Rattle.reactor_journal.specs.Past.{count}
 use Rattle.reactor_summary.specs.declared.parts.LiveHandle.{LiveHandle}
-use Rattle.reactor_summary.specs.declared.parts.DueTimer.{DueTimer}
 use Rattle.reactor_summary.specs.declared.parts.OpenEvent.{OpenEvent}
 use Rattle.reactor_summary.specs.declared.parts.WaitingEvent.{WaitingEvent}
 use Rattle.reactor_summary.specs.declared.parts.ArmedTimer.{ArmedTimer}
@@ -25,7 +22,7 @@ use Rattle.reactor_state.specs.Rises.{RisesIn}
 use Rattle.reactor_state.specs.Sound.{event_number, is_due_of, times, IsReached, IsSound}
 use Rattle.reactor_state.specs.Tables.{alive_count, IsOnce, armed_of, Queues, queues, by_class, queue_of, with_queue, with_event, kept, HasArmed}
 use Rattle.reactor_state.specs.State.{Numbers, numbers_in, numbers_of, HasTables, Shows, answered, without_handle}
-use Rattle.reactor_state.proofs.Lists.{one, count_map, count_cons, count-append, count_found, count_none, count_le, found_each}
+use Rattle.reactor_state.proofs.Lists.{one, filter_every, count_map, count_cons, count-append, count_found, count_none, count_le, found_each}
 use Rattle.reactor_state.proofs.Queued.{pushed_by_class, found_by_class, taken_by_class, kept_by_class}
 
 -- one entry more
@@ -87,10 +84,6 @@ armed_once s sound n = omega (arith, sound.once n)
 map_none : (hs : List LiveHandle) → map (S.with_end None) hs ≡ hs
 map_none [] = refl
 map_none (h ∷ hs) = ap (λ (gs : List LiveHandle). h ∷ gs) (map_none hs)
-
-filter_every : (ws : List WaitingEvent) → filter (λ (w : WaitingEvent). true) ws ≡ ws
-filter_every [] = refl
-filter_every (w ∷ ws) = ap (λ (vs : List WaitingEvent). w ∷ vs) (filter_every ws)
 
 -- no event was answered
 same_answered : (answer : Answer) (s : Summary) → answered None answer s ≡ s

@@ -1,5 +1,5 @@
 -- What a reactor's state stands for, and how much room it has.
-use Rattle.std.specs.Prelude.{ℕ, zero, suc, ◌≡◌, ◌≤◌, ◌<◌, ◌+◌, ◌*◌, ◌^◌, Bool, ◌++◌, if◌then◌else◌, List, length, map, slice_get, vec_capacity, Option, Some, option_map}
+use Rattle.std.specs.Prelude.{ℕ, ◌≡◌, ◌≤◌, ◌<◌, ◌+◌, ◌*◌, ◌^◌, Bool, ◌++◌, if◌then◌else◌, List, length, map, slice_get, vec_capacity, Option, Some, option_map}
 use Rattle.ev_types.specs.declared.upcall.Handle.{Handle}
 use Rattle.ev_types.specs.declared.upcall.Answer.{Answer}
 use Rattle.ev_types.specs.declared.upcall.Answer.TheVariants.{Keep, Again, Close}

@@ -24,6 +24,7 @@ pub struct Owner {
 }
 
 /// The armed timers.
+#[derive(Drop)]
 pub struct Armed<Q> {
     pub timers: Q,
     // In rising order of the timers' numbers.

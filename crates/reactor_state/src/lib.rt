@@ -16,3 +16,6 @@ mod words;
 
 pub use places::{Pick, Places};
 pub use state::ReactorState;
+
+#[cfg(test)]
+mod tests;

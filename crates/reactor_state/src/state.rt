@@ -23,6 +23,7 @@ use timer_queue::TimerQueue;
 /// What a one-thread reactor keeps beside its journal: the live handles, the waiting events, the open events, the armed
 /// timers, and numbers. Contracts say of it which summary it stands for (`Shows`), and for how many more of each it has
 /// room (`HasPlaces`). Only `reserve` takes memory.
+#[derive(Drop)]
 pub struct ReactorState<Q> {
     pub(crate) entries: u64,
     pub(crate) moment: u64,

@@ -1,4 +1,4 @@
-use Rattle.std.proofs.Common.{◌≡◌, ◌≤◌, ◌∙◌, ap, subst, sym, length, arith}
+use Rattle.std.proofs.Common.{◌≤◌, ◌∙◌, ap, length, arith}
 use Rattle.reactor_journal.specs.Past.{count}
 use Rattle.reactor_state.specs.declared.armed.Owner.{Owner}
 use Rattle.reactor_state.specs.Rises.{RisesIn}

@@ -1,4 +1,4 @@
-use Rattle.std.proofs.Common.{◌==◌, sym, ap, ◌∙◌}
+use Rattle.std.proofs.Common.{sym, ap, ◌∙◌}
 use Rattle.reactor_state.specs.Sound.{handle_number}
 use Rattle.reactor_state.proofs.Lists.{passes}
 use Rattle.reactor_state.proofs.Rising.{any_found}

@@ -1,4 +1,4 @@
-use Rattle.std.proofs.Common.{◌==◌, ◌&&◌, sym, ap, ◌∙◌}
+use Rattle.std.proofs.Common.{◌&&◌, sym, ap, ◌∙◌}
 use Rattle.reactor_journal.specs.Past as P
 use Rattle.reactor_state.specs.Sound.{handle_number}
 use Rattle.reactor_state.proofs.Lists.{passes}

@@ -1,11 +1,10 @@
-use Rattle.std.proofs.Common.{◌≡◌, ◌<◌, ◌≤◌, ◌&&◌, ℕ, List, length, take, drop, length-drop, ◌-◌, arith, get_or, ap, sym, ◌∙◌}
+use Rattle.std.proofs.Common.{◌≡◌, ◌<◌, ◌≤◌, ◌&&◌, length, take, drop, length-drop, ◌-◌, arith, get_or, ap, sym, ◌∙◌}
 use Rattle.std.specs.Prelude.{nat_le}
 use Rattle.std.proofs.lemmas.Bool.{le-leb, lt-leb}
 use Rattle.std.proofs.lemmas.List.{take_all}
 use Rattle.std.specs.List.{find}
 use Rattle.std.specs.Option.{option_map}
 use Rattle.reactor_summary.specs.declared.parts.LiveHandle.{LiveHandle}
-use Rattle.reactor_state.specs.Sound.{handle_number}
 use Rattle.reactor_state.proofs.Lists.{find_from}
 use Rattle.reactor_state.proofs.handles.next_alive.Goals as goal
 

@@ -1,6 +1,5 @@
 use Rattle.std.proofs.Common.{◌==◌, not, rules}
 use Rattle.std.proofs.lemmas.Fn.{filter_same}
-use Rattle.reactor_journal.specs.Past as P
 use Rattle.reactor_summary.specs.declared.parts.WaitingEvent.{WaitingEvent}
 use Rattle.reactor_state.proofs.waiting.drop_of.Goals as goal
 

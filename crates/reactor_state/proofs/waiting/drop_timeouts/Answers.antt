@@ -1,4 +1,4 @@
-use Rattle.std.proofs.Common.{◌==◌, not, rules}
+use Rattle.std.proofs.Common.{not, rules}
 use Rattle.std.proofs.lemmas.Fn.{filter_same}
 use Rattle.reactor_journal.specs.Past as P
 use Rattle.reactor_summary.specs.declared.parts.WaitingEvent.{WaitingEvent}

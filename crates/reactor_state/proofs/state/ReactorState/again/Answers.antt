@@ -1,20 +1,15 @@
-use Rattle.std.proofs.Common.{◌≡◌, ◌+◌, ◌-◌, ◌==◌, ℕ, suc, List, [], ◌∷◌, ◌++◌, Bool, not, true, false, Some, None, length, map, refl, sym, ap, ◌∙◌, subst, arith}
-use Rattle.ev_types.specs.declared.upcall.Answer.TheVariants.{Keep, Again, Close}
-use Rattle.reactor_journal.specs.Past.{upcall_of}
-use Rattle.reactor_journal.specs.declared.entry.Entry.TheVariants.{Opened, Scheduled, Cancelled, Polled, Due, Ready, Posted, Stale, Started, Returned, Masked, Suspended, Resumed, Refused, Removed, Closed, Ended}
+use Rattle.std.proofs.Common.{◌≡◌, ◌==◌, ℕ, List, [], ◌∷◌, ◌++◌, Bool, true, false, None, sym, ap, ◌∙◌, subst}
 use Rattle.reactor_summary.specs.declared.parts.LiveHandle.{LiveHandle}
 use Rattle.reactor_summary.specs.declared.parts.WaitingEvent.{WaitingEvent}
 use Rattle.reactor_summary.specs.Summary as S
 use Rattle.reactor_summary.specs.Summary.{Summary}
-use Rattle.reactor_state.specs.State.{Numbers, numbers_in, numbers_of, without_handle}
-use Rattle.reactor_state.specs.Tables.{alive_count, queues}
-use Rattle.reactor_state.proofs.Soundness.{sound_after}
+use Rattle.reactor_state.specs.State.{Numbers}
+use Rattle.reactor_state.specs.Tables.{queues}
 use Rattle.std.proofs.Common.{◌&&◌, cond}
 use Rattle.std.proofs.lemmas.List.{append-nil}
 use Rattle.std.specs.List.{list_any}
 use Rattle.reactor_state.specs.Sound.{handle_number}
 use Rattle.reactor_state.specs.Rises.{RisesIn}
-use Rattle.reactor_state.specs.State.{HasTables}
 use Rattle.reactor_state.specs.Tables.{by_class}
 use Rattle.reactor_state.proofs.Stepped.{event_pushed}
 use Rattle.reactor_state.proofs.state.ReactorState.again.Goals as goal

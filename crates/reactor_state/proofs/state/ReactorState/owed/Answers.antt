@@ -1,4 +1,4 @@
-use Rattle.std.proofs.Common.{◌≡◌, ◌≤◌, ◌+◌, ◌*◌, ℕ, Bool, List, length, cond, ap, sym, ◌∙◌, arith}
+use Rattle.std.proofs.Common.{◌≡◌, ◌≤◌, ◌+◌, ◌*◌, ℕ, Bool, List, length, cond, ap, ◌∙◌, arith}
 use Rattle.reactor_summary.specs.declared.parts.LiveHandle.{LiveHandle}
 use Rattle.reactor_summary.specs.declared.parts.OpenEvent.{OpenEvent}
 use Rattle.reactor_state.specs.Tables.{alive_count}

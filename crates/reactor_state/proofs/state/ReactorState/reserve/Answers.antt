@@ -1,4 +1,4 @@
-use Rattle.std.proofs.Common.{◌≡◌, ◌≤◌, ◌+◌, length, ◌∙◌, ap, arith}
+use Rattle.std.proofs.Common.{length, ◌∙◌, ap, arith}
 use Rattle.reactor_state.proofs.state.ReactorState.reserve.Goals as goal
 
 pub returns-in_err-reserve-2-clause-shows : goal.returns-in_err-reserve-2-clause-shows

@@ -1,14 +1,9 @@
-use Rattle.std.proofs.Common.{◌≡◌, ◌+◌, ◌-◌, ◌==◌, ℕ, suc, List, [], ◌∷◌, ◌++◌, Bool, not, true, false, Some, None, length, map, refl, sym, ap, ◌∙◌, subst, arith}
+use Rattle.std.proofs.Common.{[], ◌∷◌, length, refl, ap, arith}
 use Rattle.std.proofs.lemmas.List.{length-append}
-use Rattle.ev_types.specs.declared.upcall.Answer.TheVariants.{Keep, Again, Close}
-use Rattle.reactor_journal.specs.Past.{upcall_of}
-use Rattle.reactor_journal.specs.declared.entry.Entry.TheVariants.{Opened, Scheduled, Cancelled, Polled, Due, Ready, Posted, Stale, Started, Returned, Masked, Suspended, Resumed, Refused, Removed, Closed, Ended}
-use Rattle.reactor_summary.specs.declared.parts.LiveHandle.{LiveHandle}
-use Rattle.reactor_summary.specs.declared.parts.WaitingEvent.{WaitingEvent}
+use Rattle.reactor_journal.specs.declared.entry.Entry.TheVariants.{Started}
 use Rattle.reactor_summary.specs.Summary as S
 use Rattle.reactor_summary.specs.Summary.{Summary}
-use Rattle.reactor_state.specs.State.{Numbers, numbers_in, numbers_of, without_handle}
-use Rattle.reactor_state.specs.Tables.{alive_count, queues}
+use Rattle.reactor_state.specs.Tables.{queues}
 use Rattle.reactor_state.proofs.Soundness.{sound_after}
 use Rattle.reactor_state.proofs.Stepped.{tables_counted, due_is_reached, due_is_fresh, started, started_tables}
 use Rattle.reactor_state.proofs.Queued.{taken_room, room_moved, got}

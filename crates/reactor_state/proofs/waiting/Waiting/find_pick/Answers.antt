@@ -1,6 +1,4 @@
-use Rattle.std.proofs.Common.{◌≡◌, ◌∙◌, sym, ap, refl, Option, Some, None}
-use Rattle.reactor_summary.specs.declared.parts.WaitingEvent.{WaitingEvent}
-use Rattle.reactor_summary.specs.Summary.{first_free}
+use Rattle.std.proofs.Common.{◌≡◌, ◌∙◌, sym, ap, refl, Some}
 use Rattle.std.specs.Prelude.{slice_get}
 use Rattle.reactor_state.specs.declared.places.Pick.{Pick}
 use Rattle.reactor_state.specs.Tables.{Queues, queues, queue_of}
