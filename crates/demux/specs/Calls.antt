@@ -1,5 +1,5 @@
 -- A call of a net as the code names it, and as contracts see it.
-use Rattle.std.specs.Prelude.{ℕ, ◌∷◌, List, map, Option}
+use Rattle.std.specs.Prelude.{ℕ, List, map}
 use Rattle.ev_base.specs.declared.net.Report.{Report}
 use Rattle.ev_base.specs.Net.{Call, Waits, Attaches, SetsMask, Retires, TurnsAway}
 use Rattle.demux.specs.declared.calls.Made.{Made}

@@ -1,5 +1,5 @@
 -- The end that the tests of a reactor use: it always pauses.
-use Rattle.std.specs.Prelude.{◌≡◌, ℕ, zero, suc, false, [], Option, Some, None, false}
+use Rattle.std.specs.Prelude.{ℕ, zero, suc, false, [], Option, Some, None, false}
 use Rattle.ev_base.specs.End.{EndFacts, Try, Paused}
 use Rattle.demux.specs.declared.play_end.PlayEnd.{PlayEnd}
 

@@ -19,9 +19,7 @@ pub(crate) fn reached(moments: &[u64], waits: usize) -> u64
 fn wants(watched: &[Watched], report: &Report) -> bool
     ensures { result ≡ wants watched.now report.now }
 {
-    watched
-        .iter()
-        .any(|w| w.handle.0 == report.handle.0 && mask_has(w.mask, report.kind))
+    watched.iter().any(|w| w.handle.0 == report.handle.0 && mask_has(w.mask, report.kind))
 }
 
 // Whether the end of a handle is attached.
@@ -35,9 +33,7 @@ fn is_attached(watched: &[Watched], handle: u64) -> bool
 fn is_gone(attached: bool, retired: &[Retired], planned: &(usize, Report)) -> bool
     ensures { result ≡ is_gone attached retired.now planned.now }
 {
-    retired
-        .iter()
-        .any(|r| r.handle.0 == planned.1.handle.0 && (planned.0 < r.waits || !attached))
+    retired.iter().any(|r| r.handle.0 == planned.1.handle.0 && (planned.0 < r.waits || !attached))
 }
 
 // Whether a report is dropped at a wait.

@@ -1,4 +1,4 @@
-use Rattle.std.proofs.Common.{ap, set, get_or, refl, ◌∙◌, arith, false}
+use Rattle.std.proofs.Common.{ap, set, ◌∙◌, arith, false}
 use Rattle.std.proofs.lemmas.List.{get_or_default}
 use Rattle.std.proofs.lemmas.List.Edits.{map_over_more}
 use Rattle.demux.specs.declared.watched.Watched.{Watched}

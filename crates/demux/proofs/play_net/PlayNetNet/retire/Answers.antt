@@ -1,10 +1,9 @@
-use Rattle.std.proofs.Common.{arith, rules, sym, ap, subst, ◌≡◌, ◌∙◌, ◌<◌, ◌∷◌, length, List}
+use Rattle.std.proofs.Common.{arith, rules, sym, subst, ◌≡◌, ◌<◌, length, List}
 use Rattle.std.proofs.lemmas.Fn.{filter_same}
 use Rattle.std.proofs.lemmas.Grind.{common_steps}
 use Rattle.std.specs.List.{Contains}
 use Rattle.ev_base.specs.Net.{RetiresEnd}
 use Rattle.demux.specs.declared.watched.Watched.{Watched}
-use Rattle.demux.specs.declared.watched.Retired.{Retired}
 use Rattle.demux.specs.PlayNet.{play_net_facts, not_watching, handles_of}
 use Rattle.demux.proofs.Playing.{retires_end, fewer_watched}
 use Rattle.demux.proofs.play_net.PlayNetNet.retire.Goals as goal
@@ -19,12 +18,14 @@ fewer c =
 
 pub invariant_of-self : goal.invariant_of-self
 invariant_of-self c =
-    let less = fewer c in
-    (c.self.invariant.0, record {
-      to_watch = omega (arith, c.retain.ensures.capacity);
-      to_retire = omega (arith, c.in-Ok.ensures.capacity, c.in-Ok.ensures.len);
-      to_turn_away = c.self.invariant.1.to_turn_away;
-    })
+    let less = fewer c in (
+      c.self.invariant.0,
+      record {
+        to_watch = omega (arith, c.retain.ensures.capacity);
+        to_retire = omega (arith, c.in-Ok.ensures.capacity, c.in-Ok.ensures.len);
+        to_turn_away = c.self.invariant.1.to_turn_away;
+      },
+    )
 
 pub returns-clause-plays : goal.returns-clause-plays
 returns-clause-plays c = let e = left c in grind (arith, common_steps, e)

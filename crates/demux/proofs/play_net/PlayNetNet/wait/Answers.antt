@@ -1,27 +1,26 @@
-use Rattle.std.proofs.Common.{arith, rules, sym, ap, subst, refl, ◌≡◌, ◌∙◌, ◌-◌, take, drop, length, Some, None, Option, ℕ}
+use Rattle.std.proofs.Common.{arith, sym, ap, refl, ◌≡◌, ◌∙◌, ◌-◌, take, drop, length, Some, None}
 use Rattle.std.proofs.lemmas.List.{take_rest, length-take}
 use Rattle.std.proofs.lemmas.Grind.{common_steps}
 use Rattle.std.proofs.lemmas.Option.{slice_get_read}
 use Rattle.std.specs.List.{slice_get}
-use Rattle.ev_base.specs.Net.{NetWaits}
 use Rattle.ev_base.specs.declared.net.Waited.TheVariants.{Over}
 use Rattle.demux.specs.Calls.{reports_of}
-use Rattle.demux.specs.PlayNet.{play_net_facts, PlaysWait, kept_at, given_at, left_at, given_by_wait, left_by_wait, reached, answer_at, do_not_fall, are_bounded}
+use Rattle.demux.specs.PlayNet.{kept_at, given_at, left_at, given_by_wait, left_by_wait, reached, answer_at, do_not_fall, are_bounded}
 use Rattle.demux.proofs.Playing.{sorted_parts, drop-take_none, take-take_same, none_past, plays_over, plays_some, net_waits}
 use Rattle.demux.proofs.play_net.PlayNetNet.wait.Goals as goal
 
 pub returns-then-self-len-clause-plays : goal.returns-then-self-len-clause-plays
 returns-then-self-len-clause-plays c =
     let over : slice_get c.args.self.now.moments c.args.self.now.waits ≡ None =
-        ap (λ n. slice_get n.moments n.waits) (sym c.self.view_is) ∙ none_past c.self.inside.moments.items c.self.inside.waits (omega arith) in
+    ap (λ n. slice_get n.moments n.waits) (sym c.self.view_is) ∙ none_past c.self.inside.moments.items c.self.inside.waits (omega arith) in
     plays_over c.args.self.now c.args.most_ms _ _ over
     (ap Over (c.reached.ensures ∙ ap (reached c.self.inside.waits) c.deref.ensures.value ∙ ap (λ n. reached n.waits n.moments) c.self.view_is))
     (let given = ap reports_of (ap (drop c.self.inside.waiting) c.truncate.ensures.items ∙ drop-take_none c.self.inside.waiting c.self.inside.planned.items) in
-     let left = ap (take c.self.inside.waiting) c.truncate.ensures.items ∙ take-take_same c.self.inside.waiting c.self.inside.planned.items in
-     grind (arith, common_steps, given, left))
+    let left = ap (take c.self.inside.waiting) c.truncate.ensures.items ∙ take-take_same c.self.inside.waiting c.self.inside.planned.items in
+    grind (arith, common_steps, given, left))
 
 parts : (c : goal.After-add-2) → (take c.sort_out-self-inside.result c.sort_out-self-inside.new.planned.items ≡ left_at c.self.inside.waits c.self.inside.watched.items (kept_at c.self.inside.waits c.self.inside.watched.items c.self.inside.retired.items (take c.self.inside.waiting c.self.inside.planned.items)))
-  × (drop c.sort_out-self-inside.result c.sort_out-self-inside.new.planned.items ≡ given_at c.self.inside.waits c.self.inside.watched.items (kept_at c.self.inside.waits c.self.inside.watched.items c.self.inside.retired.items (take c.self.inside.waiting c.self.inside.planned.items)))
+    × (drop c.sort_out-self-inside.result c.sort_out-self-inside.new.planned.items ≡ given_at c.self.inside.waits c.self.inside.watched.items (kept_at c.self.inside.waits c.self.inside.watched.items c.self.inside.retired.items (take c.self.inside.waiting c.self.inside.planned.items)))
 parts c =
     sorted_parts c.self.inside.waits c.self.inside.watched.items c.deref-2.result.now c.self.inside.retired.items c.deref-3.result.now (take c.self.inside.waiting c.self.inside.planned.items) c.truncate.new.self.items c.sort_out-self-inside.new.planned.items c.sort_out-self-inside.result
     c.deref-2.ensures.value c.deref-3.ensures.value c.truncate.ensures.items c.sort_out-self-inside.ensures.left c.sort_out-self-inside.ensures.parted
