@@ -1,5 +1,5 @@
 //! A demultiplexer for the tests of a reactor, whose moments and reports are laid down when it is made.
-ghost use Rattle.std.specs.Prelude.{◌≡◌, ◌≤◌, ◌<◌, ◌∷◌, ◌-◌, ℕ, true, length, slice_get, option_map, Some, None, OnOk, Contains};
+ghost use Rattle.std.specs.Prelude.{◌≡◌, ◌≤◌, ◌<◌, ◌∷◌, ◌-◌, ℕ, true, length, slice_get, option_map, Some, None, OnOk, IsOk, Contains};
 ghost use Rattle.demux.specs.PlayNet.{play_net_facts, do_not_fall, are_bounded, new_play, PlaysWait, watching, with_mask, not_watching, retired_of};
 
 use super::PlayEnd;
@@ -123,6 +123,7 @@ impl Net for PlayNet {
         ensures places { OnOk result (n ≤ (play_net_facts self.new).spare) }
         ensures kept { (t : Terms) → play_net_keeps t self.old → play_net_keeps t self.new }
         ensures plays { self.new ≡ record self.old { spare = self.new.spare } }
+        ensures room { n ≤ self.old.spare → IsOk result }
     {
         if n <= self.spare {
             return Ok(());
