@@ -3,7 +3,7 @@ ghost use Rattle.std.specs.Prelude.{◌≡◌, false, None};
 
 use ev_base::{Got, PeerEnd, Sent, Taken};
 
-/// An end of a connection that is never ready: each read and each write pauses, and is counted.
+/// An end of a connection that is never ready: each read, accept and write pauses, and is counted.
 #[derive(Drop)]
 pub struct PlayEnd {
     reads: u64,
@@ -31,6 +31,8 @@ impl PlayEnd {
 }
 
 impl PeerEnd for PlayEnd {
+    ghost use Rattle.ev_base.specs.End.{Accepts, KeptByGiven};
+    ghost use Rattle.ev_base.specs.Terms.{Terms};
     ghost use Rattle.ev_base.specs.KeepsStory.{KeepsStory};
     ghost use Rattle.demux.specs.PlayEnd.{play_end_facts};
 
@@ -52,8 +54,15 @@ impl PeerEnd for PlayEnd {
         Sent::Pause
     }
 
-    fn accept(&mut self) -> Taken<PlayEnd> {
-        unreachable!()
+    // It needs no listener, since it pauses as the other calls do.
+    fn accept(&mut self) -> Taken<PlayEnd>
+        ensures accepts { Accepts play_end_facts (play_end_facts self.old) result (play_end_facts self.new) }
+        ensures kept { (t : Terms) → KeepsStory t (play_end_facts self.old) → KeepsStory t (play_end_facts self.new) }
+        ensures given { (t : Terms) → KeepsStory t (play_end_facts self.old) → KeptByGiven (λ end. KeepsStory t (play_end_facts end)) result }
+        ensures pauses { result ≡ Taken.Pause }
+    {
+        self.reads = self.reads.saturating_add(1);
+        Taken::Pause
     }
 
     ghost keeps_story = { λ t end keeps. keeps };

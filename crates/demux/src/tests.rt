@@ -3,7 +3,7 @@ ghost use Rattle.std.specs.Prelude.{◌≡◌, ◌≤◌, ◌∷◌, [], IfOk};
 ghost use Rattle.demux.specs.PlayNet.{play_net_facts};
 
 use super::*;
-use ev_base::{Got, Net, PeerEnd, Report, Sent, Waited};
+use ev_base::{Got, Net, PeerEnd, Report, Sent, Taken, Waited};
 use ev_types::{Handle, Kind, Mask};
 use std::alloc::Global;
 use std::test::Fail;
@@ -142,5 +142,7 @@ fn pauses<E: PeerEnd>(rt: &impl std::process::Abort, end: &mut E) -> Result<(), 
 fn an_end_pauses(rt: HostRuntime) -> Result<(), Fail> {
     let mut end = PlayEnd::new();
     assert!(rt; !end.is_listener());
-    pauses(&rt, &mut end)
+    pauses(&rt, &mut end)?;
+    assert!(rt; matches!(end.accept(), Taken::Pause));
+    Ok(())
 }
