@@ -1,0 +1,5 @@
+pub mod Calls
+pub mod PlayEnd
+pub mod PlayNet
+pub mod PlayRoom
+pub mod PlayKeeps

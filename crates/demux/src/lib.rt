@@ -1,0 +1,14 @@
+//! Demultiplexers in memory (POSA2, Reactor: Synchronous Event Demultiplexer): `PlayNet`, which plays moments and reports that
+//! a test laid down, with its ends, `PlayEnd`.
+#![tactic(auto)]
+
+mod calls;
+mod planned;
+mod play_end;
+mod play_net;
+#[cfg(test)]
+mod tests;
+mod watched;
+
+pub use play_end::PlayEnd;
+pub use play_net::PlayNet;
