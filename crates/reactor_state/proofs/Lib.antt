@@ -7,3 +7,4 @@ pub mod Soundness
 pub mod Queued
 pub mod Stepped
 pub mod Room
+pub mod Fewer

@@ -45,6 +45,14 @@ pub record Numbers : Type 0 where
 abbrev pub numbers_in : Summary → Numbers
 numbers_in s = record { entries = s.entries; moment = s.moment; opened = s.opened; closed = s.closed; scheduled = s.scheduled; refused = s.refused; ended = s.ended; alive = alive_count s.handles }
 
+-- each number of places of the first is at most that of the second
+pub record IsFewer (few many : Places) : Type 0 where
+  pub handles : few.handles ≤ many.handles
+  pub timers : few.timers ≤ many.timers
+  pub timeouts : few.timeouts ≤ many.timeouts
+  pub events : few.events ≤ many.events
+  pub opens : few.opens ≤ many.opens
+
 module _ {Q : Type 0} where
   -- it can take so many more handles, timers, waiting timeouts, other waiting events (of each of the four other
   -- classes) and open events without memory

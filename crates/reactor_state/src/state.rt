@@ -7,7 +7,7 @@ ghost use Rattle.reactor_journal.specs.Past as P;
 ghost use Rattle.reactor_summary.specs.Summary as S;
 ghost use Rattle.reactor_summary.specs.Summary.{Summary};
 ghost use Rattle.reactor_summary.specs.Rules as R;
-ghost use Rattle.reactor_state.specs.Tables.{armed_of, first_deadline};
+ghost use Rattle.reactor_state.specs.Tables.{alive_count, armed_of, first_deadline};
 ghost use Rattle.reactor_state.specs.State.{Shows, HasPlaces, Tells, IsPlaced, owed};
 
 use crate::armed::Armed;
@@ -95,6 +95,7 @@ impl<Q: TimerQueue> ReactorState<Q> {
         ensures room { OnOk result (HasPlaces Q.spare more self.new) }
         ensures kept { (p : Places) → HasPlaces Q.spare p self.old → HasPlaces Q.spare p self.new }
         ensures at_once { HasPlaces Q.spare more self.old → IsOk result }
+        ensures placed { (pick : Pick) → IsPlaced self.old pick → IsPlaced self.new pick }
     {
         self.handles.reserve(more.handles)?;
         self.armed.reserve(more.timers)?;
@@ -158,6 +159,13 @@ impl<Q: TimerQueue> ReactorState<Q> {
         ensures { Tells Q.timers self.now (λ s. result ≡ owed s) }
     {
         owed_of(&self.opens, &self.handles, self.alive, self.ended)
+    }
+
+    /// How many handles are alive.
+    pub fn alive_count(&self) -> usize
+        ensures { Tells Q.timers self.now (λ s. result ≡ alive_count s.handles) }
+    {
+        self.alive
     }
 
     /// How many events are open.

@@ -34,7 +34,7 @@ no_mine most e past x legal may unopened j r =
     (cases_Bool (belongs_to x (event_at past j)))
 
 -- a handle that was not opened has had no turn
-had_none : {N : Type 0} (most : ℕ) (past : List (Entry N)) (x : ℕ) → is_legal most past ≡ true → was_opened past x ≡ false → had past x ≡ []
+pub had_none : {N : Type 0} (most : ℕ) (past : List (Entry N)) (x : ℕ) → is_legal most past ≡ true → was_opened past x ≡ false → had past x ≡ []
 had_none most [] x legal h = refl
 had_none most (e ∷ past) x legal h =
     let parts : (may_follow most past e ≡ true) × (is_legal most past ≡ true) = and_parts _ _ legal in

@@ -1,0 +1,15 @@
+pub mod Seats
+pub mod Moves
+pub mod Dispatch
+pub mod Ends
+pub mod Steps
+pub mod Kept
+pub mod Start
+pub mod Started
+pub mod Closed
+pub mod Settled
+pub mod Owed
+pub mod Returned
+pub mod SettleEvent
+pub mod Removed
+pub mod Stopped

@@ -1,0 +1,9 @@
+pub mod Handlers
+pub mod Ends
+pub mod Calls
+pub mod Stands
+pub mod Upcalls
+pub mod Closing
+pub mod Settling
+pub mod Settles
+pub mod Removing

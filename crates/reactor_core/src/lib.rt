@@ -1,0 +1,16 @@
+//! The one-thread reactor (POSA2, Reactor: Initiation Dispatcher; C++NPv2 chapter 3, `ACE_Reactor`).
+#![tactic(auto)]
+
+mod append;
+mod closing;
+mod job;
+mod reactor;
+mod removing;
+mod room;
+mod settling;
+mod upcalls;
+
+pub use job::{Done, Job};
+pub use reactor::Core;
+pub use removing::NotLive;
+pub use upcalls::StartRefused;

@@ -1,0 +1,65 @@
+//! Room for what a call appends, and for what is owed.
+ghost use Rattle.std.specs.Prelude.{◌≡◌, ◌≤◌, ◌+◌, ◌^◌, ℕ, List, OnOk, IfSome};
+ghost use Rattle.ev_base.specs.Terms.{Terms};
+ghost use Rattle.reactor_journal.specs.declared.entry.Entry.{Entry};
+ghost use Rattle.reactor_journal.specs.Past.{past_of};
+ghost use Rattle.reactor_summary.specs.Summary.{summary};
+ghost use Rattle.reactor_core.specs.Stands.{meaning, Stands, Keeps, HasRoom, places_for};
+ghost use Rattle.reactor_state.specs.State.{Shows, HasPlaces, IsPlaced};
+
+use crate::Core;
+use ev_base::Net;
+use ev_types::NoMemory;
+use reactor_model::{EventHandler, Volumes, Watch};
+use reactor_state::Places;
+use timer_queue::TimerQueue;
+
+/// How many entries a history has at most.
+const MOST_ENTRIES: u64 = 1 << 62;
+
+/// Places for so many more beside those for the open events, or None where there are too many.
+fn places_for(opened: usize, more: Places) -> Option<Places>
+    ensures { IfSome result (λ places. places ≡ places_for opened more) }
+{
+    Some(Places {
+        handles: opened.checked_add(more.handles)?,
+        timers: opened.checked_add(more.timers)?,
+        timeouts: opened.checked_add(more.timeouts)?,
+        events: opened.checked_add(more.events)?,
+        opens: more.opens,
+    })
+}
+
+/// How many entries there must be room for, beside those that there are, or None where they are too many.
+fn entries_for(owed: usize, more: usize, held: u64) -> Option<usize>
+    ensures entries { IfSome result (λ entries. entries ≡ owed + more) }
+    ensures within { IfSome result (λ entries. held + entries ≤ 2 ^ 62) }
+{
+    let entries = owed.checked_add(more)?;
+    let all = held.checked_add(entries as u64)?;
+    if all > MOST_ENTRIES { None } else { Some(entries) }
+}
+
+impl<H: EventHandler, M: Net<End = H::End>, Q: TimerQueue, W: Watch<H::Note>, V: Volumes<H::Note>>
+    Core<H, M, Q, W, V>
+{
+    /// Makes room for so many more entries and places. After `NoMemory` there is no less room than before.
+    pub(crate) fn make_room(&mut self, entries: usize, more: Places) -> Result<(), NoMemory>
+        ensures kept { Keeps (meaning H.means M.facts M.keeps (Shows Q.timers) (HasPlaces Q.spare) IsPlaced W.stands V.facts) self.old self.new }
+        ensures room { OnOk result ((t : Terms) (F : ℕ) (h : List (Entry H.Note)) → Stands (meaning H.means M.facts M.keeps (Shows Q.timers) (HasPlaces Q.spare) IsPlaced W.stands V.facts) t self.old F h
+            → HasRoom (meaning H.means M.facts M.keeps (Shows Q.timers) (HasPlaces Q.spare) IsPlaced W.stands V.facts) entries more self.new (summary (past_of h))) }
+    {
+        let open = self.state.open_count();
+        let Some(entries) = entries_for(self.state.owed(), entries, self.state.entries()) else {
+            return Err(NoMemory);
+        };
+        let Some(places) = places_for(open, more) else {
+            return Err(NoMemory);
+        };
+        self.journal.reserve(entries)?;
+        self.state.reserve(places)?;
+        self.repo.reserve(places.handles)?;
+        self.net.reserve(places.handles)?;
+        Ok(())
+    }
+}

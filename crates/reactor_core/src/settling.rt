@@ -1,0 +1,77 @@
+//! The settling of an upcall.
+ghost use Rattle.std.specs.Prelude.{◌≡◌, ◌≤◌, ◌+◌, ◌-◌, ◌++◌, ◌∷◌, [], ℕ, List, Some, None, length};
+ghost use Rattle.ev_base.specs.Terms.{Terms};
+ghost use Rattle.reactor_journal.specs.declared.entry.Entry.{Entry};
+ghost use Rattle.reactor_journal.specs.Past.{past_of};
+ghost use Rattle.reactor_summary.specs.declared.parts.OpenEvent.{OpenEvent};
+ghost use Rattle.reactor_summary.specs.Summary.{summary, open_event};
+ghost use Rattle.reactor_state.specs.State.{HasNumber, no_places, Shows, HasPlaces, IsPlaced};
+ghost use Rattle.reactor_state.specs.declared.places.Places.{Places};
+ghost use Rattle.reactor_core.specs.Stands.{meaning, Stands, StandsWith, Tracks, TracksWith, SpendsRoom};
+ghost use Rattle.reactor_core.specs.Settling.{why_of, IsSettling, IsReturned};
+ghost use Rattle.reactor_core.specs.Settles.{TakesBack, SettlesEvent};
+
+use crate::Core;
+use crate::append::append;
+use ev_base::Net;
+use ev_types::{Answer, Handle, Why};
+use reactor_model::{Entry, EventHandler, Volumes, Watch};
+use reactor_summary::OpenEvent;
+use timer_queue::TimerQueue;
+
+/// Why a handler is closed when its upcall is settled: for itself where it was alive until then, and else as it was removed.
+fn why_of(alive: bool) -> Why
+    ensures { result ≡ why_of alive }
+{
+    if alive { Why::Own } else { Why::Removed }
+}
+
+impl<H: EventHandler, M: Net<End = H::End>, Q: TimerQueue, W: Watch<H::Note>, V: Volumes<H::Note>>
+    Core<H, M, Q, W, V>
+{
+    /// Settles an upcall but for its act: its handler goes home, or is closed where its handle is not alive any more.
+    pub(crate) fn settle_event(&mut self, settled: OpenEvent, answer: Answer, note: H::Note, handler: H)
+        requires stands { StandsWith (meaning H.means M.facts M.keeps (Shows Q.timers) (HasPlaces Q.spare) IsPlaced W.stands V.facts) (λ t h. IsSettling H.means t (past_of h) settled answer note handler) self.old }
+        ensures { (t : Terms) (F : ℕ) (h : List (Entry H.Note)) → Stands (meaning H.means M.facts M.keeps (Shows Q.timers) (HasPlaces Q.spare) IsPlaced W.stands V.facts) t self.old F h
+            → IsSettling H.means t (past_of h) settled answer note handler
+            → SettlesEvent (meaning H.means M.facts M.keeps (Shows Q.timers) (HasPlaces Q.spare) IsPlaced W.stands V.facts) t F h settled answer note self.new }
+    {
+        let alive = self.state.is_alive(settled.handle);
+        self.record_return(settled.event, answer, note);
+        self.take_back(settled.handle, handler, why_of(alive));
+    }
+
+    /// Appends the `Returned` of an open event.
+    fn record_return(&mut self, event: u64, answer: Answer, note: H::Note)
+        requires tracks { TracksWith (meaning H.means M.facts M.keeps (Shows Q.timers) (HasPlaces Q.spare) IsPlaced W.stands V.facts) None [] (λ t h. HasNumber (summary (past_of h))) self.old }
+        requires room { 1 ≤ self.old.journal.spare }
+        requires places { HasPlaces Q.spare (record no_places { timeouts = 1; events = 1 }) self.old.state }
+        ensures tracks { (t : Terms) (F : ℕ) (h : List (Entry H.Note)) (o : OpenEvent) → open_event (summary (past_of h)) event ≡ Some o → HasNumber (summary (past_of h))
+            → Tracks (meaning H.means M.facts M.keeps (Shows Q.timers) (HasPlaces Q.spare) IsPlaced W.stands V.facts) t self.old F h None []
+            → Tracks (meaning H.means M.facts M.keeps (Shows Q.timers) (HasPlaces Q.spare) IsPlaced W.stands V.facts) t self.new F (h ++ Entry.Returned event answer note ∷ []) (Some o.handle.0) [] }
+        ensures journal { self.new.journal.spare + 1 ≡ self.old.journal.spare }
+        ensures places { (p : Places) → HasPlaces Q.spare p self.old.state → HasPlaces Q.spare (record p { timeouts = p.timeouts - 1; events = p.events - 1 }) self.new.state }
+        ensures repo { self.new.repo ≡ self.old.repo }
+        ensures net { self.new.net ≡ self.old.net }
+    {
+        self.state.settle::<H::Note>(event, answer);
+        append(&mut self.journal, &mut self.watch, Entry::Returned { event, answer, note });
+    }
+
+    /// The handler in hand goes home where its handle is alive, and is closed else.
+    fn take_back(&mut self, handle: Handle, handler: H, why: Why)
+        requires tracks { TracksWith (meaning H.means M.facts M.keeps (Shows Q.timers) (HasPlaces Q.spare) IsPlaced W.stands V.facts) (Some handle.0) []
+            (λ t h. IsReturned H.means t (past_of h) handle.0 handler why × HasNumber (summary (past_of h))) self.old }
+        requires room { 1 ≤ self.old.journal.spare }
+        ensures tracks { (t : Terms) (F : ℕ) (h : List (Entry H.Note)) → Tracks (meaning H.means M.facts M.keeps (Shows Q.timers) (HasPlaces Q.spare) IsPlaced W.stands V.facts) t self.old F h (Some handle.0) []
+            → IsReturned H.means t (past_of h) handle.0 handler why → HasNumber (summary (past_of h))
+            → TakesBack (meaning H.means M.facts M.keeps (Shows Q.timers) (HasPlaces Q.spare) IsPlaced W.stands V.facts) t F h handle self.old self.new }
+        ensures room { SpendsRoom (meaning H.means M.facts M.keeps (Shows Q.timers) (HasPlaces Q.spare) IsPlaced W.stands V.facts) 1 self.old self.new }
+    {
+        if self.state.is_alive(handle) {
+            self.repo.give_back(handle, handler);
+            return;
+        }
+        self.close_handler(handle, handler, why);
+    }
+}
