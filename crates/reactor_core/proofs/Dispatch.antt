@@ -37,13 +37,11 @@ use Rattle.handler_repo.specs.declared.seat.Seat.{Seat}
 use Rattle.handler_repo.specs.declared.seat.Seat.TheVariants.{Home, Out}
 use Rattle.reactor_core.specs.Handlers.{is_live, IsOut, IsHome, SeatStands, is_in_hand, IsInHand, SeatBy, RepositoryStands}
 use Rattle.reactor_core.proofs.Seats.{seat_with_entry, seat_with_seat, seat_with_seat_other, seat_without, seat_without_other, same_numbers, end_number, seat_by_same}
-
 use Rattle.reactor_journal.proofs.Basics.{event_at-before}
 use Rattle.reactor_journal.proofs.OneOpen.{started_is_event}
 use Rattle.reactor_journal.proofs.Steps.{busy_event, event_busy}
 use Rattle.reactor_journal.proofs.Closing.{Gone, closed_gone}
 use Rattle.reactor_core.proofs.Moves.{live_is, busy_opened, IsOpenAs, open_as, found_open, open_told, absent}
-
 
 not_from : (b : Bool) → (b ≡ true → ⊥) → b ≡ false
 not_from b f = ⊎_elim (λ (t : b ≡ true). absurd (f t)) (λ (n : b ≡ false). n) (cases_Bool b)
@@ -57,8 +55,7 @@ or_none false = refl
 pub fresh_is_dead : {N : Type 0} (most : ℕ) (past : List (Entry N)) (x : ℕ) → is_legal most past ≡ true → P.opened past ≡ x
     → (is_live (summary past) x ≡ false) × (is_busy (summary past) x ≡ false) × (had past x ≡ [])
 fresh_is_dead most past x legal q =
-    let bare : Bare past x = next_is_bare most past x legal q in
-    (
+    let bare : Bare past x = next_is_bare most past x legal q in (
       live_is most past x legal ∙ ap (λ b. b && (not (P.was_closed past x) && true)) bare.opened,
       not_from _ (λ h. both_ways _ bare.opened (busy_opened most past x legal h)),
       had_none most past x legal bare.opened,
@@ -78,14 +75,19 @@ module _ {H E N : Type 0} (means : Handling H E N) (t : Terms) (most : ℕ) wher
     where
       new : List (Entry N)
       new = Opened handle mask ∷ past
+
       dead : (is_live (summary past) handle.0 ≡ false) × (is_busy (summary past) handle.0 ≡ false) × (had past handle.0 ≡ [])
       dead = fresh_is_dead most past handle.0 legal next
+
       none : (is_in_hand hand handle.0 ≡ false) × (R.seat_of handle.0 entries ≡ None)
       none = absent means t (is_in_hand hand handle.0) past handle.0 (R.seat_of handle.0 entries) dead.0 (st handle.0)
+
       seat : (x : ℕ) → R.seat_of x (R.with_entry (record { handle = handle.0; seat = Home handler }) entries) ≡ cond (handle.0 == x) (Some (Home handler)) (R.seat_of x entries)
       seat x = seat_with_entry (record { handle = handle.0; seat = Home handler }) entries x none.1
+
       live : (x : ℕ) → is_live (summary new) x ≡ (is_live (summary past) x || handle.0 == x)
       live x = list_any-append (λ (h : LiveHandle). h.handle.0 == x) (summary past).handles (record { handle = handle; mask = mask; suspended = false; alive = true } ∷ []) ∙ ap (λ b. is_live (summary past) x || b) (or_none (handle.0 == x))
+
       mine : IsHome means t new handle.0 handler
       mine = record {
         live = live handle.0 ∙ or_right (is_live (summary past) handle.0) (handle.0 == handle.0) (eq-eqb handle.0 handle.0 refl);
@@ -93,6 +95,7 @@ module _ {H E N : Type 0} (means : Handling H E N) (t : Terms) (most : ℕ) wher
         fits = subst (λ o. means.fits t o handler (had new handle.0)) (sym (origin_here (Opened handle mask) past handle.0 (eq-eqb handle.0 handle.0 refl)))
             (subst (λ items. means.fits t (offered_here past) handler items) (sym (append-nil (had past handle.0) ∙ dead.2)) fits);
       }
+
       by_cases : (x : ℕ) (b : Bool) → (handle.0 == x) ≡ b → SeatBy (is_in_hand hand x) means t past x (R.seat_of x entries)
           → SeatBy (is_in_hand hand x) means t new x (R.seat_of x (R.with_entry (record { handle = handle.0; seat = Home handler }) entries))
       by_cases x true q s =
@@ -111,12 +114,15 @@ module _ {H E N : Type 0} (means : Handling H E N) (t : Terms) (most : ℕ) wher
     where
       new : List (Entry N)
       new = Started event ∷ past
+
       opens : (summary new).opens ≡ (summary past).opens ++ record { event = w.event; handle = w.handle; upcall = w.upcall; moment = (summary past).moment } ∷ []
       opens = ap (λ o. (summary past).opens ++ S.opens_from (summary past).moment o) found
+
       busy : (x : ℕ) → is_busy (summary new) x ≡ (is_busy (summary past) x || w.handle.0 == x)
       busy x = ap (list_any (λ (o : OpenEvent). o.handle.0 == x)) opens
           ∙ (list_any-append (λ (o : OpenEvent). o.handle.0 == x) (summary past).opens (record { event = w.event; handle = w.handle; upcall = w.upcall; moment = (summary past).moment } ∷ [])
           ∙ ap (λ b. is_busy (summary past) x || b) (or_none (w.handle.0 == x)))
+
       by_cases : (x : ℕ) (b : Bool) → (w.handle.0 == x) ≡ b → SeatBy b means t past x (R.seat_of x entries) → SeatStands means t new x (R.seat_of x entries)
       by_cases x true q s =
           subst (λ (o : Option (Seat H)). SeatStands means t new x o) (sym s.out) (record { live = s.live; busy = busy x ∙ or_right (is_busy (summary past) x) (w.handle.0 == x) q })
@@ -140,8 +146,7 @@ open_is_live most past i o legal h =
     let f : IsOpenAs past o × (o.event ≡ i) = found_open most past i o legal h in
     let mine : belongs_to o.handle.0 (event_at past o.event) ≡ true = ap (belongs_to o.handle.0) f.0.event ∙ eq-eqb o.handle.0 o.handle.0 refl in
     let opened : P.was_opened past o.handle.0 ≡ true = open_opened most past o.event o.handle.0 legal f.0.is_open mine in
-    let closed : P.was_closed past o.handle.0 ≡ false = not_from _ (λ c. (closed_gone most past o.handle.0 legal c).idle o.event f.0.is_open mine) in
-    (
+    let closed : P.was_closed past o.handle.0 ≡ false = not_from _ (λ c. (closed_gone most past o.handle.0 legal c).idle o.event f.0.is_open mine) in (
       live_is most past o.handle.0 legal ∙ (ap (λ b. b && (not (P.was_closed past o.handle.0) && true)) opened ∙ ap (λ b. not b && true) closed),
       busy_is past (summary past) o.handle.0 (told most past legal) ∙ event_busy past o.handle.0 o.event f.0.is_open mine,
     )
@@ -215,8 +220,10 @@ module _ {H E N : Type 0} (means : Handling H E N) (t : Terms) (most : ℕ) wher
     where
       e : Entry N
       e = Returned event answer note
+
       there : (is_live (summary past) o.handle.0 ≡ true) × (is_busy (summary past) o.handle.0 ≡ true)
       there = open_is_live most past event o legal found
+
       by_cases : (x : ℕ) (b : Bool) → (o.handle.0 == x) ≡ b → SeatStands means t past x (R.seat_of x entries) → SeatBy b means t (e ∷ past) x (R.seat_of x entries)
       by_cases x true q s =
           let same : o.handle.0 ≡ x = eqb-true o.handle.0 x q in

@@ -62,6 +62,7 @@ reverse_filter {A} p (x ∷ xs) = by_cases (p x) refl (reverse_filter p xs)
   where
     last : filter p (reverse (x ∷ xs)) ≡ filter p (reverse xs) ++ filter p (x ∷ [])
     last = ap (filter p) (reverse-cons x xs) ∙ filter-append p (reverse xs) (x ∷ [])
+
     by_cases : (b : Bool) → p x ≡ b → reverse (filter p xs) ≡ filter p (reverse xs) → reverse (cond b (x ∷ filter p xs) (filter p xs)) ≡ filter p (reverse (x ∷ xs))
     by_cases true q rec =
         reverse-cons x (filter p xs)

@@ -128,6 +128,7 @@ module _ {H E N : Type 0} (means : Handling H E N) (t : Terms) where
     where
       home : SeatStands means t past y (Some (Home handler))
       home = subst (λ (seat : Option (Seat H)). SeatStands means t past y seat) at (st y)
+
       by_cases : (x : ℕ) (b : Bool) → (y == x) ≡ b → SeatBy b means t past x (R.seat_of x (R.with_seat y Out entries))
       by_cases x true q = subst (λ (k : ℕ). SeatBy true means t past k (R.seat_of k (R.with_seat y Out entries))) (eqb-true y x q) (record { live = home.live; out = seat_with_seat y Out (Home handler) entries at })
       by_cases x false q = subst (λ (seat : Option (Seat H)). SeatStands means t past x seat) (sym (seat_with_seat_other y Out entries x q)) (st x)
@@ -159,6 +160,7 @@ module _ {H E N : Type 0} (means : Handling H E N) (t : Terms) where
               → list_any (λ (h : LiveHandle). h.handle.0 == handle.0) (cond (not b) (h ∷ filter (λ (h : LiveHandle). not (handle.0 == h.handle.0)) hs) (filter (λ (h : LiveHandle). not (handle.0 == h.handle.0)) hs)) ≡ false
           by_test true q rec = rec
           by_test false q rec = or_from _ _ (not_from (h.handle.0 == handle.0) (λ s. both_ways _ q (eq-eqb handle.0 h.handle.0 (sym (eqb-true h.handle.0 handle.0 s))))) rec
+
       kept : (x : ℕ) → (handle.0 == x) ≡ false → (hs : List LiveHandle)
           → list_any (λ (h : LiveHandle). h.handle.0 == x) (filter (λ (h : LiveHandle). not (handle.0 == h.handle.0)) hs) ≡ list_any (λ (h : LiveHandle). h.handle.0 == x) hs
       kept x n [] = refl
@@ -171,6 +173,7 @@ module _ {H E N : Type 0} (means : Handling H E N) (t : Terms) where
               let other : (h.handle.0 == x) ≡ false = subst (λ (k : ℕ). (k == x) ≡ false) (eqb-true handle.0 h.handle.0 q) n in
               rec ∙ sym (ap (λ b. b || list_any (λ (h : LiveHandle). h.handle.0 == x) hs) other)
           by_test false q rec = ap (λ b. h.handle.0 == x || b) rec
+
       by_cases : (x : ℕ) (b : Bool) → (handle.0 == x) ≡ b → SeatBy b means t past x (R.seat_of x entries) → SeatStands means t (Closed handle note ∷ past) x (R.seat_of x (R.without_handle handle.0 entries))
       by_cases x true q s =
           subst (λ (k : ℕ). SeatStands means t (Closed handle note ∷ past) k (R.seat_of k (R.without_handle handle.0 entries))) (eqb-true handle.0 x q)

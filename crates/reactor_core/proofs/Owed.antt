@@ -89,7 +89,7 @@ count_ended_one handle (a ∷ hs) h =
     omega (arith, first, all, le))
     (λ (k : list_any (λ (h : LiveHandle). h.handle.0 == handle.0 && h.alive) hs ≡ true).
     let rec : count lives (map (with_end (of_handle handle)) hs) + 1 ≤ count lives hs = count_ended_one handle hs k in
-    let one : count lives (map (with_end (of_handle handle)) (a ∷ hs)) ≤ count lives (map (with_end (of_handle handle)) hs) + (count lives (a ∷ []))  = head_le (P.belongs_to a.handle.0 (of_handle handle)) in
+    let one : count lives (map (with_end (of_handle handle)) (a ∷ hs)) ≤ count lives (map (with_end (of_handle handle)) hs) + (count lives (a ∷ [])) = head_le (P.belongs_to a.handle.0 (of_handle handle)) in
     let all : count lives (a ∷ hs) ≡ count lives hs + count lives (a ∷ []) = head_is a.alive in
     omega (arith, rec, one, all))
     (or_cases (a.handle.0 == handle.0 && a.alive) _ h)
@@ -101,6 +101,7 @@ count_ended_one handle (a ∷ hs) h =
         by_alive : (c : Bool) → cond c (suc (count lives (map (with_end (of_handle handle)) hs))) (count lives (map (with_end (of_handle handle)) hs)) ≤ count lives (map (with_end (of_handle handle)) hs) + cond c 1 0
         by_alive true = omega arith
         by_alive false = omega arith
+
     head_is : (c : Bool) → cond c (suc (count lives hs)) (count lives hs) ≡ count lives hs + cond c 1 0
     head_is true = omega arith
     head_is false = omega arith

@@ -108,17 +108,20 @@ is_returned {N = N} means t most past o answer note handler alive legal s was =
   where
     turns : had (Returned o.event answer note ∷ past) o.handle.0 ≡ had past o.handle.0 ++ record { upcall = o.upcall; moment = o.moment; answer = answer; note = note } ∷ []
     turns = had_returned most past o.event answer note o (and_parts (may_follow most past (Returned o.event answer note)) (is_legal most past) legal).1 s.event
+
     is_now : IsOpenAs past o
     is_now = (found_open most past o.event o (and_parts (may_follow most past (Returned o.event answer note)) (is_legal most past) legal).1 s.event).0
+
     mine : belongs_to o.handle.0 (event_at past o.event) ≡ true
     mine = ap (belongs_to o.handle.0) is_now.event ∙ eq-eqb o.handle.0 o.handle.0 refl
+
     at_p : (b : Bool) → is_alive (summary past) o.handle.0 ≡ b → P.is_alive past o.handle.0 ≡ b
     at_p b q = sym (alive_is most past (summary past) o.handle.0 (and_parts (may_follow most past (Returned o.event answer note)) (is_legal most past) legal).1 (told most past (and_parts (may_follow most past (Returned o.event answer note)) (is_legal most past) legal).1)) ∙ q
+
     by_alive : (b : Bool) → is_alive (summary past) o.handle.0 ≡ b → is_alive (summary (Returned o.event answer note ∷ past)) o.handle.0 ≡ false
         → (reason_of (Returned o.event answer note ∷ past) o.handle.0 ≡ why_of b) × (why_of b ≡ Own → EndsInClose (had (Returned o.event answer note ∷ past) o.handle.0))
     by_alive true q dead =
-        let close : answer ≡ Close = alive_kept (summary past) o.event note o.handle.0 answer q dead in
-        (
+        let close : answer ≡ Close = alive_kept (summary past) o.event note o.handle.0 answer q dead in (
           subst (λ a. reason_of (Returned o.event a note ∷ past) o.handle.0 ≡ Own) (sym close) (reason_own past o.event note o.handle.0 (alive_not_removed past o.handle.0 (at_p true q)) mine),
           λ _. subst EndsInClose (sym turns) (ends_in_close (had past o.handle.0) _ (subst IsClose (sym close) tt)),
         )

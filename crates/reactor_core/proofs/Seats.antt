@@ -30,16 +30,21 @@ seat_with_entry {H} e (f ∷ rest) x absent = by_cases (λ later. seat_with_entr
     apart : (b : Bool) → (f.handle == e.handle) ≡ b → cond b (Some f.seat) (R.seat_of e.handle rest) ≡ None → (f.handle == e.handle) ≡ false
     apart true q h = cc
     apart false q h = q
+
     other : (f.handle == e.handle) ≡ false
     other = apart (f.handle == e.handle) refl absent
+
     later : R.seat_of e.handle rest ≡ None
     later = sym (cond-false (f.handle == e.handle) (Some f.seat) (R.seat_of e.handle rest) other) ∙ absent
+
     swaps : (b c : Bool) (a d z : Option (Seat H)) → (b ≡ true → c ≡ true → ⊥) → cond b a (cond c d z) ≡ cond c d (cond b a z)
     swaps true true a d z h = absurd (h refl refl)
     swaps true false a d z h = refl
     swaps false c a d z h = refl
+
     not_both : (f.handle == x) ≡ true → (e.handle == x) ≡ true → ⊥
     not_both p q = both_ways (f.handle == e.handle) other (eq-eqb f.handle e.handle (eqb-true f.handle x p ∙ sym (eqb-true e.handle x q)))
+
     by_cases : (R.seat_of e.handle rest ≡ None → R.seat_of x (R.with_entry e rest) ≡ cond (e.handle == x) (Some e.seat) (R.seat_of x rest)) → (b : Bool)
         → R.seat_of x (cond b (e ∷ f ∷ rest) (f ∷ R.with_entry e rest)) ≡ cond (e.handle == x) (Some e.seat) (cond (f.handle == x) (Some f.seat) (R.seat_of x rest))
     by_cases rec true = refl

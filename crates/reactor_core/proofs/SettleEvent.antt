@@ -71,24 +71,34 @@ module _ {H M Q W V N E : Type 0} (m : Meaning H M Q W V N E) (weak : Weakens m)
     where
       past : List (Entry N)
       past = past_of h
+
       e : Entry N
       e = Returned o.event answer note
+
       past1 : List (Entry N)
       past1 = e ∷ past_of h
+
       same : past_of (h ++ e ∷ []) ≡ past1
       same = past_of-more h e
+
       legal : is_legal t.most past1 ≡ true
       legal = subst (λ ps. is_legal t.most ps ≡ true) same k.legal
+
       closing : IsClosing (not (is_alive (summary past1) o.handle.0)) o.handle b.entries
       closing = subst (λ ps. IsClosing (not (is_alive (summary ps) o.handle.0)) o.handle b.entries) same b.closing
+
       but : IsSettledBut o.handle.0 (summary past1)
       but = settled_returned t.most past o.event answer note o legal s.event st.settled
+
       none_alive : (summary past1).ended ≡ true → list_any (λ (x : LiveHandle). x.alive) (summary past1).handles ≡ false
       none_alive q = alive_returned (summary past) o.event answer note (st.settled.none_alive q)
+
       opens : length (summary past1).opens + 1 ≤ length (summary past).opens
       opens = opens_returned (summary past) o.event answer note o s.event
+
       owes : owed (summary past1) + 5 ≤ owed (summary past)
       owes = owed_returned (summary past) o.event answer note o s.event
+
       finish : (alive : Bool) → is_alive (summary past1) o.handle.0 ≡ alive → (entries : List (Entry N)) → IsClosing (not alive) o.handle entries → Tracks m t new F ((h ++ e ∷ []) ++ entries) None [] → mid.journal.spare ≤ new.journal.spare + length entries
           → StandsWithRoom m 4 act_places t new F ((h ++ e ∷ []) ++ entries)
       finish true q entries c kept journal =

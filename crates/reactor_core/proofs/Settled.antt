@@ -194,9 +194,9 @@ quiet_closed past handle note b = record {
   none_waits = none_waits_by (summary (Closed handle note ∷ past)) (λ y. ⊎_elim
       (λ (q : (handle.0 == y) ≡ true). subst (λ (k : ℕ). waits_for_closed (summary (Closed handle note ∷ past)) k ≡ false) (eqb-true handle.0 y q) (and_left _ (not (is_busy (summary past) handle.0)) (none_left handle.0 (summary past).handles)))
       (λ (q : (handle.0 == y) ≡ false). not_from _ (λ k.
-          let p : (list_any (λ (h : LiveHandle). h.handle.0 == y && not h.alive) (filter (λ (h : LiveHandle). not (handle.0 == h.handle.0)) (summary past).handles) ≡ true) × (not (is_busy (summary past) y) ≡ true) = and_parts _ _ k in
-          let old : list_any (λ (h : LiveHandle). h.handle.0 == y && not h.alive) (summary past).handles ≡ true = filtered_any (λ (a : LiveHandle). a.handle.0 == y && not a.alive) (λ (a : LiveHandle). not (handle.0 == a.handle.0)) (summary past).handles p.0 in
-          both_ways (waits_for_closed (summary past) y) (b.none_waits y q) (and_from _ (not (is_busy (summary past) y)) old p.1)))
+      let p : (list_any (λ (h : LiveHandle). h.handle.0 == y && not h.alive) (filter (λ (h : LiveHandle). not (handle.0 == h.handle.0)) (summary past).handles) ≡ true) × (not (is_busy (summary past) y) ≡ true) = and_parts _ _ k in
+      let old : list_any (λ (h : LiveHandle). h.handle.0 == y && not h.alive) (summary past).handles ≡ true = filtered_any (λ (a : LiveHandle). a.handle.0 == y && not a.alive) (λ (a : LiveHandle). not (handle.0 == a.handle.0)) (summary past).handles p.0 in
+      both_ways (waits_for_closed (summary past) y) (b.none_waits y q) (and_from _ (not (is_busy (summary past) y)) old p.1)))
       (cases_Bool (handle.0 == y)));
   none_due = b.none_due;
 }

@@ -83,8 +83,7 @@ any_weaker {A} p q (x ∷ xs) h k = by_cases (p x) refl (λ r. any_weaker p q xs
 
 pub free_is_live : (s : Summary) (x : ℕ) → is_free s x ≡ true → (is_live s x ≡ true) × (is_busy s x ≡ false) × (list_any (λ (h : LiveHandle). h.alive) s.handles ≡ true)
 free_is_live s x h =
-    let p : (is_resumed s x ≡ true) × (not (is_busy s x) ≡ true) = and_parts _ _ h in
-    (
+    let p : (is_resumed s x ≡ true) × (not (is_busy s x) ≡ true) = and_parts _ _ h in (
       any_weaker (λ (h : LiveHandle). h.handle.0 == x && (h.alive && not h.suspended)) (λ (h : LiveHandle). h.handle.0 == x) s.handles (λ a k. (and_parts _ _ k).0) p.0,
       not-true _ p.1,
       any_weaker (λ (h : LiveHandle). h.handle.0 == x && (h.alive && not h.suspended)) (λ (h : LiveHandle). h.alive) s.handles (λ a k. (and_parts _ _ (and_parts _ _ k).1).0) p.0,

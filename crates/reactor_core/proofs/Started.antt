@@ -122,8 +122,7 @@ started {N = N} m t old new F h w job event handle upcall now d q room o =
     } in
     let stands : Stands m t new F (h ++ e ∷ []) = record { tracks = tracks; settled = settled; room = subst (λ ps. HasRoom m 0 no_places new (summary ps)) (sym same) there } in
     let legal : is_legal t.most (e ∷ past) ≡ true = subst (λ ps. is_legal t.most ps ≡ true) same tracks.legal in
-    let number_of_job : job.handle.0 ≡ w.handle.0 = ap (λ (x : Handle). x.0) handle in
-    (
+    let number_of_job : job.handle.0 ≡ w.handle.0 = ap (λ (x : Handle). x.0) handle in (
       ap (P.is_pick past) event ∙ p.picked,
       subst (λ (k : ℕ). Stands m t new F (h ++ Started k ∷ [])) (sym event) stands,
       subst (λ (k : ℕ). JobFits m.means t (Started k ∷ past) job) (sym event) (record {
@@ -143,6 +142,7 @@ home_at {H} means t past x entries free st = by_seat (R.seat_of x entries) (st x
   where
     live : (is_live (summary past) x ≡ true) × (S.is_busy (summary past) x ≡ false) × (list_any (λ (h : LiveHandle). h.alive) (summary past).handles ≡ true)
     live = free_is_live (summary past) x free
+
     by_seat : (seat : Option (Seat H)) → SeatStands means t past x seat → (handler : H) × (seat ≡ Some (Home handler))
     by_seat None s = absurd (both_ways _ s live.0)
     by_seat (Some Out) s = absurd (both_ways _ live.1 s.busy)

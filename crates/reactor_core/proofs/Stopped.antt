@@ -103,6 +103,7 @@ listed_apart past (suc n) = last (P.was_closed past n) (listed_apart past n)
   where
     new : LiveHandle
     new = record { handle = record { 0 = n }; mask = P.mask_of past n; suspended = P.is_suspended past n; alive = P.is_alive past n }
+
     last : (b : Bool) → Apart (listed (T.live_handle past) n) → Apart (listed (T.live_handle past) n ++ option_to_list (cond b None (Some (record { handle = record { 0 = n }; mask = P.mask_of past n; suspended = P.is_suspended past n; alive = P.is_alive past n }))))
     last true a = subst Apart (sym (append-nil (listed (T.live_handle past) n))) a
     last false a = apart_last (listed (T.live_handle past) n) (record { handle = record { 0 = n }; mask = P.mask_of past n; suspended = P.is_suspended past n; alive = P.is_alive past n }) a
@@ -121,6 +122,7 @@ first_alive (x ∷ hs) a q = by_alive x.alive refl (λ k. first_alive hs a k)
   where
     zero_le : (nat_le 0 x.handle.0 && x.alive) ≡ x.alive
     zero_le = ap (λ b. b && x.alive) (le-leb 0 x.handle.0 (omega arith))
+
     by_alive : (b : Bool) → x.alive ≡ b → (find (λ (h : LiveHandle). nat_le 0 h.handle.0 && h.alive) hs ≡ Some a → (rest : List LiveHandle) × (filter (λ (h : LiveHandle). h.alive) hs ≡ a ∷ rest))
         → (rest : List LiveHandle) × (cond b (x ∷ filter (λ (h : LiveHandle). h.alive) hs) (filter (λ (h : LiveHandle). h.alive) hs) ≡ a ∷ rest)
     by_alive true r rec = (filter (λ (h : LiveHandle). h.alive) hs, ap (λ y. y ∷ filter (λ (h : LiveHandle). h.alive) hs) (some_is x a (sym (cond-true _ (Some x) (find (λ (h : LiveHandle). nat_le 0 h.handle.0 && h.alive) hs) (zero_le ∙ r)) ∙ q)))
@@ -132,8 +134,10 @@ none_alive_of (x ∷ hs) q = by_alive x.alive refl (λ k. none_alive_of hs k)
   where
     zero_le : (nat_le 0 x.handle.0 && x.alive) ≡ x.alive
     zero_le = ap (λ b. b && x.alive) (le-leb 0 x.handle.0 (omega arith))
+
     some : {B : Type 0} {b : B} → ◌≡◌ {A = Option B} (Some b) None → ⊥
     some k = cc
+
     by_alive : (b : Bool) → x.alive ≡ b → (find (λ (h : LiveHandle). nat_le 0 h.handle.0 && h.alive) hs ≡ None → filter (λ (h : LiveHandle). h.alive) hs ≡ []) → cond b (x ∷ filter (λ (h : LiveHandle). h.alive) hs) (filter (λ (h : LiveHandle). h.alive) hs) ≡ []
     by_alive true r rec = absurd (some (sym (cond-true _ (Some x) (find (λ (h : LiveHandle). nat_le 0 h.handle.0 && h.alive) hs) (zero_le ∙ r)) ∙ q))
     by_alive false r rec = rec (sym (cond-false _ (Some x) (find (λ (h : LiveHandle). nat_le 0 h.handle.0 && h.alive) hs) (zero_le ∙ r)) ∙ q)
@@ -144,6 +148,7 @@ next_is s result q handle r = by_found (find (λ (h : LiveHandle). nat_le 0 h.ha
   where
     none : {B : Type 0} {b : B} → ◌≡◌ {A = Option B} None (Some b) → ⊥
     none k = cc
+
     by_found : (o : Option LiveHandle) → find (λ (h : LiveHandle). nat_le 0 h.handle.0 && h.alive) s.handles ≡ o → (a : LiveHandle) × (rest : List LiveHandle) × (a.handle ≡ handle) × (alive_handles s ≡ a ∷ rest)
     by_found None f = absurd (none (sym (q ∙ ap (option_map (λ (h : LiveHandle). h.handle)) f) ∙ r))
     by_found (Some a) f = (a, (first_alive s.handles a f).0, some_is a.handle handle (sym (q ∙ ap (option_map (λ (h : LiveHandle). h.handle)) f) ∙ r), (first_alive s.handles a f).1)
@@ -153,6 +158,7 @@ next_is_none s result q r = by_found (find (λ (h : LiveHandle). nat_le 0 h.hand
   where
     some : {B : Type 0} {b : B} → ◌≡◌ {A = Option B} (Some b) None → ⊥
     some k = cc
+
     by_found : (o : Option LiveHandle) → find (λ (h : LiveHandle). nat_le 0 h.handle.0 && h.alive) s.handles ≡ o → alive_handles s ≡ []
     by_found None f = none_alive_of s.handles f
     by_found (Some a) f = absurd (some (sym (q ∙ ap (option_map (λ (h : LiveHandle). h.handle)) f) ∙ r))
@@ -171,6 +177,7 @@ alive_ended (x ∷ hs) first rest a q = by_alive x.alive refl (λ k. alive_ended
   where
     heads : {B : Type 0} {b c : B} {bs cs : List B} → b ∷ bs ≡ c ∷ cs → (b ≡ c) × (bs ≡ cs)
     heads k = (cc, cc)
+
     by_alive : (b : Bool) → x.alive ≡ b → (filter (λ (h : LiveHandle). h.alive) hs ≡ first ∷ rest → filter (λ (h : LiveHandle). h.alive) (map (with_end (of_handle first.handle)) hs) ≡ rest)
         → filter (λ (h : LiveHandle). h.alive) (map (with_end (of_handle first.handle)) (x ∷ hs)) ≡ rest
     by_alive true r rec =
@@ -193,6 +200,7 @@ alive_closed x (h ∷ hs) d = by_cases (x == h.handle.0) refl h.alive refl (aliv
   where
     gone : (x == h.handle.0) ≡ true → h.alive ≡ false
     gone q = not_from h.alive (λ k. both_ways _ (or_parts _ _ d).0 (and_from (h.handle.0 == x) h.alive (eqb_turned h.handle.0 x ∙ q) k))
+
     by_cases : (b : Bool) → (x == h.handle.0) ≡ b → (c : Bool) → h.alive ≡ c → filter (λ (h : LiveHandle). h.alive) (filter (λ (h : LiveHandle). not (x == h.handle.0)) hs) ≡ filter (λ (h : LiveHandle). h.alive) hs
         → filter (λ (h : LiveHandle). h.alive) (cond (not b) (h ∷ filter (λ (h : LiveHandle). not (x == h.handle.0)) hs) (filter (λ (h : LiveHandle). not (x == h.handle.0)) hs)) ≡ filter (λ (h : LiveHandle). h.alive) (h ∷ hs)
     by_cases true q c r rec = rec ∙ sym (cond-false h.alive (h ∷ filter (λ (h : LiveHandle). h.alive) hs) (filter (λ (h : LiveHandle). h.alive) hs) (gone q))
@@ -214,6 +222,7 @@ first_is_alive (x ∷ hs) a rest q = by_alive x.alive refl (λ k. first_is_alive
   where
     head : {B : Type 0} {b c : B} {bs cs : List B} → b ∷ bs ≡ c ∷ cs → b ≡ c
     head k = cc
+
     by_alive : (b : Bool) → x.alive ≡ b → (filter (λ (h : LiveHandle). h.alive) hs ≡ a ∷ rest → list_any (λ (h : LiveHandle). h.handle.0 == a.handle.0 && h.alive) hs ≡ true)
         → ((x.handle.0 == a.handle.0 && x.alive) || list_any (λ (h : LiveHandle). h.handle.0 == a.handle.0 && h.alive) hs) ≡ true
     by_alive true r rec =
@@ -248,9 +257,13 @@ removals_same busy busy' (h ∷ hs) es q r = (r.0, r.1, subst (λ b. IsClosing (
 removals_last : {N : Type 0} (busy : ℕ → Bool) (hs : List LiveHandle) (es : List (Entry N)) (x : LiveHandle) (closing : List (Entry N)) → AreRemovals busy hs es → IsClosing (not (busy x.handle.0)) x.handle closing
     → AreRemovals busy (hs ++ x ∷ []) (es ++ Removed x.handle ∷ closing)
 removals_last busy [] es x closing r c = (closing, [], c, refl, ap (λ ys. ys ++ Removed x.handle ∷ closing) r ∙ ap (λ ys. Removed x.handle ∷ ys) (sym (append-nil closing)))
-removals_last busy (h ∷ hs) es x closing r c =
-    (r.0, r.1 ++ Removed x.handle ∷ closing, r.2, removals_last busy hs r.1 x closing r.3 c,
-      ap (λ ys. ys ++ Removed x.handle ∷ closing) r.4 ∙ ap (λ ys. Removed h.handle ∷ ys) (append_assoc r.0 r.1 (Removed x.handle ∷ closing)))
+removals_last busy (h ∷ hs) es x closing r c = (
+  r.0,
+  r.1 ++ Removed x.handle ∷ closing,
+  r.2,
+  removals_last busy hs r.1 x closing r.3 c,
+  ap (λ ys. ys ++ Removed x.handle ∷ closing) r.4 ∙ ap (λ ys. Removed h.handle ∷ ys) (append_assoc r.0 r.1 (Removed x.handle ∷ closing)),
+)
 
 pub removes_none : {H M Q W V N E : Type 0} (m : Meaning H M Q W V N E) (t : Terms) (core : Core H M Q W V N E) (F : ℕ) (h : List (Entry N)) → StandsQuiet m t core F h → RemovesSome m 0 t F h core
 removes_none m t core F h st = record {
@@ -358,6 +371,7 @@ none_of (h ∷ hs) q = by_alive h.alive refl (λ k. none_of hs k)
   where
     some : {B : Type 0} {b : B} {bs : List B} → ◌≡◌ {A = List B} (b ∷ bs) [] → ⊥
     some k = cc
+
     by_alive : (b : Bool) → h.alive ≡ b → (filter (λ (h : LiveHandle). h.alive) hs ≡ [] → list_any (λ (h : LiveHandle). h.alive) hs ≡ false) → (b || list_any (λ (h : LiveHandle). h.alive) hs) ≡ false
     by_alive true r rec = absurd (some (sym (cond-true h.alive (h ∷ filter (λ (h : LiveHandle). h.alive) hs) (filter (λ (h : LiveHandle). h.alive) hs) r) ∙ q))
     by_alive false r rec = rec (sym (cond-false h.alive (h ∷ filter (λ (h : LiveHandle). h.alive) hs) (filter (λ (h : LiveHandle). h.alive) hs) r) ∙ q)

@@ -15,9 +15,13 @@ use ev_types::{Handle, Why};
 use reactor_model::{Entry, EventHandler, Volumes, Watch};
 use timer_queue::TimerQueue;
 
-impl<H: EventHandler, M: Net<End = H::End>, Q: TimerQueue, W: Watch<H::Note>, V: Volumes<H::Note>>
-    Core<H, M, Q, W, V>
-{
+impl<
+    H: EventHandler,
+    M: Net<End = H::End>,
+    Q: TimerQueue,
+    W: Watch<H::Note>,
+    V: Volumes<H::Note>,
+> Core<H, M, Q, W, V> {
     /// Closes the handler in hand, whose handle waits for its close, and retires its end. It takes no memory.
     pub(crate) fn close_handler(&mut self, handle: Handle, handler: H, why: Why)
         requires tracks { TracksWith (meaning H.means M.facts M.keeps (Shows Q.timers) (HasPlaces Q.spare) IsPlaced W.stands V.facts) (Some handle.0) []
@@ -32,6 +36,10 @@ impl<H: EventHandler, M: Net<End = H::End>, Q: TimerQueue, W: Watch<H::Note>, V:
         self.net.retire(handle, end);
         self.repo.drop_out(handle);
         self.state.close::<H::Note>(handle);
-        append(&mut self.journal, &mut self.watch, Entry::Closed { handle, note });
+        append(
+            &mut self.journal,
+            &mut self.watch,
+            Entry::Closed { handle, note },
+        );
     }
 }

@@ -8,7 +8,13 @@ use std::alloc::Global;
 use timer_queue::TimerQueue;
 
 /// The one-thread reactor.
-pub struct Core<H: EventHandler, M: Net<End = H::End>, Q: TimerQueue, W: Watch<H::Note>, V: Volumes<H::Note>> {
+pub struct Core<
+    H: EventHandler,
+    M: Net<End = H::End>,
+    Q: TimerQueue,
+    W: Watch<H::Note>,
+    V: Volumes<H::Note>,
+> {
     pub(crate) alloc: Global,
     pub(crate) most: u64,
     pub(crate) volume: u64,

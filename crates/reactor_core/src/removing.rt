@@ -19,9 +19,13 @@ use timer_queue::TimerQueue;
 #[derive(Clone, Copy, PartialEq, Eq, Debug)]
 pub struct NotLive;
 
-impl<H: EventHandler, M: Net<End = H::End>, Q: TimerQueue, W: Watch<H::Note>, V: Volumes<H::Note>>
-    Core<H, M, Q, W, V>
-{
+impl<
+    H: EventHandler,
+    M: Net<End = H::End>,
+    Q: TimerQueue,
+    W: Watch<H::Note>,
+    V: Volumes<H::Note>,
+> Core<H, M, Q, W, V> {
     /// Removes a handler (ACE's `remove_handler`). The journal has `Removed`; where the handler is not out for an upcall it is
     /// closed at once, and `Closed` follows. It takes no memory. `NotLive` comes exactly where the handle is not alive, and
     /// leaves all as it was.
@@ -47,7 +51,11 @@ impl<H: EventHandler, M: Net<End = H::End>, Q: TimerQueue, W: Watch<H::Note>, V:
             → is_alive (summary (past_of h)) handle.0 ≡ true → RemovesQuietly (meaning H.means M.facts M.keeps (Shows Q.timers) (HasPlaces Q.spare) IsPlaced W.stands V.facts) t F h handle self.new }
     {
         self.state.remove(handle);
-        append(&mut self.journal, &mut self.watch, Entry::Removed { handle });
+        append(
+            &mut self.journal,
+            &mut self.watch,
+            Entry::Removed { handle },
+        );
         let Some(handler) = self.repo.take(handle) else {
             return;
         };

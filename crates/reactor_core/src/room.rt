@@ -37,12 +37,20 @@ fn entries_for(owed: usize, more: usize, held: u64) -> Option<usize>
 {
     let entries = owed.checked_add(more)?;
     let all = held.checked_add(entries as u64)?;
-    if all > MOST_ENTRIES { None } else { Some(entries) }
+    if all > MOST_ENTRIES {
+        None
+    } else {
+        Some(entries)
+    }
 }
 
-impl<H: EventHandler, M: Net<End = H::End>, Q: TimerQueue, W: Watch<H::Note>, V: Volumes<H::Note>>
-    Core<H, M, Q, W, V>
-{
+impl<
+    H: EventHandler,
+    M: Net<End = H::End>,
+    Q: TimerQueue,
+    W: Watch<H::Note>,
+    V: Volumes<H::Note>,
+> Core<H, M, Q, W, V> {
     /// Makes room for so many more entries and places. After `NoMemory` there is no less room than before.
     pub(crate) fn make_room(&mut self, entries: usize, more: Places) -> Result<(), NoMemory>
         ensures kept { Keeps (meaning H.means M.facts M.keeps (Shows Q.timers) (HasPlaces Q.spare) IsPlaced W.stands V.facts) self.old self.new }

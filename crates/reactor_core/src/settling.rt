@@ -26,11 +26,21 @@ fn why_of(alive: bool) -> Why
     if alive { Why::Own } else { Why::Removed }
 }
 
-impl<H: EventHandler, M: Net<End = H::End>, Q: TimerQueue, W: Watch<H::Note>, V: Volumes<H::Note>>
-    Core<H, M, Q, W, V>
-{
+impl<
+    H: EventHandler,
+    M: Net<End = H::End>,
+    Q: TimerQueue,
+    W: Watch<H::Note>,
+    V: Volumes<H::Note>,
+> Core<H, M, Q, W, V> {
     /// Settles an upcall but for its act: its handler goes home, or is closed where its handle is not alive any more.
-    pub(crate) fn settle_event(&mut self, settled: OpenEvent, answer: Answer, note: H::Note, handler: H)
+    pub(crate) fn settle_event(
+        &mut self,
+        settled: OpenEvent,
+        answer: Answer,
+        note: H::Note,
+        handler: H,
+    )
         requires stands { StandsWith (meaning H.means M.facts M.keeps (Shows Q.timers) (HasPlaces Q.spare) IsPlaced W.stands V.facts) (λ t h. IsSettling H.means t (past_of h) settled answer note handler) self.old }
         ensures { (t : Terms) (F : ℕ) (h : List (Entry H.Note)) → Stands (meaning H.means M.facts M.keeps (Shows Q.timers) (HasPlaces Q.spare) IsPlaced W.stands V.facts) t self.old F h
             → IsSettling H.means t (past_of h) settled answer note handler
@@ -55,7 +65,15 @@ impl<H: EventHandler, M: Net<End = H::End>, Q: TimerQueue, W: Watch<H::Note>, V:
         ensures net { self.new.net ≡ self.old.net }
     {
         self.state.settle::<H::Note>(event, answer);
-        append(&mut self.journal, &mut self.watch, Entry::Returned { event, answer, note });
+        append(
+            &mut self.journal,
+            &mut self.watch,
+            Entry::Returned {
+                event,
+                answer,
+                note,
+            },
+        );
     }
 
     /// The handler in hand goes home where its handle is alive, and is closed else.

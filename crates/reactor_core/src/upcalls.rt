@@ -35,9 +35,13 @@ const UPCALL_PLACES: Places = Places {
     opens: 1,
 };
 
-impl<H: EventHandler, M: Net<End = H::End>, Q: TimerQueue, W: Watch<H::Note>, V: Volumes<H::Note>>
-    Core<H, M, Q, W, V>
-{
+impl<
+    H: EventHandler,
+    M: Net<End = H::End>,
+    Q: TimerQueue,
+    W: Watch<H::Note>,
+    V: Volumes<H::Note>,
+> Core<H, M, Q, W, V> {
     /// Starts the upcall of the event that is to be dispatched next, and gives its job, or None exactly where there is no such
     /// event. The journal has one more entry, `Started`. After `NoMemory` nothing has changed.
     pub fn start(&mut self) -> Result<Option<Job<H>>, StartRefused>
@@ -73,7 +77,11 @@ impl<H: EventHandler, M: Net<End = H::End>, Q: TimerQueue, W: Watch<H::Note>, V:
             None => unreachable!("a handler that may run is at home"),
         };
         self.state.start(pick);
-        append(&mut self.journal, &mut self.watch, Entry::Started { event: event.event });
+        append(
+            &mut self.journal,
+            &mut self.watch,
+            Entry::Started { event: event.event },
+        );
         Job {
             event: event.event,
             handle: event.handle,

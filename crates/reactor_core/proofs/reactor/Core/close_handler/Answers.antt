@@ -11,12 +11,14 @@ retire-requires g c =
     subst (λ xs. Contains xs c.args.handle.0) (sym o.3.net.attached) (live_attached (summary (past_of o.2)) c.args.handle.0 o.4.0.live)
 
 pub returns-clause-tracks : goal.returns-clause-tracks
-returns-clause-tracks g c t F h o can number =
-    (c.handle_close-end.result.1, closed _ t c.args.self.now _ F h c.args.handle c.args.handler c.args.why c.handle_close-end.result.1 c.handle_close-end.result.0 (record {
-      appends = record { most = refl; first = refl; journal = c.append.ensures.entries; watch = c.append.ensures.watch; volumes = refl };
-      repo = c.drop_out.ensures.entries;
-      state = λ s shows p. c.close.ensures.steps c.handle_close-end.result.1 s shows p;
-      net = c.retire.ensures.retires;
-      gone = λ t past k. c.handle_close-end.ensures.gone t _ _ k.own k.fits;
-      keeps = λ t past k before. c.retire.ensures.kept t before (c.handle_close-end.ensures.kept t _ _ k.fits);
-    }) can number o)
+returns-clause-tracks g c t F h o can number = (
+  c.handle_close-end.result.1,
+  closed _ t c.args.self.now _ F h c.args.handle c.args.handler c.args.why c.handle_close-end.result.1 c.handle_close-end.result.0 (record {
+    appends = record { most = refl; first = refl; journal = c.append.ensures.entries; watch = c.append.ensures.watch; volumes = refl };
+    repo = c.drop_out.ensures.entries;
+    state = λ s shows p. c.close.ensures.steps c.handle_close-end.result.1 s shows p;
+    net = c.retire.ensures.retires;
+    gone = λ t past k. c.handle_close-end.ensures.gone t _ _ k.own k.fits;
+    keeps = λ t past k before. c.retire.ensures.kept t before (c.handle_close-end.ensures.kept t _ _ k.fits);
+  }) can number o,
+)
