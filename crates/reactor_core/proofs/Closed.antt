@@ -1,8 +1,9 @@
 -- What the closing of a handler leaves.
-use Rattle.std.proofs.Common.{ℕ, suc, ◌≡◌, ◌≤◌, ◌<◌, ◌+◌, ◌==◌, Bool, true, false, not, ◌&&◌, ◌||◌, List, [], ◌∷◌, ◌++◌, map, reverse, length, refl, sym, ap, ◌∙◌, subst, arith, Option, Some, None, ⊎_elim}
+use Rattle.std.proofs.Common.{ℕ, zero, suc, get_or, ◌≡◌, ◌≤◌, ◌<◌, ◌+◌, ◌==◌, Bool, true, false, not, ◌&&◌, ◌||◌, List, [], ◌∷◌, ◌++◌, map, reverse, length, refl, sym, ap, ◌∙◌, subst, arith, Option, Some, None, ⊎_elim}
 use Rattle.std.proofs.lemmas.Bool.{false≢true, and_from, or_left, or_right, or_cases, both_ways, eqb-true, eq-eqb, cond-true}
 use Rattle.std.specs.List.{list_any, filter, Contains}
 use Rattle.std.proofs.lemmas.List.Folds.{list_any-append}
+use Rattle.std.proofs.lemmas.List.{reverse-reverse}
 use mathlib.Core.List.{reverse-cons}
 use Rattle.ev_types.specs.declared.upcall.Handle.{Handle}
 use Rattle.ev_types.specs.declared.upcall.Why.{Why}
@@ -49,6 +50,20 @@ numbers_contain x (a ∷ hs) h =
 
 pub live_attached : (s : Summary) (x : ℕ) → is_live s x ≡ true → Contains (live_numbers s) x
 live_attached s x h = numbers_contain x (reverse s.handles) (any_reversed (λ (h : LiveHandle). h.handle.0 == x) s.handles h)
+
+contained_number : (x : ℕ) (hs : List LiveHandle) → Contains (map number_of hs) x → list_any (λ (h : LiveHandle). h.handle.0 == x) hs ≡ true
+contained_number x [] c = absurd (omega (arith, c.1))
+contained_number x (a ∷ hs) c = by_place c.0 c.1 c.2 (λ k. contained_number x hs k)
+  where
+    by_place : (i : ℕ) → i < length (map number_of (a ∷ hs)) → get_or (map number_of (a ∷ hs)) i x ≡ x → (Contains (map number_of hs) x → list_any (λ (h : LiveHandle). h.handle.0 == x) hs ≡ true) → (a.handle.0 == x || list_any (λ (h : LiveHandle). h.handle.0 == x) hs) ≡ true
+    by_place zero lt q rec = or_left (a.handle.0 == x) _ (eq-eqb a.handle.0 x q)
+    by_place (suc i) lt q rec = or_right (a.handle.0 == x) _ (rec (i, omega (arith, lt), q))
+
+any_unreversed : {A : Type 0} (p : A → Bool) (xs : List A) → list_any p (reverse xs) ≡ true → list_any p xs ≡ true
+any_unreversed p xs h = subst (λ ys. list_any p ys ≡ true) (reverse-reverse xs) (any_reversed p (reverse xs) h)
+
+pub attached_live : (s : Summary) (x : ℕ) → Contains (live_numbers s) x → is_live s x ≡ true
+attached_live s x c = any_unreversed (λ (h : LiveHandle). h.handle.0 == x) s.handles (contained_number x (reverse s.handles) c)
 
 -- ---- the close
 

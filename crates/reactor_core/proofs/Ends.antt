@@ -201,6 +201,19 @@ module _ {H E N : Type 0} (means : Handling H E N) (t : Terms) where
     moment = subst (λ (k : ℕ). (summary past).moment ≤ k) (sym f.now) n.moment;
   }
 
+  -- the net could not attach an end
+  pub net_failed : (past : List (Entry N)) (pending : List Report) (old new : NetFacts E) → count is_fault past ≤ new.failed_attaches → FailsCall old new → NetStands means t past pending old → NetStands means t past pending new
+  net_failed past pending old new le f n = record {
+    retired = told_same (AreRetired means t past) (AreRetired means t past) old.retired new.retired f.retired (λ ends h. h) n.retired;
+    turned_away = told_same (AreTurnedAway means t past) (AreTurnedAway means t past) old.turned_away new.turned_away f.turned_away (λ ends h. h) n.turned_away;
+    attached = f.attached ∙ n.attached;
+    masks = told_same (λ masks. masks ≡ live_masks (summary past)) (λ masks. masks ≡ live_masks (summary past)) old.masks new.masks f.masks (λ masks h. h) n.masks;
+    faults = le;
+    steady = λ q. f.steady ∙ n.steady q;
+    calls = told_same (AreCalls means t past pending) (AreCalls means t past pending) old.calls new.calls f.calls (λ calls h. h) n.calls;
+    moment = subst (λ (k : ℕ). (summary past).moment ≤ k) (sym f.now) n.moment;
+  }
+
   -- a report is taken
   pub net_ready : (past : List (Entry N)) (handle : Handle) (kind : Kind) (pending : List Report) (net : NetFacts E)
       → NetStands means t past (record { handle = handle; kind = kind } ∷ pending) net → NetStands means t (Ready handle kind ∷ past) pending net

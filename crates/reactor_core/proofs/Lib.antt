@@ -13,3 +13,4 @@ pub mod Returned
 pub mod SettleEvent
 pub mod Removed
 pub mod Stopped
+pub mod Opened

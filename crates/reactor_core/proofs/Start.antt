@@ -120,7 +120,7 @@ fewer_wait s more (x ∷ hs) h =
     first false false c k q = absurd (false≢true (sym k))
 
 -- a deadline above the moment is added
-later_deadline : (moment : ℕ) (a : ArmedTimer) (armed : List ArmedTimer) → moment < a.deadline → S.is_reached moment armed ≡ false → S.is_reached moment (S.with_timer a armed) ≡ false
+pub later_deadline : (moment : ℕ) (a : ArmedTimer) (armed : List ArmedTimer) → moment < a.deadline → S.is_reached moment armed ≡ false → S.is_reached moment (S.with_timer a armed) ≡ false
 later_deadline moment a [] lt h = not_from _ (λ k. let le : a.deadline ≤ moment = leb-true a.deadline moment k in absurd (omega (arith, le, lt)))
 later_deadline moment a (b ∷ rest) lt h = by_cases (S.comes_before a b)
   where

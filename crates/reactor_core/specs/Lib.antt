@@ -7,3 +7,5 @@ pub mod Closing
 pub mod Settling
 pub mod Settles
 pub mod Removing
+pub mod Registering
+pub mod Offering

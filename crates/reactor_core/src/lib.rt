@@ -5,6 +5,7 @@ mod append;
 mod closing;
 mod job;
 mod reactor;
+mod registering;
 mod removing;
 mod room;
 mod settling;

@@ -1,0 +1,77 @@
+//! The registration of handlers.
+ghost use Rattle.std.specs.Prelude.{◌≡◌, ◌≤◌, ◌+◌, ◌-◌, ◌++◌, ◌∷◌, [], ℕ, List, true, false, None, IfOk, IfErr};
+ghost use Rattle.ev_base.specs.Terms.{Terms};
+ghost use Rattle.reactor_journal.specs.declared.entry.Entry.{Entry};
+ghost use Rattle.reactor_journal.specs.Past.{past_of};
+ghost use Rattle.reactor_summary.specs.Summary.{summary, is_alive};
+ghost use Rattle.reactor_model.specs.Turns.{IsTimer};
+ghost use Rattle.reactor_state.specs.declared.places.Places.{Places};
+ghost use Rattle.reactor_state.specs.State.{HasNumber, Shows, HasPlaces, IsPlaced, no_places};
+ghost use Rattle.reactor_core.specs.Stands.{meaning, Tracks, TracksWith};
+ghost use Rattle.reactor_core.specs.Registering.{HasPlaceFor, IsOffered, registered};
+ghost use Rattle.reactor_core.specs.Offering.{TakesHandle, ComesBack};
+
+use crate::Core;
+use crate::append::append;
+use ev_base::Net;
+use ev_types::{Handle, Mask};
+use reactor_model::{Entry, EventHandler, Volumes, Watch};
+use timer_queue::TimerQueue;
+
+impl<H: EventHandler, M: Net<End = H::End>, Q: TimerQueue, W: Watch<H::Note>, V: Volumes<H::Note>>
+    Core<H, M, Q, W, V>
+{
+    /// Registers a handler for which there is room: its end is attached, and the journal has `Opened`. Where the net cannot take
+    /// the end the handler comes back.
+    fn open_handler(&mut self, handler: H, mask: Mask) -> Result<Handle, H>
+        requires tracks { TracksWith (meaning H.means M.facts M.keeps (Shows Q.timers) (HasPlaces Q.spare) IsPlaced W.stands V.facts) None []
+            (λ t h. HasPlaceFor t.most (summary (past_of h)) × HasNumber (summary (past_of h)) × IsOffered H.means t (past_of h) handler) self.old }
+        requires journal { 1 ≤ self.old.journal.spare }
+        requires seats { 1 ≤ self.old.repo.spare }
+        requires net { 1 ≤ (M.facts self.old.net).spare }
+        requires places { HasPlaces Q.spare (record no_places { handles = 1 }) self.old.state }
+        ensures ok { IfOk result (λ handle. (t : Terms) (F : ℕ) (h : List (Entry H.Note)) → HasPlaceFor t.most (summary (past_of h)) → HasNumber (summary (past_of h)) → IsOffered H.means t (past_of h) handler
+            → Tracks (meaning H.means M.facts M.keeps (Shows Q.timers) (HasPlaces Q.spare) IsPlaced W.stands V.facts) t self.old F h None []
+            → Tracks (meaning H.means M.facts M.keeps (Shows Q.timers) (HasPlaces Q.spare) IsPlaced W.stands V.facts) t self.new F (h ++ Entry.Opened handle mask ∷ []) None []) }
+        ensures room { IfOk result (λ handle. TakesHandle (meaning H.means M.facts M.keeps (Shows Q.timers) (HasPlaces Q.spare) IsPlaced W.stands V.facts) self.old self.new) }
+        ensures err { IfErr result (λ back. (t : Terms) (F : ℕ) (h : List (Entry H.Note)) → IsOffered H.means t (past_of h) handler → HasNumber (summary (past_of h))
+            → Tracks (meaning H.means M.facts M.keeps (Shows Q.timers) (HasPlaces Q.spare) IsPlaced W.stands V.facts) t self.old F h None []
+            → ComesBack (meaning H.means M.facts M.keeps (Shows Q.timers) (HasPlaces Q.spare) IsPlaced W.stands V.facts) t F h back self.old self.new) }
+    {
+        let mut handler = handler;
+        let handle = Handle(self.state.opened());
+        match handler.attach_to(&mut self.net, handle, mask) {
+            Ok(()) => {}
+            Err(_) => return Err(handler),
+        }
+        self.repo.put(handle, handler);
+        let _opened = self.state.open(mask);
+        append(&mut self.journal, &mut self.watch, Entry::Opened { handle, mask });
+        Ok(handle)
+    }
+
+    /// Sets a timer of a handle that is alive: its first delay, from 1, and its period in milliseconds, 0 for once.
+    pub(crate) fn arm(&mut self, handle: Handle, delay: u64, every: u64) -> u64
+        requires tracks { TracksWith (meaning H.means M.facts M.keeps (Shows Q.timers) (HasPlaces Q.spare) IsPlaced W.stands V.facts) None []
+            (λ t h. HasNumber (summary (past_of h))) self.old }
+        requires delay { delay ≤ 4294967295 }
+        requires every { every ≤ 4294967295 }
+        requires journal { 1 ≤ self.old.journal.spare }
+        requires places { HasPlaces Q.spare (record no_places { timers = 1 }) self.old.state }
+        ensures tracks { (t : Terms) (F : ℕ) (h : List (Entry H.Note)) → 1 ≤ delay → is_alive (summary (past_of h)) handle.0 ≡ true → (summary (past_of h)).ended ≡ false → HasNumber (summary (past_of h))
+            → Tracks (meaning H.means M.facts M.keeps (Shows Q.timers) (HasPlaces Q.spare) IsPlaced W.stands V.facts) t self.old F h None []
+            → Tracks (meaning H.means M.facts M.keeps (Shows Q.timers) (HasPlaces Q.spare) IsPlaced W.stands V.facts) t self.new F
+                (h ++ Entry.Scheduled (summary (past_of h)).scheduled handle ((summary (past_of h)).moment + delay) every ∷ []) None [] }
+        ensures number { (t : Terms) (F : ℕ) (h : List (Entry H.Note)) → Tracks (meaning H.means M.facts M.keeps (Shows Q.timers) (HasPlaces Q.spare) IsPlaced W.stands V.facts) t self.old F h None []
+            → result ≡ (summary (past_of h)).scheduled }
+        ensures journal { self.new.journal.spare + 1 ≡ self.old.journal.spare }
+        ensures places { (p : Places) → HasPlaces Q.spare p self.old.state → HasPlaces Q.spare (record p { timers = p.timers - 1 }) self.new.state }
+        ensures repo { self.new.repo ≡ self.old.repo }
+        ensures net { self.new.net ≡ self.old.net }
+    {
+        let first = self.state.moment() + delay;
+        let timer = self.state.schedule(handle, first, every);
+        append(&mut self.journal, &mut self.watch, Entry::Scheduled { timer, handle, first, every });
+        timer
+    }
+}
