@@ -14,3 +14,4 @@ pub mod SettleEvent
 pub mod Removed
 pub mod Stopped
 pub mod Opened
+pub mod Registered

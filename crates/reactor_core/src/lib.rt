@@ -13,5 +13,6 @@ mod upcalls;
 
 pub use job::{Done, Job};
 pub use reactor::Core;
+pub use registering::RegisterRefused;
 pub use removing::NotLive;
 pub use upcalls::StartRefused;

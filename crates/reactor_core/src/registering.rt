@@ -7,20 +7,106 @@ ghost use Rattle.reactor_summary.specs.Summary.{summary, is_alive};
 ghost use Rattle.reactor_model.specs.Turns.{IsTimer};
 ghost use Rattle.reactor_state.specs.declared.places.Places.{Places};
 ghost use Rattle.reactor_state.specs.State.{HasNumber, Shows, HasPlaces, IsPlaced, no_places};
-ghost use Rattle.reactor_core.specs.Stands.{meaning, Tracks, TracksWith};
+ghost use Rattle.reactor_core.specs.Stands.{meaning, Tracks, TracksWith, Stands, StandsWith, StandsWithRoom};
 ghost use Rattle.reactor_core.specs.Registering.{HasPlaceFor, IsOffered, registered};
-ghost use Rattle.reactor_core.specs.Offering.{TakesHandle, ComesBack};
+ghost use Rattle.reactor_core.specs.Offering.{TakesHandle, ComesBack, RegisterGives, AdmitGives};
+ghost use Rattle.reactor_core.specs.Settling.{act_places};
 
 use crate::Core;
 use crate::append::append;
 use ev_base::Net;
 use ev_types::{Handle, Mask};
 use reactor_model::{Entry, EventHandler, Volumes, Watch};
+use reactor_state::Places;
 use timer_queue::TimerQueue;
+
+/// Why a handler was not registered.
+#[derive(Clone, Copy, PartialEq, Eq, Debug)]
+pub enum RegisterRefused {
+    /// The reactor was stopped.
+    Stopped,
+    /// As many handlers are live as may be, or 4,294,967,295 were registered.
+    Full {
+        /// How many handlers are live.
+        live: u64,
+        /// How many were registered.
+        opened: u64,
+    },
+    /// There was no memory for it.
+    NoMemory,
+    /// The net could not take its end, and the net's count of failed attaches rose.
+    NetFailed,
+}
+
+/// How many handles a reactor opens at most.
+const MOST_HANDLES: u64 = 4_294_967_295;
+
+/// How many entries a registration takes room for: its own two, and the two that an alive handle owes.
+const REGISTER_ENTRIES: usize = 4;
+
+/// The places that it takes: that of a handle, and that of its timer.
+const REGISTER_PLACES: Places = Places {
+    handles: 1,
+    timers: 1,
+    timeouts: 0,
+    events: 0,
+    opens: 0,
+};
 
 impl<H: EventHandler, M: Net<End = H::End>, Q: TimerQueue, W: Watch<H::Note>, V: Volumes<H::Note>>
     Core<H, M, Q, W, V>
 {
+    /// Registers a handler (ACE's `register_handler`), with the reports that it wants and, where one is given, a timer: its first
+    /// delay, from 1 to 4,294,967,295 milliseconds, and its period, 0 for once. The journal has `Opened`, and `Scheduled` for the
+    /// timer. With each refusal the handler comes back, and all is as it was: `Stopped` comes exactly where the reactor was
+    /// stopped; `Full` exactly where it was not, and as many handlers are live as may be or 4,294,967,295 were registered;
+    /// `NetFailed` only where the net's count of failed attaches rose.
+    pub fn register(&mut self, handler: H, mask: Mask, timer: Option<(u64, u64)>) -> Result<Handle, (H, RegisterRefused)>
+        requires stands { StandsWith (meaning H.means M.facts M.keeps (Shows Q.timers) (HasPlaces Q.spare) IsPlaced W.stands V.facts) (λ t h. IsOffered H.means t (past_of h) handler) self.old }
+        requires timer { IsTimer timer }
+        ensures { (t : Terms) (F : ℕ) (h : List (Entry H.Note)) → Stands (meaning H.means M.facts M.keeps (Shows Q.timers) (HasPlaces Q.spare) IsPlaced W.stands V.facts) t self.old F h
+            → IsOffered H.means t (past_of h) handler
+            → RegisterGives (meaning H.means M.facts M.keeps (Shows Q.timers) (HasPlaces Q.spare) IsPlaced W.stands V.facts) t F h mask timer self.old result self.new }
+    {
+        if self.state.is_ended() {
+            return Err((handler, RegisterRefused::Stopped));
+        }
+        let live = self.state.live();
+        let opened = self.state.opened();
+        if live >= self.most || opened >= MOST_HANDLES {
+            return Err((handler, RegisterRefused::Full { live, opened }));
+        }
+        match self.make_room(REGISTER_ENTRIES, REGISTER_PLACES) {
+            Ok(()) => {}
+            Err(_) => return Err((handler, RegisterRefused::NoMemory)),
+        }
+        match self.admit(handler, mask, timer) {
+            Ok(handle) => Ok(handle),
+            Err(back) => Err((back, RegisterRefused::NetFailed)),
+        }
+    }
+
+    /// Registers a handler for which there is room, and its timer.
+    pub(crate) fn admit(&mut self, handler: H, mask: Mask, timer: Option<(u64, u64)>) -> Result<Handle, H>
+        requires stands { (t : Terms) × (F : ℕ) × (h : List (Entry H.Note)) × StandsWithRoom (meaning H.means M.facts M.keeps (Shows Q.timers) (HasPlaces Q.spare) IsPlaced W.stands V.facts) 4 act_places t self.old F h
+            × HasPlaceFor t.most (summary (past_of h)) × IsOffered H.means t (past_of h) handler }
+        requires timer { IsTimer timer }
+        ensures { (t : Terms) (F : ℕ) (h : List (Entry H.Note)) → StandsWithRoom (meaning H.means M.facts M.keeps (Shows Q.timers) (HasPlaces Q.spare) IsPlaced W.stands V.facts) 4 act_places t self.old F h
+            → HasPlaceFor t.most (summary (past_of h)) → IsOffered H.means t (past_of h) handler
+            → AdmitGives (meaning H.means M.facts M.keeps (Shows Q.timers) (HasPlaces Q.spare) IsPlaced W.stands V.facts) t F h mask timer self.old result self.new }
+    {
+        match self.open_handler(handler, mask) {
+            Ok(handle) => match timer {
+                Some((delay, every)) => {
+                    self.arm(handle, delay, every);
+                    Ok(handle)
+                }
+                None => Ok(handle),
+            },
+            Err(back) => Err(back),
+        }
+    }
+
     /// Registers a handler for which there is room: its end is attached, and the journal has `Opened`. Where the net cannot take
     /// the end the handler comes back.
     fn open_handler(&mut self, handler: H, mask: Mask) -> Result<Handle, H>
@@ -33,6 +119,8 @@ impl<H: EventHandler, M: Net<End = H::End>, Q: TimerQueue, W: Watch<H::Note>, V:
         ensures ok { IfOk result (λ handle. (t : Terms) (F : ℕ) (h : List (Entry H.Note)) → HasPlaceFor t.most (summary (past_of h)) → HasNumber (summary (past_of h)) → IsOffered H.means t (past_of h) handler
             → Tracks (meaning H.means M.facts M.keeps (Shows Q.timers) (HasPlaces Q.spare) IsPlaced W.stands V.facts) t self.old F h None []
             → Tracks (meaning H.means M.facts M.keeps (Shows Q.timers) (HasPlaces Q.spare) IsPlaced W.stands V.facts) t self.new F (h ++ Entry.Opened handle mask ∷ []) None []) }
+        ensures number { IfOk result (λ handle. (t : Terms) (F : ℕ) (h : List (Entry H.Note)) → Tracks (meaning H.means M.facts M.keeps (Shows Q.timers) (HasPlaces Q.spare) IsPlaced W.stands V.facts) t self.old F h None []
+            → handle.0 ≡ (summary (past_of h)).opened) }
         ensures room { IfOk result (λ handle. TakesHandle (meaning H.means M.facts M.keeps (Shows Q.timers) (HasPlaces Q.spare) IsPlaced W.stands V.facts) self.old self.new) }
         ensures err { IfErr result (λ back. (t : Terms) (F : ℕ) (h : List (Entry H.Note)) → IsOffered H.means t (past_of h) handler → HasNumber (summary (past_of h))
             → Tracks (meaning H.means M.facts M.keeps (Shows Q.timers) (HasPlaces Q.spare) IsPlaced W.stands V.facts) t self.old F h None []
