@@ -1,9 +1,10 @@
 -- What a registration leaves.
 use Rattle.std.proofs.Common.{ℕ, suc, ◌≡◌, ◌≤◌, ◌<◌, ◌+◌, ◌-◌, ◌*◌, ◌^◌, ◌==◌, Bool, true, false, not, ◌&&◌, ◌⊎◌, inl, inr, List, [], ◌∷◌, ◌++◌, length, refl, sym, ap, ◌∙◌, subst, arith, cond, Option, Some, None, append_assoc, ⊎_elim}
-use Rattle.std.proofs.lemmas.Bool.{and_parts, ltb-true, false≢true, cases_order}
+use Rattle.std.proofs.lemmas.Bool.{and_parts, and_cases, ltb-true, ltb-false}
 use Rattle.std.specs.Prelude.{nat_lt}
 use Rattle.ev_types.specs.declared.upcall.Handle.{Handle}
 use Rattle.ev_types.specs.declared.upcall.Mask.{Mask}
+use Rattle.ev_base.specs.Counts.{Rose}
 use Rattle.ev_base.specs.Terms.{Terms}
 use Rattle.reactor_journal.specs.declared.entry.Entry.{Entry}
 use Rattle.reactor_journal.specs.declared.entry.Entry.TheVariants.{Opened, Scheduled, Closed}
@@ -20,7 +21,7 @@ use Rattle.reactor_state.specs.State.{HasNumber, owed, no_places, IsFewer}
 use Rattle.reactor_state.specs.declared.places.Places.{Places}
 use Rattle.reactor_core.specs.Stands.{Meaning, Tracks, HasRoom, IsSettled, Stands, StandsWithRoom, places_for}
 use Rattle.reactor_core.specs.Registering.{HasPlaceFor, IsFull, IsOffered, registered, scheduled}
-use Rattle.reactor_core.specs.Offering.{TakesHandle, ComesBack}
+use Rattle.reactor_core.specs.Offering.{TakesHandle, ComesBack, GivesBack}
 use Rattle.reactor_core.specs.Settling.{act_places}
 use Rattle.reactor_core.specs.declared.reactor.Core.{Core}
 use Rattle.reactor_core.proofs.Owed.{owed_opened}
@@ -135,3 +136,35 @@ plain_of m weak entries more t core F h st =
         net = omega (arith, r.net);
       };
     }
+
+pub stands_at : {H M Q W V N E : Type 0} (m : Meaning H M Q W V N E) (t : Terms) (new : Core H M Q W V N E) (F : ℕ) (h : List (Entry N)) (handle : Handle) (mask : Mask) (timer is : Option (ℕ × ℕ)) → timer ≡ is
+    → Stands m t new F (h ++ registered (summary (past_of h)) handle mask is) → Stands m t new F (h ++ registered (summary (past_of h)) handle mask timer)
+stands_at m t new F h handle mask timer is q st = subst (λ tm. Stands m t new F (h ++ registered (summary (past_of h)) handle mask tm)) (sym q) st
+
+pub room_of : {H M Q W V N E : Type 0} (m : Meaning H M Q W V N E) (entries : ℕ) (more : Places) (t : Terms) (core : Core H M Q W V N E) (F : ℕ) (h : List (Entry N)) → Stands m t core F h → HasRoom m entries more core (summary (past_of h)) → StandsWithRoom m entries more t core F h
+room_of m entries more t core F h st r = record { tracks = st.tracks; settled = st.settled; room = r }
+
+pub back_plain : {H M Q W V N E : Type 0} (m : Meaning H M Q W V N E) (weak : Weakens m) (t : Terms) (new : Core H M Q W V N E) (F : ℕ) (h : List (Entry N)) (back : H) → StandsWithRoom m 4 act_places t new F h → IsOffered m.means t (past_of h) back → GivesBack m t F h back new
+back_plain m weak t new F h back st offered = record { stands = plain_of m weak 4 act_places t new F h st; offered = offered }
+
+-- what the test for a place says
+pub place_by : {N : Type 0} (most : ℕ) (past : List (Entry N)) (core_most live_now opened_now : ℕ) → core_most ≡ most → live_now ≡ live (summary past) → opened_now ≡ (summary past).opened → (summary past).ended ≡ false
+    → (nat_lt live_now core_most && nat_lt opened_now 4294967295) ≡ true → HasPlaceFor most (summary past)
+place_by most past core_most live_now opened_now m l o running h =
+    let p : (nat_lt live_now core_most ≡ true) × (nat_lt opened_now 4294967295 ≡ true) = and_parts (nat_lt live_now core_most) (nat_lt opened_now 4294967295) h in
+    record {
+      running = running;
+      live = let lt : live_now < core_most = ltb-true live_now core_most p.0 in omega (arith, lt, m, l);
+      opened = let lt : opened_now < 4294967295 = ltb-true opened_now 4294967295 p.1 in omega (arith, lt, o);
+    }
+
+pub full_now : {N : Type 0} (most : ℕ) (past : List (Entry N)) (core_most live_now opened_now : ℕ) → is_legal most past ≡ true → (summary past).opened ≤ 4294967295 → core_most ≡ most → live_now ≡ live (summary past) → opened_now ≡ (summary past).opened
+    → (nat_lt live_now core_most && nat_lt opened_now 4294967295) ≡ false → IsFull most (summary past)
+full_now most past core_most live_now opened_now legal few m l o h =
+    full_by most past legal few (⊎_elim
+    (λ (k : nat_lt live_now core_most ≡ false). let le : core_most ≤ live_now = ltb-false live_now core_most k in inl (omega (arith, le, m, l)))
+    (λ (k : nat_lt opened_now 4294967295 ≡ false). let le : 4294967295 ≤ opened_now = ltb-false opened_now 4294967295 k in inr (omega (arith, le, o)))
+    (and_cases (nat_lt live_now core_most) (nat_lt opened_now 4294967295) h))
+
+pub rose_from : (old mid new : ℕ) → mid ≡ old → Rose mid new → Rose old new
+rose_from old mid new q r = subst (λ (n : ℕ). Rose n new) q r

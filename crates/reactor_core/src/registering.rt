@@ -1,5 +1,5 @@
 //! The registration of handlers.
-ghost use Rattle.std.specs.Prelude.{◌≡◌, ◌≤◌, ◌+◌, ◌-◌, ◌++◌, ◌∷◌, [], ℕ, List, true, false, None, IfOk, IfErr};
+ghost use Rattle.std.specs.Prelude.{nat_lt, ◌&&◌, ◌≡◌, ◌≤◌, ◌+◌, ◌-◌, ◌++◌, ◌∷◌, [], ℕ, List, true, false, None, IfOk, IfErr};
 ghost use Rattle.ev_base.specs.Terms.{Terms};
 ghost use Rattle.reactor_journal.specs.declared.entry.Entry.{Entry};
 ghost use Rattle.reactor_journal.specs.Past.{past_of};
@@ -53,6 +53,13 @@ const REGISTER_PLACES: Places = Places {
     opens: 0,
 };
 
+/// Whether one more handler can be taken.
+fn has_place(live: u64, most: u64, opened: u64) -> bool
+    ensures { result ≡ (nat_lt live most && nat_lt opened 4294967295) }
+{
+    live < most && opened < MOST_HANDLES
+}
+
 impl<H: EventHandler, M: Net<End = H::End>, Q: TimerQueue, W: Watch<H::Note>, V: Volumes<H::Note>>
     Core<H, M, Q, W, V>
 {
@@ -73,7 +80,7 @@ impl<H: EventHandler, M: Net<End = H::End>, Q: TimerQueue, W: Watch<H::Note>, V:
         }
         let live = self.state.live();
         let opened = self.state.opened();
-        if live >= self.most || opened >= MOST_HANDLES {
+        if !has_place(live, self.most, opened) {
             return Err((handler, RegisterRefused::Full { live, opened }));
         }
         match self.make_room(REGISTER_ENTRIES, REGISTER_PLACES) {
