@@ -1,4 +1,5 @@
--- What holds of each summary that a reactor reaches.
+-- What holds of each summary that a reactor reaches: what its tables are searched by, and that its numbers fit. Each
+-- entry that fits keeps it.
 use Rattle.std.specs.Prelude.{ℕ, ◌≡◌, ◌≤◌, ◌<◌, ◌+◌, ◌^◌, ◌==◌, Bool, false, true, List, length, Option, Some, None}
 use Rattle.std.specs.List.{list_any}
 use Rattle.reactor_journal.specs.declared.entry.Entry.{Entry}

@@ -1,4 +1,5 @@
--- What a reactor's state stands for, and how much room it has.
+-- What a reactor's state stands for, and how much room it has: the state of a reactor's event loop (C++NPv2 chapter 3),
+-- seen as the summary of its journal.
 use Rattle.std.specs.Prelude.{ℕ, ◌≡◌, ◌≤◌, ◌<◌, ◌+◌, ◌*◌, ◌^◌, Bool, ◌++◌, if◌then◌else◌, List, length, map, slice_get, vec_capacity, Option, Some, option_map}
 use Rattle.ev_types.specs.declared.upcall.Handle.{Handle}
 use Rattle.ev_types.specs.declared.upcall.Answer.{Answer}

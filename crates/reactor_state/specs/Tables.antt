@@ -1,4 +1,5 @@
--- The tables of a reactor's state, as the summary has what stands in them.
+-- The tables of a reactor's state, as the summary has what stands in them (POSA2, Reactor: the demultiplexing table
+-- and the timer queue). The order of the classes is that of this project's journal.
 use Rattle.std.specs.Prelude.{ℕ, ◌≡◌, ◌≤◌, ◌<◌, ◌+◌, ◌==◌, Bool, not, ◌&&◌, if◌then◌else◌, List, [], ◌∷◌, ◌++◌, length, map, filter, vec_capacity, Option, Some, None}
 use Rattle.std.specs.List.{list_any}
 use Rattle.std.specs.VecDeque.{deque_items, deque_capacity}
