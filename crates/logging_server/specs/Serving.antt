@@ -1,15 +1,14 @@
 -- The steps of one connection.
-use Rattle.std.specs.Prelude.{◌≡◌, ◌≤◌, ◌⊎◌, ◌+◌, ℕ, List, [], ◌∷◌, ◌++◌, length, take, Option, Some, None, Result, Ok, Err, Bool, true, false}
+use Rattle.std.specs.Prelude.{◌≡◌, ◌≤◌, ◌⊎◌, ℕ, List, [], ◌∷◌, ◌++◌, length, None, Result, Ok, Err, Bool, true, false}
 use Rattle.ev_base.specs.Counts.{Rose}
-use Rattle.ev_base.specs.Bytes.{ReaderBytes, MovesOn, NothingLeft}
+use Rattle.ev_base.specs.Bytes.{MovesOn, NothingLeft}
 use Rattle.ev_base.specs.Source.{SourceFacts}
 use Rattle.ev_base.specs.Sink.{SinkFacts}
 use Rattle.cdr_record.specs.Decoding.{DecoderState, StandsFor, decode}
 use Rattle.log_lines.specs.Texts.{record_lines}
-use Rattle.log_lines.specs.declared.end_kind.EndKind.{EndKind}
 use Rattle.log_lines.specs.declared.end_kind.EndKind.TheVariants as end
 use Rattle.sink_buffer.specs.Written.{IsPrefixOf, TakesAll, BreaksOff}
-use Rattle.sink_buffer.specs.Gathers.{Gathers, is_broken, held_of}
+use Rattle.sink_buffer.specs.Gathers.{Gathers, is_broken}
 use Rattle.sink_buffer.specs.declared.buffer.SinkBuffer.{SinkBuffer}
 use Rattle.logging_server.specs.One.{end_of, IsMalformed}
 use Rattle.logging_server.specs.Statuses.{least_fault}

@@ -1,6 +1,5 @@
-use Rattle.std.proofs.Common.{arith, ◌≡◌, ◌∙◌, ◌++◌, ◌≤◌, ℕ, length, ap, sym, subst, List, refl}
-use Rattle.cdr_record.specs.Decoding.{DecoderState, StandsFor}
-use Rattle.logging_server.proofs.Steps.{moves-twice, put-fed, fits_most, ends-malformed, goes_on}
+use Rattle.std.proofs.Common.{arith, ◌∙◌, ◌++◌, sym, refl}
+use Rattle.logging_server.proofs.Steps.{moves-twice, put-fed, fits_most, ends-malformed}
 use Rattle.logging_server.proofs.one.put_piece.Goals as goal
 
 pub returns-in_default-clause-serves : goal.returns-in_default-clause-serves

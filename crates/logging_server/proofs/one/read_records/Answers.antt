@@ -1,4 +1,4 @@
-use Rattle.std.proofs.Common.{arith, ◌≡◌, ◌≤◌, ◌∙◌, ◌+◌, ◌++◌, ℕ, [], length, take, ap, sym, subst, List, refl, None}
+use Rattle.std.proofs.Common.{arith, ◌≡◌, ◌≤◌, ◌∙◌, ◌+◌, ◌++◌, ℕ, [], length, take, ap, sym, subst, List, refl}
 use Rattle.std.proofs.lemmas.List.{length-take, length-append}
 use Rattle.sink_buffer.specs.Gathers.{Gathers}
 use Rattle.logging_server.specs.Serving.{HasEnded}
