@@ -86,11 +86,7 @@ impl<T: Task + Send + 'static> ActiveTask<T> {
     /// Puts a message, and gives what has come out and was not given yet. It waits until the queue to the thread has room.
     /// `NoMemory` gives the message back, which was not put: there was no memory for what may have come out. The active task is as
     /// before, and nothing is lost.
-    pub fn put<R: Threads + Wait>(
-        &mut self,
-        rt: &R,
-        m: Message,
-    ) -> Result<Messages, (Message, NoMemory)>
+    pub fn put<R: Wait>(&mut self, rt: &R, m: Message) -> Result<Messages, (Message, NoMemory)>
         ensures given { (first : Gives) (put answered : List MessageState) → Runs T.gives first put answered self.old
             → IfOk result (λ out. Runs T.gives first (put ++ m ∷ []) (answered ++ out) self.new) }
         ensures refused { IfErr result (λ refusal. refusal.0 ≡ m) }

@@ -29,7 +29,7 @@ fn note(messages: Messages, numbers: &mut Vec<u32>) -> Result<(), NoMemory> {
 }
 
 /// Puts messages of the priorities from 0 on, and adds those of the messages that are given.
-fn put_numbers<T: Task + Send + 'static, R: Threads + Wait>(
+fn put_numbers<T: Task + Send + 'static, R: Wait>(
     rt: &R,
     alloc: Global,
     active: &mut ActiveTask<T>,

@@ -30,7 +30,7 @@ pub fn run<R: Threads + Wait + Copy + Send + 'static>(
 }
 
 /// Puts messages, those that came out before new ones.
-fn put_again<R: Threads + Wait>(
+fn put_again<R: Wait>(
     rt: &R,
     alloc: Global,
     active: &mut ActiveTask<PassTask>,
