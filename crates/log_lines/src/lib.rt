@@ -3,8 +3,10 @@
 #![tactic(auto)]
 
 mod end_kind;
+mod laws;
 mod lines;
 mod message;
 
 pub use end_kind::EndKind;
+pub use laws::texts_are_short;
 pub use lines::{put_closing_line, put_record_line, put_record_lines, put_record_text};

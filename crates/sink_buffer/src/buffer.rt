@@ -7,9 +7,8 @@ use crate::TextOut;
 use ev_base::{Sink, Wrote};
 
 /// How many bytes are gathered before a write: 288 KiB. The lines of the records that a piece of 4,096 bytes of input completes
-/// fit, whatever they are. The first of them may have begun earlier: its message of at most 65,536 bytes has at most 262,144 bytes
-/// of text, four for each, and the rest of its line fewer than 80. The others lie in the piece, and a line has fewer than four
-/// bytes for each byte of its record, so all of them fewer than 16,384.
+/// fit, whatever they are: four bytes for each byte of the piece and of an unfinished record before it, which has fewer than
+/// 65,568, are 278,656.
 const SIZE: usize = 294_912;
 
 /// A sink that gathers what is put into it in a fixed buffer of 294,912 bytes. It writes the buffer when more is put than there is
