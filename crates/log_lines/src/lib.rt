@@ -1,10 +1,12 @@
 //! The lines of the logging server: a record's text, a record's line, and the closing line of a connection,
-//! put into a buffered sink without taking memory.
+//! put into any text output.
 #![tactic(auto)]
 
 mod end_kind;
+mod laws;
 mod lines;
 mod message;
 
 pub use end_kind::EndKind;
+pub use laws::texts_are_short;
 pub use lines::{put_closing_line, put_record_line, put_record_lines, put_record_text};

@@ -1,19 +1,18 @@
 //! The texts and lines of records, and closing lines.
 ghost use Rattle.std.specs.Prelude.{◌≡◌, ℕ, ◌++◌, MatchOption, decimal};
 ghost use Rattle.std.specs.Fmt.{signed_decimal};
-ghost use Rattle.sink_buffer.specs.Gathers.{Puts};
+ghost use Rattle.sink_buffer.specs.Texts.{Puts};
 ghost use Rattle.log_lines.specs.Texts.{type_text, record_text, record_line, record_lines, end_word, closing_line};
 
 use crate::EndKind;
 use crate::message::put_message;
 use cdr_record::LogRecord;
-use ev_base::Sink;
 use itoa::Buffer;
-use sink_buffer::SinkBuffer;
+use sink_buffer::TextOut;
 
 /// Puts a record's text: `SEC,USEC PID NAME: MESSAGE`.
-pub fn put_record_text<K: Sink>(out: &mut SinkBuffer<K>, entry: &LogRecord)
-    ensures { Puts K.facts out.old (record_text entry.now) out.new }
+pub fn put_record_text<T: TextOut>(out: &mut T, entry: &LogRecord)
+    ensures { Puts T.stands out.old (record_text entry.now) out.new }
 {
     put_signed(out, entry.sec);
     out.put(b",");
@@ -27,8 +26,8 @@ pub fn put_record_text<K: Sink>(out: &mut SinkBuffer<K>, entry: &LogRecord)
 }
 
 /// Puts a record's line: the number of its connection, and its text.
-pub fn put_record_line<K: Sink>(out: &mut SinkBuffer<K>, connection: u64, entry: &LogRecord)
-    ensures { Puts K.facts out.old (record_line connection entry.now) out.new }
+pub fn put_record_line<T: TextOut>(out: &mut T, connection: u64, entry: &LogRecord)
+    ensures { Puts T.stands out.old (record_line connection entry.now) out.new }
 {
     put_unsigned(out, connection);
     out.put(b" ");
@@ -37,8 +36,8 @@ pub fn put_record_line<K: Sink>(out: &mut SinkBuffer<K>, connection: u64, entry:
 }
 
 /// Puts the lines of records, one behind another.
-pub fn put_record_lines<K: Sink>(out: &mut SinkBuffer<K>, connection: u64, records: &[LogRecord])
-    ensures { Puts K.facts out.old (record_lines connection records.now) out.new }
+pub fn put_record_lines<T: TextOut>(out: &mut T, connection: u64, records: &[LogRecord])
+    ensures { Puts T.stands out.old (record_lines connection records.now) out.new }
 {
     for entry in records {
         put_record_line(out, connection, entry);
@@ -46,8 +45,8 @@ pub fn put_record_lines<K: Sink>(out: &mut SinkBuffer<K>, connection: u64, recor
 }
 
 /// Puts a connection's closing line.
-pub fn put_closing_line<K: Sink>(out: &mut SinkBuffer<K>, connection: u64, end: EndKind)
-    ensures { Puts K.facts out.old (closing_line connection end) out.new }
+pub fn put_closing_line<T: TextOut>(out: &mut T, connection: u64, end: EndKind)
+    ensures { Puts T.stands out.old (closing_line connection end) out.new }
 {
     put_unsigned(out, connection);
     out.put(b" closed: ");
@@ -56,8 +55,8 @@ pub fn put_closing_line<K: Sink>(out: &mut SinkBuffer<K>, connection: u64, end: 
 }
 
 /// Puts the word of how a connection ended.
-fn put_end_word<K: Sink>(out: &mut SinkBuffer<K>, end: EndKind)
-    ensures { Puts K.facts out.old (end_word end) out.new }
+fn put_end_word<T: TextOut>(out: &mut T, end: EndKind)
+    ensures { Puts T.stands out.old (end_word end) out.new }
 {
     match end {
         EndKind::End => out.put(b"end"),
@@ -71,32 +70,32 @@ fn put_end_word<K: Sink>(out: &mut SinkBuffer<K>, end: EndKind)
     }
 }
 
-fn put_word_and_number<K: Sink>(out: &mut SinkBuffer<K>, word: &[u8], number: u64)
-    ensures { Puts K.facts out.old (word.now ++ decimal number) out.new }
+fn put_word_and_number<T: TextOut>(out: &mut T, word: &[u8], number: u64)
+    ensures { Puts T.stands out.old (word.now ++ decimal number) out.new }
 {
     out.put(word);
     put_unsigned(out, number);
 }
 
 /// Puts a number in decimal digits.
-fn put_unsigned<K: Sink>(out: &mut SinkBuffer<K>, number: u64)
-    ensures { Puts K.facts out.old (decimal number) out.new }
+fn put_unsigned<T: TextOut>(out: &mut T, number: u64)
+    ensures { Puts T.stands out.old (decimal number) out.new }
 {
     let mut digits = Buffer::new();
     out.put(digits.format(number).as_bytes());
 }
 
 /// Puts a number in decimal digits, behind a minus sign if it is below 0.
-fn put_signed<K: Sink>(out: &mut SinkBuffer<K>, number: i64)
-    ensures { Puts K.facts out.old (signed_decimal number) out.new }
+fn put_signed<T: TextOut>(out: &mut T, number: i64)
+    ensures { Puts T.stands out.old (signed_decimal number) out.new }
 {
     let mut digits = Buffer::new();
     out.put(digits.format(number).as_bytes());
 }
 
 /// Puts a record's type: the name of a priority, or the number.
-fn put_type<K: Sink>(out: &mut SinkBuffer<K>, kind: i32)
-    ensures { Puts K.facts out.old (type_text kind) out.new }
+fn put_type<T: TextOut>(out: &mut T, kind: i32)
+    ensures { Puts T.stands out.old (type_text kind) out.new }
 {
     match name_of(kind) {
         Some(name) => out.put(name.as_bytes()),

@@ -2,14 +2,13 @@
 ghost use Rattle.std.specs.Prelude.{◌≡◌, ◌≤◌, ◌<◌, ◌+◌, ℕ, Bool, true, length, take, drop, not, ◌==◌, take_while, flat_map};
 ghost use Rattle.std.specs.List.{prefix_len};
 ghost use Rattle.log_lines.specs.Texts.{is_plain, hex_digit, byte_text, message_text};
-ghost use Rattle.sink_buffer.specs.Gathers.{Puts};
+ghost use Rattle.sink_buffer.specs.Texts.{Puts};
 
-use ev_base::Sink;
-use sink_buffer::SinkBuffer;
+use sink_buffer::TextOut;
 
 /// Puts the text of a message: its bytes before the first zero byte, or all of them, with escapes.
-pub fn put_message<K: Sink>(out: &mut SinkBuffer<K>, message: &[u8])
-    ensures { Puts K.facts out.old (message_text message.now) out.new }
+pub fn put_message<T: TextOut>(out: &mut T, message: &[u8])
+    ensures { Puts T.stands out.old (message_text message.now) out.new }
 {
     put_escaped(out, &message[..length_before_zero(message)]);
 }
@@ -30,8 +29,8 @@ fn length_of_plain(bytes: &[u8]) -> usize
 }
 
 /// Puts bytes with escapes: a run of plain bytes at a time.
-fn put_escaped<K: Sink>(out: &mut SinkBuffer<K>, bytes: &[u8])
-    ensures { Puts K.facts out.old (flat_map byte_text bytes.now) out.new }
+fn put_escaped<T: TextOut>(out: &mut T, bytes: &[u8])
+    ensures { Puts T.stands out.old (flat_map byte_text bytes.now) out.new }
 {
     let mut at = 0;
     while at < bytes.len() {
@@ -43,8 +42,8 @@ fn put_escaped<K: Sink>(out: &mut SinkBuffer<K>, bytes: &[u8])
 }
 
 /// Puts the first of some bytes, if there is one, and tells how many that are.
-fn put_first<K: Sink>(out: &mut SinkBuffer<K>, bytes: &[u8]) -> usize
-    ensures text { Puts K.facts out.old (flat_map byte_text (take result bytes.now)) out.new }
+fn put_first<T: TextOut>(out: &mut T, bytes: &[u8]) -> usize
+    ensures text { Puts T.stands out.old (flat_map byte_text (take result bytes.now)) out.new }
     ensures within { result ≤ length bytes.now }
     ensures some { 0 < length bytes.now → result ≡ 1 }
 {
@@ -58,8 +57,8 @@ fn put_first<K: Sink>(out: &mut SinkBuffer<K>, bytes: &[u8]) -> usize
 }
 
 /// Puts one byte: itself, or its escape.
-fn put_byte<K: Sink>(out: &mut SinkBuffer<K>, byte: u8)
-    ensures { Puts K.facts out.old (byte_text byte) out.new }
+fn put_byte<T: TextOut>(out: &mut T, byte: u8)
+    ensures { Puts T.stands out.old (byte_text byte) out.new }
 {
     if is_plain(byte) {
         out.put(&[byte]);

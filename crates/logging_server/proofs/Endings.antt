@@ -1,5 +1,5 @@
 -- How a run ends.
-use Rattle.std.proofs.Common.{◌≡◌, ◌≤◌, ◌⊎◌, inl, inr, ℕ, List, [], ◌∷◌, ◌++◌, length, Option, Some, None, Bool, true, false, refl, sym, ◌∙◌, ap, subst, append-nil}
+use Rattle.std.proofs.Common.{◌≡◌, ◌≤◌, ◌⊎◌, inl, inr, ℕ, List, [], ◌++◌, length, Option, Some, None, refl, sym, ◌∙◌, ap, subst, append-nil}
 use Rattle.ev_base.specs.Bytes.{ReaderBytes, MovesOn, NothingLeft}
 use Rattle.ev_base.specs.Source.{SourceFacts}
 use Rattle.ev_base.specs.Sink.{SinkFacts}
@@ -9,15 +9,15 @@ use Rattle.log_lines.specs.Texts.{record_lines, closing_line}
 use Rattle.log_lines.specs.declared.end_kind.EndKind.{EndKind}
 use Rattle.log_lines.specs.declared.end_kind.EndKind.TheVariants as end
 use Rattle.sink_buffer.specs.Written.{TakesAll, BreaksOff, IsPrefixOf}
-use Rattle.sink_buffer.specs.Gathers.{Gathers, is_broken, output_of}
+use Rattle.sink_buffer.specs.Gathers.{output_of}
 use Rattle.sink_buffer.specs.declared.buffer.SinkBuffer.{SinkBuffer}
 use Rattle.sink_buffer.proofs.Texts.{prefix-more}
 use Rattle.logging_server.specs.One.{end_of, IsMalformed, lines_of}
-use Rattle.logging_server.specs.Statuses.{DecodesLeft, IsDone, IsReadFault, IsWriteFault, IsNoMemory, IsTooLong, HasStatus, least_fault, status_of}
+use Rattle.logging_server.specs.Statuses.{DecodesLeft, IsWriteFault, HasStatus, status_of}
 use Rattle.logging_server.specs.Serving.{HasEnded, ClosesWith}
 use Rattle.logging_server.specs.declared.one.Status.{Status}
 use Rattle.logging_server.specs.declared.one.Status.TheVariants as status
-use Rattle.logging_server.specs.declared.one.Ending.TheVariants.{Closed, TooLong, Broken}
+use Rattle.logging_server.specs.declared.one.Ending.TheVariants.{Closed, Broken}
 
 -- behind a malformed record no byte counts
 same_stop : (taken more : List ℕ) (s : Stop) → (decode taken).stop ≡ s → IsMalformed s → decode taken ≡ decode (taken ++ more)

@@ -1,27 +1,25 @@
 -- Steps of one connection.
-use Rattle.std.proofs.Common.{◌≡◌, ◌≤◌, ◌⊎◌, inl, inr, ℕ, ◌+◌, List, [], ◌∷◌, ◌++◌, length, take, drop, Option, Some, None, Bool, true, false, refl, sym, ◌∙◌, ap, arith, subst, append_assoc, append-nil}
+use Rattle.std.proofs.Common.{◌≡◌, ◌≤◌, inl, ℕ, ◌+◌, List, [], ◌∷◌, ◌++◌, length, Option, Some, None, false, refl, sym, ◌∙◌, ap, arith, subst, append_assoc, append-nil}
 use Rattle.std.proofs.lemmas.Grind.{flat_map-append}
 use Rattle.std.proofs.lemmas.List.{length-append}
-use Rattle.ev_base.specs.Counts.{Rose}
-use Rattle.ev_base.specs.Bytes.{ReaderBytes, MovesOn, NothingLeft}
+use Rattle.ev_base.specs.Bytes.{ReaderBytes, MovesOn}
 use Rattle.ev_base.specs.Source.{SourceFacts}
 use Rattle.ev_base.specs.Sink.{SinkFacts}
 use Rattle.cdr_record.specs.declared.record.LogRecord.{LogRecord}
 use Rattle.cdr_record.specs.declared.decoder.Fed.{Fed}
 use Rattle.cdr_record.specs.declared.bad.Bad.{Bad}
-use Rattle.cdr_record.specs.Decoding.{Stop, Clean, Partial, Malformed, DecoderState, StandsFor, decode, left_of, records_of, unfinished}
+use Rattle.cdr_record.specs.Decoding.{Malformed, DecoderState, StandsFor, decode, records_of}
 use Rattle.cdr_record.specs.Laws.{TellsStop}
 use Rattle.cdr_record.specs.Feeding.{Feeds}
-use Rattle.cdr_record.proofs.Runs.{bad_ends}
-use Rattle.log_lines.specs.Texts.{record_line, record_lines, closing_line}
-use Rattle.log_lines.specs.declared.end_kind.EndKind.{EndKind}
+use Rattle.log_lines.specs.Texts.{record_line, record_lines}
 use Rattle.log_lines.specs.declared.end_kind.EndKind.TheVariants as end
-use Rattle.sink_buffer.specs.Gathers.{Gathers, Puts, is_broken, output_of}
+use Rattle.sink_buffer.specs.Texts.{Puts}
+use Rattle.sink_buffer.specs.Written.{TakesAll}
+use Rattle.sink_buffer.specs.Gathers.{Gathers, HasPut, Told, is_broken, held_of, output_of}
 use Rattle.sink_buffer.specs.declared.buffer.SinkBuffer.{SinkBuffer}
 use Rattle.logging_server.specs.One.{end_of, IsMalformed}
-use Rattle.logging_server.specs.Serving.{IsServing, HasEnded}
-use Rattle.logging_server.specs.declared.one.Ending.{Ending}
-use Rattle.logging_server.specs.declared.one.Ending.TheVariants.{Closed, TooLong, Broken}
+use Rattle.logging_server.specs.Serving.{HasEnded}
+use Rattle.logging_server.specs.declared.one.Ending.TheVariants.{Closed}
 
 -- some bytes were given, and then others
 pub moves-twice : (a b c : Option ReaderBytes) (xs ys : List ℕ) → MovesOn a xs b → MovesOn b ys c → MovesOn a (xs ++ ys) c
@@ -63,11 +61,11 @@ goes_on decoder fed old piece feeds none = feeds.same_bad ∙ none
 -- the lines of a piece's records were put behind those before, and flushed
 pub put-fed : {K : Type 0} (facts : K → SinkFacts) (o : SinkFacts) (a b c : SinkBuffer K) (old new : DecoderState) (taken piece : List ℕ) (fed : Fed) (records : List LogRecord) →
     StandsFor old taken → Feeds old piece fed new → records ≡ fed.records →
-    Gathers facts o a (record_lines 0 (decode taken).records) → Puts facts a (record_lines 0 records) b →
+    Gathers facts o a (record_lines 0 (decode taken).records) → Puts (HasPut facts) a (record_lines 0 records) b →
     ((start : SinkFacts) (put : List ℕ) → Gathers facts start b put → Gathers facts start c put) →
     Gathers facts o c (record_lines 0 (decode (taken ++ piece)).records)
 put-fed facts o a b c old new taken piece fed records stands feeds same before puts flushes =
-    let here = flushes o (record_lines 0 (decode taken).records ++ record_lines 0 records) (puts o (record_lines 0 (decode taken).records) before) in
+    let here = flushes o (record_lines 0 (decode taken).records ++ record_lines 0 records) (puts (Told o) (record_lines 0 (decode taken).records) before) in
     subst (λ (text : List ℕ). Gathers facts o c text)
     (ap (λ (rs : List LogRecord). record_lines 0 (decode taken).records ++ record_lines 0 rs) same ∙ sym (lines-feed old new taken piece fed stands feeds)) here
 
@@ -93,3 +91,10 @@ ends-malformed facts i o k out most new t bad law stands is moves within faults 
 pub lines-none : record_lines 0 (decode []).records ≡ []
 unfolding records_of
 lines-none = refl
+
+-- all that was put was written, where nothing is held back and no write failed
+pub written_whole : {K : Type 0} (facts : K → SinkFacts) (o : SinkFacts) (out : SinkBuffer K) (text : List ℕ) →
+    is_broken out ≡ false → held_of out ≡ [] → Gathers facts o out text → TakesAll o text (facts (output_of out))
+written_whole facts o out text sound none put =
+    let back = put.whole sound in
+    subst (λ (whole : List ℕ). TakesAll o whole (facts (output_of out))) (sym (append-nil back.written) ∙ ap (λ held. back.written ++ held) (sym none) ∙ back.all) back.takes

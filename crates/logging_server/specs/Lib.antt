@@ -2,3 +2,4 @@ pub mod One
 pub mod Words
 pub mod Statuses
 pub mod Serving
+pub mod Pieces

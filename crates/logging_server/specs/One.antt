@@ -1,8 +1,5 @@
 -- One connection, number 0, from its first byte to its closing line (C++NPv2 chapter 4: the networked logging server).
-use Rattle.std.specs.Prelude.{◌≡◌, ◌≤◌, ◌<◌, ◌⊎◌, ◌+◌, ℕ, List, [], ◌∷◌, ◌++◌, length, take, Option, Some, None, Bool, true, false}
-use Rattle.ev_base.specs.Counts.{Rose}
-use Rattle.ev_base.specs.Bytes.{ReaderBytes, MovesOn, NothingLeft}
-use Rattle.ev_base.specs.Source.{SourceFacts}
+use Rattle.std.specs.Prelude.{◌⊎◌, ℕ, List, ◌++◌}
 use Rattle.ev_base.specs.Sink.{SinkFacts}
 use Rattle.cdr_record.specs.Decoding.{Stop, Clean, Partial, Malformed, decode}
 use Rattle.sink_buffer.specs.Written.{TakesAll, BreaksOff}

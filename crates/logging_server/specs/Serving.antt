@@ -1,21 +1,24 @@
 -- The steps of one connection.
-use Rattle.std.specs.Prelude.{◌≡◌, ◌≤◌, ◌⊎◌, ◌+◌, ℕ, List, [], ◌∷◌, ◌++◌, length, take, Option, Some, None, Result, Ok, Err, Bool, true, false}
+use Rattle.std.specs.Prelude.{◌≡◌, ◌≤◌, ◌⊎◌, ℕ, List, [], ◌∷◌, ◌++◌, length, None, Result, Ok, Err, Bool, true, false}
 use Rattle.ev_base.specs.Counts.{Rose}
-use Rattle.ev_base.specs.Bytes.{ReaderBytes, MovesOn, NothingLeft}
+use Rattle.ev_base.specs.Bytes.{MovesOn, NothingLeft}
 use Rattle.ev_base.specs.Source.{SourceFacts}
 use Rattle.ev_base.specs.Sink.{SinkFacts}
 use Rattle.cdr_record.specs.Decoding.{DecoderState, StandsFor, decode}
 use Rattle.log_lines.specs.Texts.{record_lines}
-use Rattle.log_lines.specs.declared.end_kind.EndKind.{EndKind}
 use Rattle.log_lines.specs.declared.end_kind.EndKind.TheVariants as end
 use Rattle.sink_buffer.specs.Written.{IsPrefixOf, TakesAll, BreaksOff}
-use Rattle.sink_buffer.specs.Gathers.{Gathers, is_broken, held_of}
+use Rattle.sink_buffer.specs.Gathers.{Gathers, held_of, is_broken}
 use Rattle.sink_buffer.specs.declared.buffer.SinkBuffer.{SinkBuffer}
 use Rattle.logging_server.specs.One.{end_of, IsMalformed}
 use Rattle.logging_server.specs.Statuses.{least_fault}
 use Rattle.logging_server.specs.declared.one.Status.{Status}
 use Rattle.logging_server.specs.declared.one.Ending.{Ending}
 use Rattle.logging_server.specs.declared.one.Ending.TheVariants.{Closed, TooLong, Broken}
+
+-- no line is held back, and the decoder stands for some bytes
+abbrev pub IsReady : {K : Type 0} → DecoderState → SinkBuffer K → Type 0
+IsReady decoder out = (held_of out ≡ []) × ((taken : List ℕ) × StandsFor decoder taken)
 
 -- The source, which told i, told j after it gave the bytes `taken`; the decoder stands for them, and has met no bad record; the
 -- lines of their records were put since the sink told o.

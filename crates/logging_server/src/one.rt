@@ -1,17 +1,19 @@
 //! One connection on a source, to its closing line.
-ghost use Rattle.std.specs.Prelude.{◌≡◌, ◌≤◌, ◌<◌, ◌+◌, ℕ, List, [], ◌++◌, length, IfOk, None, false};
+ghost use Rattle.std.specs.Prelude.{◌≡◌, ◌≤◌, ◌<◌, ◌+◌, ℕ, List, [], ◌++◌, length, IfOk, OnOk, None, false};
 ghost use Rattle.ev_base.specs.Bytes.{MovesOn};
 ghost use Rattle.ev_base.specs.Source.{SourceFacts};
 ghost use Rattle.ev_base.specs.Sink.{SinkFacts};
 ghost use Rattle.cdr_record.specs.Decoding.{StandsFor, decode};
-ghost use Rattle.log_lines.specs.Texts.{closing_line};
-ghost use Rattle.sink_buffer.specs.Gathers.{Gathers, is_broken, output_of};
+ghost use Rattle.log_lines.specs.Texts.{closing_line, record_lines};
+ghost use Rattle.sink_buffer.specs.Texts.{Puts};
+ghost use Rattle.sink_buffer.specs.Gathers.{Gathers, HasPut, held_of, is_broken, output_of};
 ghost use Rattle.logging_server.specs.One.{end_of};
 ghost use Rattle.logging_server.specs.Statuses.{HasStatus, code_of, number_of, least_fault, status_of};
-ghost use Rattle.logging_server.specs.Serving.{IsServing, HasEnded, ServesPiece, ClosesWith};
+ghost use Rattle.logging_server.specs.Serving.{IsReady, IsServing, HasEnded, ServesPiece, ClosesWith};
 
-use cdr_record::Decoder;
+use crate::laws::lines_of_a_piece_fit;
 use cdr_record::laws::tells_stop;
+use cdr_record::{Decoder, LogRecord};
 use ev_base::{Got, Sink, Source};
 use log_lines::{EndKind, put_closing_line, put_record_lines};
 use sink_buffer::SinkBuffer;
@@ -38,7 +40,8 @@ pub(crate) fn read_records<S: Source, K: Sink>(
     input: &mut S,
     out: &mut SinkBuffer<K>,
 ) -> Ending
-    requires { is_broken out.old ≡ false }
+    requires whole { is_broken out.old ≡ false }
+    requires empty { held_of out.old ≡ [] }
     ensures { (o : SinkFacts) → Gathers K.facts o out.old []
         → HasEnded K.facts (S.facts input.old) o (S.facts input.new) out.new limit result }
 {
@@ -62,7 +65,9 @@ fn serve_piece<S: Source, K: Sink>(
     buffer: &mut [u8],
     out: &mut SinkBuffer<K>,
 ) -> Result<usize, Ending>
-    requires { 0 < length buffer.old }
+    requires buffer { (0 < length buffer.old) × (length buffer.old ≤ 4096) }
+    requires ready { IsReady decoder.old out.old }
+    ensures ready { OnOk result (IsReady decoder.new out.new) }
     ensures serves { (i : SourceFacts) (o : SinkFacts) (taken : List ℕ) (most : ℕ) → length taken + length buffer.old ≤ most
         → IsServing K.facts i o (S.facts input.old) decoder.old out.old taken
         → ServesPiece K.facts i o (S.facts input.new) decoder.new out.new most taken result }
@@ -82,6 +87,9 @@ fn put_piece<K: Sink>(
     piece: &[u8],
     out: &mut SinkBuffer<K>,
 ) -> Result<usize, Ending>
+    requires length { length piece.now ≤ 4096 }
+    requires ready { IsReady decoder.old out.old }
+    ensures ready { OnOk result (IsReady decoder.new out.new) }
     ensures serves { (i : SourceFacts) (o : SinkFacts) (j k : SourceFacts) (taken : List ℕ) (most : ℕ) → length taken + length piece.now ≤ most
         → IsServing K.facts i o j decoder.old out.old taken
         → MovesOn j.bytes piece.now k.bytes → k.faults ≡ j.faults
@@ -91,7 +99,8 @@ fn put_piece<K: Sink>(
     let Ok(fed) = decoder.feed(piece) else {
         return Err(Ending::Closed(EndKind::NoMemory));
     };
-    put_record_lines(out, 0, fed.records.as_slice());
+    lines_of_a_piece_fit();
+    put_lines(out, fed.records.as_slice());
     out.flush();
     if out.is_broken() {
         return Err(Ending::Broken);
@@ -101,6 +110,16 @@ fn put_piece<K: Sink>(
         Some(bad) => Err(Ending::Closed(EndKind::Malformed(bad.at))),
         None => Ok(piece.len()),
     }
+}
+
+/// Puts the lines of a piece's records into a buffer that holds nothing. There is room for all of them, so nothing is written.
+fn put_lines<K: Sink>(out: &mut SinkBuffer<K>, records: &[LogRecord])
+    requires empty { held_of out.old ≡ [] }
+    requires fit { length (record_lines 0 records.now) ≤ 294912 }
+    ensures put { Puts (HasPut K.facts) out.old (record_lines 0 records.now) out.new }
+    ensures unwritten { output_of out.new ≡ output_of out.old }
+{
+    put_record_lines(out, 0, records);
 }
 
 /// How a connection ends whose input is read to its end.

@@ -1,7 +1,9 @@
 //! Worked examples of `one`: what is written, and the status.
+ghost use Rattle.std.specs.Prelude.{None};
+
 use crate::logd_main;
 use crate::top::one;
-use ev_base::{MemSink, MemSource};
+use ev_base::{MemSink, MemSource, Sink, SteadySource, Wrote};
 use std::alloc::Global;
 use std::test::Fail;
 
@@ -282,5 +284,43 @@ fn other_words_are_refused(rt: HostRuntime) -> Result<(), Fail> {
     assert_eq!(rt; run_words(alloc, &["One"])?, (1, 0));
     let line = format!(in alloc; "{}{}", crate::fault_line(1, 0), crate::fault_line(11, 9))?;
     assert_eq!(rt; line.as_str(), "logd: usage\nlogd: input over 9\n");
+    Ok(())
+}
+
+/// A sink that counts its writes and their bytes, and never fails.
+#[derive(Drop)]
+struct CountingSink {
+    writes: u64,
+    bytes: u64,
+}
+
+impl Sink for CountingSink {
+    ghost facts = { λ _. record { faults = 0; text = None } };
+
+    fn write(&mut self, piece: &[u8]) -> Wrote {
+        self.writes = self.writes.saturating_add(1);
+        self.bytes = self.bytes.saturating_add(piece.len() as u64);
+        Wrote::Bytes(piece.len())
+    }
+}
+
+#[test]
+fn the_longest_line_is_written_at_once(rt: HostRuntime) -> Result<(), Fail> {
+    let alloc = rt.alloc();
+    let header = b"\0\0\0\0\0\x01\0\x14\0\0\0\x04\0\0\0\x07\0\0\0\x01\0\0\0\x02\0\x01\0\0";
+    let mut bytes = Vec::from_slice(alloc, header)?;
+    for _ in 0..65_536 {
+        bytes.push(b'\x01')?;
+    }
+    let sink = CountingSink {
+        writes: 0,
+        bytes: 0,
+    };
+    let words = [String::from_str(alloc, "one")?];
+    let served = logd_main(alloc, &words, SteadySource::new(bytes), sink);
+    assert_eq!(rt; served.status, 0);
+    // one write for the line, 18 bytes before the message and a line feed behind it, and one for the closing line of 14
+    assert_eq!(rt; served.output.writes, 2);
+    assert_eq!(rt; served.output.bytes, 18 + 4 * 65_536 + 1 + 14);
     Ok(())
 }

@@ -1,39 +1,42 @@
 //! Texts of records as messages.
-ghost use Rattle.std.specs.Prelude.{◌≡◌, ◌≤◌, ◌<◌, ◌++◌, ℕ, Some, IfOk, length};
+ghost use Rattle.std.specs.Prelude.{◌≡◌, ◌≤◌, ◌<◌, ◌++◌, ℕ, List, IfOk, length};
 ghost use Rattle.log_lines.specs.Texts.{record_text};
 ghost use Rattle.module_stream.specs.Tasks.{block_of, text_message};
 
 use cdr_record::LogRecord;
-use ev_base::{Sink, Wrote};
 use ev_types::NoMemory;
 use log_lines::put_record_text;
 use message_block::{Block, Message};
-use sink_buffer::SinkBuffer;
+use sink_buffer::TextOut;
 use std::alloc::Global;
 
 /// How many bytes a block has at most. The text of a record has fewer: a message of 65,536 bytes has at most four times as many
 /// in its text.
 const MOST_BYTES: usize = 1_048_576;
 
-/// A sink that gathers a text. It fails where there is no memory for it.
+/// A text that grows as it is put. It is broken where there was no memory for it.
 #[derive(Drop)]
-struct TextSink {
-    text: Vec<u8>,
-    faults: u64,
-    ghost within: { length text.items ≤ 1048576 },
+struct GrowingText {
+    bytes: Vec<u8>,
+    broken: bool,
+    ghost within: { length bytes.items ≤ 1048576 },
 }
 
-impl Sink for TextSink {
-    ghost facts = { λ s. record { faults = s.faults; text = Some s.text.items } };
+impl TextOut for GrowingText {
+    ghost use Rattle.module_stream.specs.Growing.{Grows};
 
-    fn write(&mut self, piece: &[u8]) -> Wrote {
-        if piece.len() <= MOST_BYTES - self.text.len()
-            && self.text.extend_from_slice(piece).is_ok()
+    ghost Since = { List ℕ };
+
+    ghost stands = { Grows };
+
+    fn put(&mut self, bytes: &[u8]) {
+        if !self.broken
+            && bytes.len() <= MOST_BYTES - self.bytes.len()
+            && self.bytes.extend_from_slice(bytes).is_ok()
         {
-            return Wrote::Bytes(piece.len());
+            return;
         }
-        self.faults = self.faults.saturating_add(1);
-        Wrote::Failed
+        self.broken = true;
     }
 }
 
@@ -42,16 +45,15 @@ fn text_of(alloc: Global, entry: &LogRecord) -> Result<Vec<u8>, NoMemory>
     ensures text { IfOk result (λ text. text.items ≡ record_text entry.now) }
     ensures within { IfOk result (λ text. length text.items ≤ 1048576) }
 {
-    let mut out = SinkBuffer::new(TextSink {
-        text: Vec::new(alloc),
-        faults: 0,
-    });
-    put_record_text(&mut out, entry);
-    out.flush();
-    if out.is_broken() {
+    let mut text = GrowingText {
+        bytes: Vec::new(alloc),
+        broken: false,
+    };
+    put_record_text(&mut text, entry);
+    if text.broken {
         return Err(NoMemory);
     }
-    Ok(out.into_output().text)
+    Ok(text.bytes)
 }
 
 /// A block of these bytes, without space.

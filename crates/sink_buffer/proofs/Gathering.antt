@@ -1,8 +1,8 @@
 -- Steps of a buffered sink.
-use Rattle.std.proofs.Common.{◌≡◌, ℕ, List, [], ◌++◌, Bool, true, false, refl, sym, ◌∙◌, ap, append_assoc, append-nil, subst}
+use Rattle.std.proofs.Common.{◌≡◌, ◌≤◌, ◌<◌, ◌+◌, arith, ℕ, List, [], ◌++◌, length, Bool, true, false, refl, sym, ◌∙◌, ap, append_assoc, append-nil, subst, length-append}
 use Rattle.ev_base.specs.Sink.{SinkFacts, GrowsBy}
 use Rattle.sink_buffer.specs.Written.{IsPrefixOf, TakesAll, BreaksOff, WritesAll}
-use Rattle.sink_buffer.specs.Gathers.{Gathers, HoldsBack, held_of, is_broken, output_of}
+use Rattle.sink_buffer.specs.Gathers.{Gathers, HoldsBack, Since, Told, Held, HasPut, held_of, is_broken, output_of}
 use Rattle.sink_buffer.specs.declared.buffer.SinkBuffer.{SinkBuffer}
 use Rattle.sink_buffer.proofs.Texts.{grows-none, grows-twice, prefix-behind, prefix-more}
 
@@ -61,3 +61,28 @@ gathers-flushed facts start old new put false sound writes held whole front g = 
   whole = λ b. absurd (cc (front refl));
   front = λ b. written-front start (facts (output_of old)) (facts (output_of new)) (held_of old) put (g.whole sound) writes;
 }
+
+-- what was held back has its length
+held-length : (now held put : List ℕ) → now ≡ held ++ put → length now ≡ length held + length put
+held-length now held put h = ap length h ∙ length-append held put
+
+-- bytes were put, room was made, and more were copied
+pub stands-more : {K : Type 0} (facts : K → SinkFacts) (old room new : SinkBuffer K) (put more : List ℕ) (since : Since K) → 1 ≤ length more →
+    ((start : SinkFacts) (text : List ℕ) → Gathers facts start old text → Gathers facts start room text) →
+    (length (held_of old) < 294912 → held_of room ≡ held_of old) → (length (held_of old) < 294912 → output_of room ≡ output_of old) →
+    held_of new ≡ held_of room ++ more → output_of new ≡ output_of room → is_broken new ≡ is_broken room →
+    HasPut facts since old put → HasPut facts since new (put ++ more)
+stands-more facts old room new put more (Told start) some text held output copied below broken h =
+    gathers-more facts start room new put more copied below broken (text start put h)
+stands-more facts old room new put more (Held first front) some text held output copied below broken h = record {
+  fits = λ (fits : length front + length (put ++ more) ≤ 294912).
+      let before = h.fits (omega (arith, fits, length-append put more)) in
+      let free : length (held_of old) < 294912 = omega (arith, fits, some, length-append put more, held-length (held_of old) front put before.0) in (
+        copied ∙ ap (λ xs. xs ++ more) (held free ∙ before.0) ∙ append_assoc front put more,
+        below ∙ output free ∙ before.1,
+      );
+}
+
+-- nothing was put
+pub stands-none : {K : Type 0} (facts : K → SinkFacts) (buffer : SinkBuffer K) → (since : Since K) (put : List ℕ) → HasPut facts since buffer put → HasPut facts since buffer (put ++ [])
+stands-none facts buffer since put h = subst (λ (text : List ℕ). HasPut facts since buffer text) (sym (append-nil put)) h

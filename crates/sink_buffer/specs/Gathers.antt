@@ -1,5 +1,5 @@
 -- What a buffered sink stands for.
-use Rattle.std.specs.Prelude.{◌≡◌, ℕ, List, ◌++◌, take, Bool, true, false}
+use Rattle.std.specs.Prelude.{◌≡◌, ◌≤◌, ◌+◌, ℕ, List, ◌++◌, length, take, Bool, true, false}
 use Rattle.ev_base.specs.Sink.{SinkFacts}
 use Rattle.sink_buffer.specs.Written.{TakesAll, BreaksOff}
 use Rattle.sink_buffer.specs.declared.buffer.SinkBuffer.{SinkBuffer}
@@ -28,6 +28,16 @@ pub record Gathers {K : Type 0} (facts : K → SinkFacts) (start : SinkFacts) (b
   pub whole : is_broken buffer ≡ false → HoldsBack start (held_of buffer) put (facts (output_of buffer))
   pub front : is_broken buffer ≡ true → BreaksOff start put (facts (output_of buffer))
 
--- bytes were put: whatever it stood for, it stands for that and these bytes
-abbrev pub Puts : {K : Type 0} → (K → SinkFacts) → SinkBuffer K → List ℕ → SinkBuffer K → Type 0
-Puts facts old bytes new = (start : SinkFacts) (put : List ℕ) → Gathers facts start old put → Gathers facts start new (put ++ bytes)
+-- Since these bytes were held back and the sink below was this: where there was room for what was put, it is held back behind
+-- them, and nothing was written.
+pub record Holds {K : Type 0} (output : K) (held : List ℕ) (buffer : SinkBuffer K) (put : List ℕ) : Type 0 where
+  pub fits : length held + length put ≤ 294912 → (held_of buffer ≡ held ++ put) × (output_of buffer ≡ output)
+
+-- what was put is counted since the sink told some facts, or since it was this and these bytes were held back
+pub data Since (K : Type 0) : Type 0 where
+  Told : SinkFacts → Since K
+  Held : K → List ℕ → Since K
+
+abbrev pub HasPut : {K : Type 0} → (K → SinkFacts) → Since K → SinkBuffer K → List ℕ → Type 0
+HasPut facts (Told start) buffer put = Gathers facts start buffer put
+HasPut facts (Held output held) buffer put = Holds output held buffer put

@@ -3,24 +3,27 @@ ghost use Rattle.std.specs.Prelude.{◌≡◌, ◌≤◌, ℕ, List, [], ◌++�
 ghost use Rattle.ev_base.specs.Sink.{SinkFacts};
 ghost use Rattle.sink_buffer.specs.Written.{WritesAll};
 
+use crate::TextOut;
 use ev_base::{Sink, Wrote};
 
-/// How many bytes are gathered before a write.
-const SIZE: usize = 8192;
+/// How many bytes are gathered before a write: 288 KiB. The lines of the records that a piece of 4,096 bytes of input completes
+/// fit, whatever they are: four bytes for each byte of the piece and of an unfinished record before it, which has fewer than
+/// 65,568, are 278,656.
+const SIZE: usize = 294_912;
 
-/// A sink that gathers what is put into it in a fixed buffer of 8,192 bytes. It writes the buffer when it is full
-/// and when it is flushed, and takes no memory. Once a write failed it writes nothing more.
+/// A sink that gathers what is put into it in a fixed buffer of 294,912 bytes. It writes the buffer when more is put than there is
+/// room for, and when it is flushed, and takes no memory. Once a write failed it writes nothing more.
 #[derive(Drop)]
 pub struct SinkBuffer<K> {
     output: K,
     bytes: [u8; SIZE],
     held: usize,
     broken: bool,
-    ghost within: { held ≤ 8192 },
+    ghost within: { held ≤ 294912 },
 }
 
 impl<K: Sink> SinkBuffer<K> {
-    ghost use Rattle.sink_buffer.specs.Gathers.{Gathers, Puts, held_of, is_broken, output_of};
+    ghost use Rattle.sink_buffer.specs.Gathers.{Gathers, held_of, is_broken, output_of};
 
     /// A buffer before this sink, which holds nothing.
     pub fn new(output: K) -> SinkBuffer<K>
@@ -37,21 +40,12 @@ impl<K: Sink> SinkBuffer<K> {
         }
     }
 
-    /// Adds bytes to the text.
-    pub fn put(&mut self, bytes: &[u8])
-        ensures { Puts K.facts self.old bytes.now self.new }
-    {
-        let mut at = 0;
-        while at < bytes.len() {
-            self.make_room();
-            at += self.fill(&bytes[at..]);
-        }
-    }
-
     /// Writes what is held where the buffer is full.
     fn make_room(&mut self)
         ensures text { (start : SinkFacts) (put : List ℕ) → Gathers K.facts start self.old put → Gathers K.facts start self.new put }
-        ensures room { self.new.held < 8192 }
+        ensures room { self.new.held < 294912 }
+        ensures held { length (held_of self.old) < 294912 → held_of self.new ≡ held_of self.old }
+        ensures output { length (held_of self.old) < 294912 → output_of self.new ≡ output_of self.old }
     {
         if self.held >= SIZE {
             self.flush();
@@ -60,8 +54,8 @@ impl<K: Sink> SinkBuffer<K> {
 
     /// Copies what there is room for, and tells how much that was.
     fn fill(&mut self, bytes: &[u8]) -> usize
-        requires { self.old.held < 8192 }
-        ensures count { result ≡ min (length bytes.now) (8192 - self.old.held) }
+        requires { self.old.held < 294912 }
+        ensures count { result ≡ min (length bytes.now) (294912 - self.old.held) }
         ensures held { held_of self.new ≡ held_of self.old ++ take result bytes.now }
         ensures output { output_of self.new ≡ output_of self.old }
         ensures broken { is_broken self.new ≡ is_broken self.old }
@@ -73,11 +67,13 @@ impl<K: Sink> SinkBuffer<K> {
         count
     }
 
-    /// Writes what is held. After it the sink has the whole text, or a write failed.
+    /// Writes what is held, in one write where the sink takes all of it, and in none where nothing is held. After it the sink has
+    /// the whole text, or a write failed.
     pub fn flush(&mut self)
         ensures text { (start : SinkFacts) (put : List ℕ) → Gathers K.facts start self.old put → Gathers K.facts start self.new put }
         ensures held { held_of self.new ≡ [] }
         ensures empty { self.new.held ≡ 0 }
+        ensures idle { length (held_of self.old) ≡ 0 → output_of self.new ≡ output_of self.old }
     {
         if self.broken {
             self.held = 0;
@@ -103,9 +99,27 @@ impl<K: Sink> SinkBuffer<K> {
     }
 }
 
+impl<K: Sink> TextOut for SinkBuffer<K> {
+    ghost use Rattle.sink_buffer.specs.Gathers.{Since, HasPut};
+
+    ghost Since = { Since K };
+
+    ghost stands = { HasPut K.facts };
+
+    /// Adds bytes to the text. Where there is room for them, nothing is written.
+    fn put(&mut self, bytes: &[u8]) {
+        let mut at = 0;
+        while at < bytes.len() {
+            self.make_room();
+            at += self.fill(&bytes[at..]);
+        }
+    }
+}
+
 /// Writes all of some bytes, in as many writes as the sink needs, and tells whether none failed.
 fn write_all<K: Sink>(output: &mut K, bytes: &[u8]) -> bool
-    ensures { WritesAll (K.facts output.old) bytes.now result (K.facts output.new) }
+    ensures writes { WritesAll (K.facts output.old) bytes.now result (K.facts output.new) }
+    ensures idle { length bytes.now ≡ 0 → output.new ≡ output.old }
 {
     let mut at = 0;
     while at < bytes.len() {

@@ -1,7 +1,6 @@
 use Rattle.std.proofs.Common.{◌≡◌, ◌≤◌, ◌∙◌, ℕ, List, ◌++◌, ◌+◌, ◌-◌, length, take, drop, ap, sym, subst, arith, append_assoc}
 use Rattle.std.specs.Prelude.{flat_map}
 use Rattle.std.proofs.lemmas.List.{take_rest, length-drop}
-use Rattle.sink_buffer.specs.Gathers.{Gathers}
 use Rattle.log_lines.specs.Texts.{byte_text}
 use Rattle.log_lines.proofs.Escapes.{escaped_next}
 use Rattle.log_lines.proofs.message.put_escaped.Goals as goal
@@ -27,5 +26,5 @@ loop-at-preserved g c =
           append_assoc (text ++ flat_map byte_text (take at xs)) (take plain rest) (flat_map byte_text (take n behind))
           ∙ append_assoc text (flat_map byte_text (take at xs)) (take plain rest ++ flat_map byte_text (take n behind))
           ∙ ap (λ ys. text ++ ys) (sym next) in
-          subst (λ (whole : List ℕ). Gathers g.K.Sink.facts faults c.put_first.new.out whole) join all,
+          subst (λ (whole : List ℕ). g.T.TextOut.stands faults c.put_first.new.out whole) join all,
     )

@@ -1,4 +1,4 @@
-use Rattle.std.proofs.Common.{subst, ℕ}
+use Rattle.std.proofs.Common.{subst}
 use Rattle.logging_server.specs.Serving.{HasEnded}
 use Rattle.logging_server.specs.declared.one.Ending.{Ending}
 use Rattle.logging_server.proofs.Endings.{closed, broken}

@@ -1,6 +1,5 @@
-use Rattle.std.proofs.Common.{arith, ◌≡◌, ◌∙◌, ◌++◌, ◌∷◌, [], ℕ, length, take, ap, sym, subst, List, refl}
+use Rattle.std.proofs.Common.{arith, ◌∙◌, ◌++◌, ℕ, take, ap, List, refl}
 use Rattle.std.proofs.lemmas.List.{length-take}
-use Rattle.ev_base.specs.Bytes.{MovesOn}
 use Rattle.logging_server.proofs.Steps.{moves-twice, one_of}
 use Rattle.logging_server.proofs.one.probe_end.Goals as goal
 

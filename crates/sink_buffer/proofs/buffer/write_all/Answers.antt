@@ -15,12 +15,16 @@ loop-at-preserved g c =
       omega (arith, within, length-part bytes at),
       subst (λ (front : List ℕ). GrowsBy start front now) (take-next bytes at n) both,
       c.in-Bytes.ensures.faults ∙ c.loop-at.invariant.2,
+      λ empty. absurd (omega (arith, empty, c.loop-at-test.true)),
     )
 
-pub returns-in-Failed : goal.returns-in-Failed
-returns-in-Failed g c = record {
+pub returns-in-Failed-clause-writes : goal.returns-in-Failed-clause-writes
+returns-in-Failed-clause-writes g c = record {
   front = take c.loop-at.at c.args.bytes.now;
   is_front = prefix-take c.args.bytes.now c.loop-at.at;
   text = rw c.in-Failed.ensures.text c.loop-at.invariant.1;
   rose = rw (← c.loop-at.invariant.2) c.in-Failed.ensures.rose;
 }
+
+pub returns-in-Failed-clause-idle : goal.returns-in-Failed-clause-idle
+returns-in-Failed-clause-idle g c = λ empty. absurd (omega (arith, empty, c.loop-at-test.true))

@@ -8,6 +8,7 @@ invariant-loop-at g l =
     (l.at ≤ length l.bytes)
     × GrowsBy (g.K.Sink.facts l.fn.output).text (take l.at l.bytes) (g.K.Sink.facts l.output).text
     × ((g.K.Sink.facts l.output).faults ≡ (g.K.Sink.facts l.fn.output).faults)
+    × (length l.bytes ≡ 0 → l.output ≡ l.fn.output)
 
 abbrev pub decreases-loop-at : goal.decreases-loop-at
 decreases-loop-at g l = length l.bytes - l.at

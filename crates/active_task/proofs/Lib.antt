@@ -1,0 +1,5 @@
+pub mod Moves
+pub mod Steps
+pub mod Boxes
+pub mod Passes
+pub mod Settling

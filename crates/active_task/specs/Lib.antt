@@ -1,0 +1,6 @@
+pub mod Lines
+pub mod Progress
+pub mod Boxes
+pub mod Works
+pub mod Caller
+pub mod Active
