@@ -15,3 +15,4 @@ pub mod Removed
 pub mod Stopped
 pub mod Opened
 pub mod Registered
+pub mod Begun

@@ -9,3 +9,4 @@ pub mod Settles
 pub mod Removing
 pub mod Registering
 pub mod Offering
+pub mod Beginning

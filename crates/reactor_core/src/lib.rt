@@ -12,7 +12,7 @@ mod settling;
 mod upcalls;
 
 pub use job::{Done, Job};
-pub use reactor::Core;
+pub use reactor::{Core, Parts};
 pub use registering::RegisterRefused;
 pub use removing::NotLive;
 pub use upcalls::StartRefused;

@@ -1,5 +1,16 @@
-//! The core.
+//! The core: a reactor that one thread at a time calls.
+ghost use Rattle.std.specs.Prelude.{◌≡◌, ◌≤◌, ℕ, List, [], IfOk, IfErr, true, drop, Some};
+ghost use Rattle.ev_base.specs.Counts.{Rose};
+ghost use Rattle.ev_base.specs.Terms.{Terms};
+ghost use Rattle.reactor_journal.specs.declared.entry.Entry.{Entry};
+ghost use Rattle.reactor_journal.specs.Past.{past_of};
+ghost use Rattle.reactor_summary.specs.Summary.{summary};
+ghost use Rattle.reactor_state.specs.State.{Shows, HasPlaces, IsPlaced};
+ghost use Rattle.reactor_core.specs.Stands.{meaning, Stands, StandsWith};
+ghost use Rattle.reactor_core.specs.Beginning.{CanBegin, IsOver, PartsStand};
+
 use ev_base::Net;
+use ev_types::NoMemory;
 use handler_repo::Repo;
 use reactor_journal::Journal;
 use reactor_model::{EventHandler, Volumes, Watch};
@@ -7,7 +18,11 @@ use reactor_state::ReactorState;
 use std::alloc::Global;
 use timer_queue::TimerQueue;
 
-/// The one-thread reactor.
+/// A reactor that one thread at a time calls (POSA2, Reactor: Initiation Dispatcher; C++NPv2 chapter 3, `ACE_Reactor`): it waits for
+/// what its net, its timers and its posters report, records each as an event in its journal, and dispatches the events to the
+/// handlers one by one.
+///
+/// It hands out each upcall as a job, so that its caller chooses when and where it runs, and takes it back to be settled.
 pub struct Core<
     H: EventHandler,
     M: Net<End = H::End>,
@@ -25,4 +40,125 @@ pub struct Core<
     pub(crate) net: M,
     pub(crate) watch: W,
     pub(crate) volumes: V,
+}
+
+/// What a reactor that is over leaves.
+pub struct Parts<N, M, Q, W, V> {
+    /// The entries that were not handed over.
+    pub journal: Journal<N>,
+    /// How many entries were handed over.
+    pub first: u64,
+    /// The net.
+    pub net: M,
+    /// The timer queue.
+    pub timers: Q,
+    /// The watch.
+    pub watch: W,
+    /// The volumes.
+    pub volumes: V,
+}
+
+impl<H: EventHandler, M: Net<End = H::End>, Q: TimerQueue, W: Watch<H::Note>, V: Volumes<H::Note>>
+    Core<H, M, Q, W, V>
+{
+    /// A reactor for at most so many live handlers, from 1 to 4,097, which hands its journal over in volumes of at least so many
+    /// entries, from 1. Its timer queue is empty, its watch has seen nothing, and its net has made no call. With `NoMemory` all
+    /// comes back.
+    pub fn new(alloc: Global, most: u64, volume: u64, net: M, timers: Q, watch: W, volumes: V) -> Result<Self, (M, Q, W, V, NoMemory)>
+        requires least { 1 ≤ most }
+        requires greatest { most ≤ 4097 }
+        requires volume { 1 ≤ volume }
+        requires begins { (t : Terms) × CanBegin (M.facts net) (M.keeps t net) (Q.timers timers) (W.stands t watch []) (V.facts volumes) t most }
+        ensures ok { IfOk result (λ core. (t : Terms) → CanBegin (M.facts net) (M.keeps t net) (Q.timers timers) (W.stands t watch []) (V.facts volumes) t most
+            → Stands (meaning H.means M.facts M.keeps (Shows Q.timers) (HasPlaces Q.spare) IsPlaced W.stands V.facts) t core 0 []) }
+        ensures err { IfErr result (λ back. (back.0 ≡ net) × (back.1 ≡ timers) × (back.2 ≡ watch) × (back.3 ≡ volumes)) }
+    {
+        let mut journal = Journal::new(alloc);
+        match journal.reserve(1) {
+            Ok(()) => {}
+            Err(refused) => {
+                journal.into_vec().destroy_empty();
+                return Err((net, timers, watch, volumes, refused));
+            }
+        }
+        Ok(Core {
+            alloc,
+            most,
+            volume,
+            first: 0,
+            journal,
+            state: ReactorState::new(alloc, timers),
+            repo: Repo::new(alloc),
+            net,
+            watch,
+            volumes,
+        })
+    }
+
+    /// The entries that were not handed over, in order.
+    pub fn journal(&self) -> &Journal<H::Note>
+        ensures { (t : Terms) (F : ℕ) (h : List (Entry H.Note)) → Stands (meaning H.means M.facts M.keeps (Shows Q.timers) (HasPlaces Q.spare) IsPlaced W.stands V.facts) t self.now F h
+            → result.now.entries ≡ drop F h }
+    {
+        &self.journal
+    }
+
+    /// How many entries were handed over.
+    pub fn first(&self) -> u64
+        ensures { (t : Terms) (F : ℕ) (h : List (Entry H.Note)) → Stands (meaning H.means M.facts M.keeps (Shows Q.timers) (HasPlaces Q.spare) IsPlaced W.stands V.facts) t self.now F h → result ≡ F }
+    {
+        self.first
+    }
+
+    /// How many handlers may be live at once.
+    pub fn most(&self) -> u64
+        ensures { (t : Terms) (F : ℕ) (h : List (Entry H.Note)) → Stands (meaning H.means M.facts M.keeps (Shows Q.timers) (HasPlaces Q.spare) IsPlaced W.stands V.facts) t self.now F h → result ≡ t.most }
+    {
+        self.most
+    }
+
+    /// Whether it was stopped.
+    pub fn is_ended(&self) -> bool
+        ensures { (t : Terms) (F : ℕ) (h : List (Entry H.Note)) → Stands (meaning H.means M.facts M.keeps (Shows Q.timers) (HasPlaces Q.spare) IsPlaced W.stands V.facts) t self.now F h
+            → result ≡ (summary (past_of h)).ended }
+    {
+        self.state.is_ended()
+    }
+
+    /// Whether its watch failed.
+    pub fn is_broken(&self) -> bool
+        ensures { (t : Terms) (F : ℕ) (h : List (Entry H.Note)) (before : ℕ) → Stands (meaning H.means M.facts M.keeps (Shows Q.timers) (HasPlaces Q.spare) IsPlaced W.stands V.facts) t self.now F h
+            → result ≡ true → t.output_faults ≡ Some before → Rose before (W.faults self.now.watch) }
+    {
+        self.watch.broken()
+    }
+
+    /// Takes apart a reactor that was stopped and whose handlers were all closed.
+    pub fn into_parts(self) -> Parts<H::Note, M, Q, W, V>
+        requires { StandsWith (meaning H.means M.facts M.keeps (Shows Q.timers) (HasPlaces Q.spare) IsPlaced W.stands V.facts) (λ t h. IsOver (summary (past_of h))) self }
+        ensures { (t : Terms) (F : ℕ) (h : List (Entry H.Note)) → Stands (meaning H.means M.facts M.keeps (Shows Q.timers) (HasPlaces Q.spare) IsPlaced W.stands V.facts) t self F h
+            → PartsStand (meaning H.means M.facts M.keeps (Shows Q.timers) (HasPlaces Q.spare) IsPlaced W.stands V.facts) Q.timers t F h result }
+    {
+        let Core {
+            alloc: _,
+            most: _,
+            volume: _,
+            first,
+            journal,
+            state,
+            repo,
+            net,
+            watch,
+            volumes,
+        } = self;
+        repo.close();
+        Parts {
+            journal,
+            first,
+            net,
+            timers: state.into_timers(),
+            watch,
+            volumes,
+        }
+    }
 }

@@ -8,7 +8,7 @@ ghost use Rattle.reactor_summary.specs.Summary as S;
 ghost use Rattle.reactor_summary.specs.Summary.{Summary};
 ghost use Rattle.reactor_summary.specs.Rules as R;
 ghost use Rattle.reactor_state.specs.Tables.{alive_count, armed_of, first_deadline};
-ghost use Rattle.reactor_state.specs.State.{Shows, HasPlaces, Tells, IsPlaced, owed};
+ghost use Rattle.reactor_state.specs.State.{Shows, HasPlaces, Tells, IsPlaced, owed, no_places};
 
 use crate::armed::Armed;
 use crate::handles::{find_live, is_alive, is_wanted, next_alive};
@@ -45,7 +45,8 @@ impl<Q: TimerQueue> ReactorState<Q> {
     /// That of no entries, over a timer queue that has no timer. It takes no memory.
     pub fn new(alloc: Global, timers: Q) -> Self
         requires { Q.timers timers ≡ [] }
-        ensures { Shows Q.timers result S.nothing }
+        ensures shows { Shows Q.timers result S.nothing }
+        ensures places { HasPlaces Q.spare no_places result }
     {
         ReactorState {
             entries: 0,
