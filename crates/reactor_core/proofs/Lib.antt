@@ -16,3 +16,13 @@ pub mod Stopped
 pub mod Opened
 pub mod Registered
 pub mod Begun
+pub mod Quiet
+pub mod Suspension
+pub mod Masking
+pub mod Posted
+pub mod Scheduling
+pub mod Cancelling
+mod PollWait
+mod PollDue
+mod PollReady
+mod Polls

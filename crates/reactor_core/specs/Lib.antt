@@ -10,3 +10,8 @@ pub mod Removing
 pub mod Registering
 pub mod Offering
 pub mod Beginning
+pub mod Requests
+pub mod Postings
+pub mod Timers
+pub mod Polling
+pub mod Taking

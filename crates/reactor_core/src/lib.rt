@@ -4,15 +4,23 @@
 mod append;
 mod closing;
 mod job;
+mod polling;
+mod postings;
 mod reactor;
 mod registering;
 mod removing;
+mod requests;
 mod room;
 mod settling;
+mod timers;
 mod upcalls;
 
 pub use job::{Done, Job};
+pub use polling::{PollRefused, Polled};
+pub use postings::PostRefused;
 pub use reactor::{Core, Parts};
 pub use registering::RegisterRefused;
 pub use removing::NotLive;
+pub use requests::{LiveRefused, StateRefused};
+pub use timers::CancelRefused;
 pub use upcalls::StartRefused;

@@ -1,0 +1,34 @@
+use Rattle.std.proofs.Common.{sym, ◌∙◌}
+use Rattle.reactor_journal.specs.Past.{past_of}
+use Rattle.reactor_summary.specs.Summary.{Summary, summary}
+use Rattle.reactor_core.proofs.Kept.{stands_kept}
+use Rattle.reactor_core.proofs.Polls.{limit_is, may_wait, rose_reserved, polls}
+use Rattle.reactor_core.proofs.reactor.Core.poll.Goals as goal
+
+pub take_events-requires : goal.take_events-requires
+take_events-requires g c =
+    let o = c.requires.stands in
+    let s : Summary = summary (past_of o.2) in
+    let shows = o.3.tracks.state in
+    let limit = c.least_limit-limit.ensures ∙ limit_is s c.args.most_ms c.time_to_deadline.result (c.time_to_deadline.ensures s (c.in-Ok.ensures.kept.shows s shows)) in (
+      o.0,
+      o.1,
+      o.2,
+      may_wait _ o.0 c.args.self.now _ o.1 o.2 c.armed_count-armed.result c.args.most_ms c.least_limit-limit.result c.in-Ok.ensures.kept
+          (sym (c.is_ended.ensures s shows) ∙ c.if-is_ended.false) (c.armed_count-armed.ensures s shows) limit o.4 (c.in-Ok.ensures.room o.0 o.1 o.2 o.3) o.3,
+    )
+
+pub returns-in-Some-clause-ok : goal.returns-in-Some-clause-ok
+returns-in-Some-clause-ok g c t F h o fits =
+    let s : Summary = summary (past_of h) in
+    let shows = o.tracks.state in
+    let limit = c.least_limit-limit.ensures ∙ limit_is s c.args.most_ms c.time_to_deadline.result (c.time_to_deadline.ensures s (c.in-Ok.ensures.kept.shows s shows)) in
+    let may = may_wait _ t c.args.self.now _ F h c.armed_count-armed.result c.args.most_ms c.least_limit-limit.result c.in-Ok.ensures.kept
+    (sym (c.is_ended.ensures s shows) ∙ c.if-is_ended.false) (c.armed_count-armed.ensures s shows) limit fits (c.in-Ok.ensures.room t F h o) o in
+    polls _ t F h c.args.most_ms c.least_limit-limit.result c.in-Some.polled c.args.self.now c.make_poll_room.new.self _ c.in-Ok.ensures.kept limit (c.in-Some.ensures.waits t F h may)
+
+pub returns-in-None-clause-err : goal.returns-in-None-clause-err
+returns-in-None-clause-err g c t F h o = c.in-None.ensures.stands t F h (stands_kept _ t c.args.self.now _ F h c.in-Ok.ensures.kept o)
+
+pub returns-in-None-clause-failed : goal.returns-in-None-clause-failed
+returns-in-None-clause-failed g c q = rose_reserved (g.M.Net.facts c.args.self.now.net) (g.M.Net.facts c.make_poll_room.new.self.net) (g.M.Net.facts c.take_events.new.self.net) c.in-Ok.ensures.kept.net c.in-None.ensures.rose

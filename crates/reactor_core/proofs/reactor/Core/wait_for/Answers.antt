@@ -1,0 +1,38 @@
+use Rattle.std.proofs.Common.{refl, sym, ◌∙◌, arith}
+use Rattle.reactor_journal.specs.Past.{past_of}
+use Rattle.reactor_summary.specs.Summary.{summary}
+use Rattle.reactor_core.proofs.PollWait.{answered, may_poll, wait_gives, failed_keeps, some_none}
+use Rattle.reactor_core.proofs.reactor.Core.wait_for.Goals as goal
+
+pub returns-clause-gives : goal.returns-clause-gives
+returns-clause-gives g c t F h armed o =
+    let at = sym c.moment_of.ensures ∙ c.in-Some.is in
+    wait_gives _ t c.args.self.now _ F h armed c.args.limit c.wait-answer.result c.in-Some.now _ at (record {
+      appends = record { most = refl; first = refl; journal = c.append.ensures.entries; watch = c.append.ensures.watch; volumes = refl };
+      spare = c.append.ensures.spare;
+      repo = refl;
+      net = answered _ _ c.args.limit c.wait-answer.result c.in-Some.now at c.wait-answer.ensures.waits;
+      state = c.poll.ensures.steps;
+      places = c.poll.ensures.places;
+      keeps = c.wait-answer.ensures.kept;
+    }) o
+
+pub returns-in_default-clause-failed : goal.returns-in_default-clause-failed
+returns-in_default-clause-failed g c q = failed_keeps _ c.args.self.now _ c.args.limit c.wait-answer.result q refl c.wait-answer.ensures.waits c.wait-answer.ensures.kept
+
+pub returns-clause-failed : goal.returns-clause-failed
+returns-clause-failed g c q = absurd (some_none (sym (sym c.moment_of.ensures ∙ c.in-Some.is) ∙ q))
+
+pub poll-requires : goal.poll-requires
+poll-requires g c =
+    let o = c.requires in
+    record {
+      can = (
+        summary (past_of o.2),
+        o.4.stands.tracks.state,
+        may_poll _ o.0 c.args.self.now o.1 o.2 o.3 c.args.limit c.wait-answer.result c.in-Some.now _ (answered _ _ c.args.limit c.wait-answer.result c.in-Some.now (sym c.moment_of.ensures ∙ c.in-Some.is) c.wait-answer.ensures.waits) o.4,
+      );
+    }
+
+pub append-requires : goal.append-requires
+append-requires g c = let room = c.requires.4.room.journal in omega (arith, room)

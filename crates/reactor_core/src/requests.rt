@@ -1,0 +1,148 @@
+//! What a user asks of a handle: to suspend it, to resume it, and to change its mask.
+ghost use Rattle.std.specs.Prelude.{◌≡◌, ◌<◌, ◌≤◌, ◌+◌, ℕ, List, OnOk, OnErr, true, false};
+ghost use Rattle.ev_base.specs.Terms.{Terms};
+ghost use Rattle.reactor_journal.specs.declared.entry.Entry.{Entry};
+ghost use Rattle.reactor_journal.specs.Past.{past_of};
+ghost use Rattle.reactor_summary.specs.Summary.{summary};
+ghost use Rattle.reactor_core.specs.Stands.{meaning, IsStanding, StandsAsBefore};
+ghost use Rattle.reactor_core.specs.Requests.{GoesOnBy, WhereStanding, suspension, IsStateAnswer, IsLiveAnswer};
+ghost use Rattle.reactor_state.specs.State.{Shows, HasPlaces, IsPlaced};
+
+use crate::Core;
+use crate::append::append;
+use ev_base::Net;
+use ev_types::{Handle, Mask};
+use reactor_model::{Entry, EventHandler, Volumes, Watch};
+use reactor_state::Places;
+use timer_queue::TimerQueue;
+
+/// Why a handle was not suspended or resumed.
+#[derive(Clone, Copy, PartialEq, Eq, Debug)]
+pub enum StateRefused {
+    /// The handle is not alive.
+    NotLive,
+    /// It is suspended, or not suspended, already.
+    Same,
+    /// There was no memory for the entry.
+    NoMemory,
+}
+
+/// Why something that is for alive handles was not done.
+#[derive(Clone, Copy, PartialEq, Eq, Debug)]
+pub enum LiveRefused {
+    /// The handle is not alive.
+    NotLive,
+    /// There was no memory for it.
+    NoMemory,
+}
+
+/// No place of any kind.
+pub(crate) const NO_PLACES: Places = Places {
+    handles: 0,
+    timers: 0,
+    timeouts: 0,
+    events: 0,
+    opens: 0,
+};
+
+impl<H: EventHandler, M: Net<End = H::End>, Q: TimerQueue, W: Watch<H::Note>, V: Volumes<H::Note>> Core<
+    H,
+    M,
+    Q,
+    W,
+    V,
+> {
+    /// Suspends a handle: from now on none of its events is started, while reports and timeouts of it still wait
+    /// (ACE's `suspend_handler`). The journal has one more entry, `Suspended`. `NotLive` comes exactly where the handle is not
+    /// alive, and `Same` exactly where it is alive and suspended already; after a refusal nothing has changed.
+    pub fn suspend(&mut self, handle: Handle) -> Result<(), StateRefused>
+        requires stands { IsStanding (meaning H.means M.facts M.keeps (Shows Q.timers) (HasPlaces Q.spare) IsPlaced W.stands V.facts) self.old }
+        ensures ok { OnOk result (GoesOnBy (meaning H.means M.facts M.keeps (Shows Q.timers) (HasPlaces Q.spare) IsPlaced W.stands V.facts) self.old (λ s. Entry.Suspended handle) self.new) }
+        ensures err { OnErr result (StandsAsBefore (meaning H.means M.facts M.keeps (Shows Q.timers) (HasPlaces Q.spare) IsPlaced W.stands V.facts) self.old self.new) }
+        ensures cause { WhereStanding (meaning H.means M.facts M.keeps (Shows Q.timers) (HasPlaces Q.spare) IsPlaced W.stands V.facts) self.old (λ s. IsStateAnswer s handle.0 true result) }
+    {
+        match self.suspension(handle) {
+            None => return Err(StateRefused::NotLive),
+            Some(true) => return Err(StateRefused::Same),
+            Some(false) => {}
+        }
+        match self.make_room(1, NO_PLACES) {
+            Ok(()) => {}
+            Err(_) => return Err(StateRefused::NoMemory),
+        }
+        self.state.suspend(handle);
+        append(
+            &mut self.journal,
+            &mut self.watch,
+            Entry::Suspended { handle },
+        );
+        Ok(())
+    }
+
+    /// Ends the suspension of a handle (ACE's `resume_handler`): what waited for it may be started again. The journal has one more
+    /// entry, `Resumed`. `NotLive` comes exactly where the handle is not alive, and `Same` exactly where it is alive and not
+    /// suspended; after a refusal nothing has changed.
+    pub fn resume(&mut self, handle: Handle) -> Result<(), StateRefused>
+        requires stands { IsStanding (meaning H.means M.facts M.keeps (Shows Q.timers) (HasPlaces Q.spare) IsPlaced W.stands V.facts) self.old }
+        ensures ok { OnOk result (GoesOnBy (meaning H.means M.facts M.keeps (Shows Q.timers) (HasPlaces Q.spare) IsPlaced W.stands V.facts) self.old (λ s. Entry.Resumed handle) self.new) }
+        ensures err { OnErr result (StandsAsBefore (meaning H.means M.facts M.keeps (Shows Q.timers) (HasPlaces Q.spare) IsPlaced W.stands V.facts) self.old self.new) }
+        ensures cause { WhereStanding (meaning H.means M.facts M.keeps (Shows Q.timers) (HasPlaces Q.spare) IsPlaced W.stands V.facts) self.old (λ s. IsStateAnswer s handle.0 false result) }
+    {
+        match self.suspension(handle) {
+            None => return Err(StateRefused::NotLive),
+            Some(false) => return Err(StateRefused::Same),
+            Some(true) => {}
+        }
+        match self.make_room(1, NO_PLACES) {
+            Ok(()) => {}
+            Err(_) => return Err(StateRefused::NoMemory),
+        }
+        self.state.resume(handle);
+        append(
+            &mut self.journal,
+            &mut self.watch,
+            Entry::Resumed { handle },
+        );
+        Ok(())
+    }
+
+    /// Whether an alive handle is suspended, or None where the handle is not alive.
+    fn suspension(&self, handle: Handle) -> Option<bool>
+        ensures { WhereStanding (meaning H.means M.facts M.keeps (Shows Q.timers) (HasPlaces Q.spare) IsPlaced W.stands V.facts) self.now (λ s. result ≡ suspension s handle.0) }
+    {
+        let Some(live) = self.state.live_handle(handle) else {
+            return None;
+        };
+        if live.alive {
+            Some(live.suspended)
+        } else {
+            None
+        }
+    }
+
+    /// Changes which reports an alive handle wants (ACE's `mask_ops`); the net is told the new mask, and reports that wait and are
+    /// of a kind that it lacks are dropped. The journal has one more entry, `Masked`. `NotLive` comes exactly where the handle is
+    /// not alive; after a refusal nothing has changed.
+    pub fn set_mask(&mut self, handle: Handle, mask: Mask) -> Result<(), LiveRefused>
+        requires stands { IsStanding (meaning H.means M.facts M.keeps (Shows Q.timers) (HasPlaces Q.spare) IsPlaced W.stands V.facts) self.old }
+        ensures ok { OnOk result (GoesOnBy (meaning H.means M.facts M.keeps (Shows Q.timers) (HasPlaces Q.spare) IsPlaced W.stands V.facts) self.old (λ s. Entry.Masked handle mask) self.new) }
+        ensures err { OnErr result (StandsAsBefore (meaning H.means M.facts M.keeps (Shows Q.timers) (HasPlaces Q.spare) IsPlaced W.stands V.facts) self.old self.new) }
+        ensures cause { WhereStanding (meaning H.means M.facts M.keeps (Shows Q.timers) (HasPlaces Q.spare) IsPlaced W.stands V.facts) self.old (λ s. IsLiveAnswer s handle.0 result) }
+    {
+        if !self.state.is_alive(handle) {
+            return Err(LiveRefused::NotLive);
+        }
+        match self.make_room(1, NO_PLACES) {
+            Ok(()) => {}
+            Err(_) => return Err(LiveRefused::NoMemory),
+        }
+        self.net.set_mask(handle, mask);
+        self.state.set_mask(handle, mask);
+        append(
+            &mut self.journal,
+            &mut self.watch,
+            Entry::Masked { handle, mask },
+        );
+        Ok(())
+    }
+}

@@ -1,0 +1,129 @@
+//! Timers that are set for event handlers, and taken away.
+ghost use Rattle.std.specs.Prelude.{◌≡◌, ◌<◌, ◌≤◌, ◌+◌, ◌-◌, ◌^◌, ◌||◌, ℕ, List, IfOk, OnOk, OnErr, IfSome};
+ghost use Rattle.ev_base.specs.Terms.{Terms};
+ghost use Rattle.reactor_journal.specs.declared.entry.Entry.{Entry};
+ghost use Rattle.reactor_journal.specs.Past.{past_of};
+ghost use Rattle.reactor_summary.specs.Summary.{summary};
+ghost use Rattle.reactor_core.specs.Stands.{meaning, IsStanding, StandsAsBefore};
+ghost use Rattle.reactor_core.specs.Requests.{GoesOnBy, WhereStanding, IsLiveAnswer};
+ghost use Rattle.reactor_core.specs.Timers.{is_pending, IsCancelAnswer};
+ghost use Rattle.reactor_state.specs.State.{Shows, HasPlaces, IsPlaced};
+
+use crate::append::append;
+use crate::requests::NO_PLACES;
+use crate::{Core, LiveRefused};
+use ev_base::Net;
+use ev_types::Handle;
+use reactor_model::{Entry, EventHandler, Volumes, Watch};
+use reactor_state::Places;
+use timer_queue::TimerQueue;
+
+/// Why a timer was not cancelled.
+#[derive(Clone, Copy, PartialEq, Eq, Debug)]
+pub enum CancelRefused {
+    /// The timer is not armed, and no event of it waits to be started.
+    NotArmed,
+    /// There was no memory for the entry.
+    NoMemory,
+}
+
+/// The places of one timer.
+const TIMER_PLACES: Places = Places {
+    handles: 0,
+    timers: 1,
+    timeouts: 0,
+    events: 0,
+    opens: 0,
+};
+
+/// The latest first deadline that the timers have room for, in milliseconds. A net's moments are at most half of it.
+const LATEST_FIRST: u64 = 1 << 63;
+
+/// The moment after a delay in milliseconds, or None where it is past the latest first deadline.
+fn first_deadline(moment: u64, delay: u64) -> Option<u64>
+    ensures { IfSome result (λ first. (first ≡ moment + delay) × (first ≤ 2 ^ 63)) }
+{
+    let first = moment.checked_add(delay)?;
+    if first > LATEST_FIRST {
+        None
+    } else {
+        Some(first)
+    }
+}
+
+impl<H: EventHandler, M: Net<End = H::End>, Q: TimerQueue, W: Watch<H::Note>, V: Volumes<H::Note>> Core<
+    H,
+    M,
+    Q,
+    W,
+    V,
+> {
+    /// Sets a timer for the handler of an alive handle (ACE's `schedule_timer`), and gives its number: the number of timers that
+    /// were set before. It comes due after `delay` milliseconds from the moment of the last wait, and then every `every`
+    /// milliseconds, or once where that is 0. The journal has one more entry, `Scheduled`. `NotLive` comes exactly where the handle
+    /// is not alive; after a refusal nothing has changed.
+    pub fn schedule(&mut self, handle: Handle, delay: u64, every: u64) -> Result<u64, LiveRefused>
+        requires stands { IsStanding (meaning H.means M.facts M.keeps (Shows Q.timers) (HasPlaces Q.spare) IsPlaced W.stands V.facts) self.old }
+        requires some { 1 ≤ delay }
+        requires within { delay ≤ 4294967295 }
+        requires period { every ≤ 4294967295 }
+        ensures ok { IfOk result (λ timer. GoesOnBy (meaning H.means M.facts M.keeps (Shows Q.timers) (HasPlaces Q.spare) IsPlaced W.stands V.facts) self.old (λ s. Entry.Scheduled timer handle (s.moment + delay) every) self.new) }
+        ensures err { OnErr result (StandsAsBefore (meaning H.means M.facts M.keeps (Shows Q.timers) (HasPlaces Q.spare) IsPlaced W.stands V.facts) self.old self.new) }
+        ensures cause { WhereStanding (meaning H.means M.facts M.keeps (Shows Q.timers) (HasPlaces Q.spare) IsPlaced W.stands V.facts) self.old (λ s. IsLiveAnswer s handle.0 result) }
+    {
+        if !self.state.is_alive(handle) {
+            return Err(LiveRefused::NotLive);
+        }
+        let Some(first) = first_deadline(self.state.moment(), delay) else {
+            return Err(LiveRefused::NoMemory);
+        };
+        match self.make_room(1, TIMER_PLACES) {
+            Ok(()) => {}
+            Err(_) => return Err(LiveRefused::NoMemory),
+        }
+        let timer = self.state.schedule(handle, first, every);
+        append(
+            &mut self.journal,
+            &mut self.watch,
+            Entry::Scheduled {
+                timer,
+                handle,
+                first,
+                every,
+            },
+        );
+        Ok(timer)
+    }
+
+    /// Takes a timer away, and the event of it that waits to be started (ACE's `cancel_timer`). The journal has one more entry,
+    /// `Cancelled`. `NotArmed` comes exactly where the timer is not armed and no event of it waits; after a refusal nothing has
+    /// changed.
+    pub fn cancel(&mut self, timer: u64) -> Result<(), CancelRefused>
+        requires stands { IsStanding (meaning H.means M.facts M.keeps (Shows Q.timers) (HasPlaces Q.spare) IsPlaced W.stands V.facts) self.old }
+        ensures ok { OnOk result (GoesOnBy (meaning H.means M.facts M.keeps (Shows Q.timers) (HasPlaces Q.spare) IsPlaced W.stands V.facts) self.old (λ s. Entry.Cancelled timer) self.new) }
+        ensures err { OnErr result (StandsAsBefore (meaning H.means M.facts M.keeps (Shows Q.timers) (HasPlaces Q.spare) IsPlaced W.stands V.facts) self.old self.new) }
+        ensures cause { WhereStanding (meaning H.means M.facts M.keeps (Shows Q.timers) (HasPlaces Q.spare) IsPlaced W.stands V.facts) self.old (λ s. IsCancelAnswer s timer result) }
+    {
+        if !self.is_pending(timer) {
+            return Err(CancelRefused::NotArmed);
+        }
+        match self.make_room(1, NO_PLACES) {
+            Ok(()) => {}
+            Err(_) => return Err(CancelRefused::NoMemory),
+        }
+        self.state.cancel(timer);
+        append(
+            &mut self.journal,
+            &mut self.watch,
+            Entry::Cancelled { timer },
+        );
+        Ok(())
+    }
+
+    /// Whether a timer is armed, or an event of it waits to be started.
+    fn is_pending(&self, timer: u64) -> bool
+        ensures { WhereStanding (meaning H.means M.facts M.keeps (Shows Q.timers) (HasPlaces Q.spare) IsPlaced W.stands V.facts) self.now (λ s. result ≡ is_pending s timer) }
+    {
+        self.state.armed_handle(timer).is_some() || self.state.timeout_handle(timer).is_some()
+    }
+}
