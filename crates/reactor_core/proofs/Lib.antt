@@ -7,7 +7,7 @@ pub mod Kept
 pub mod Start
 pub mod Started
 pub mod Closed
-pub mod Settled
+pub mod SettledHistory
 pub mod Owed
 pub mod Returned
 pub mod SettleEvent
@@ -26,3 +26,5 @@ mod PollWait
 mod PollDue
 mod PollReady
 mod Polls
+pub mod Acted
+pub mod Refused

@@ -33,7 +33,7 @@ use Rattle.reactor_summary.specs.declared.parts.LiveHandle.{LiveHandle}
 use Rattle.reactor_core.proofs.Moves.{seats_taken}
 use Rattle.reactor_core.proofs.Ends.{net_quiet, told_same}
 use Rattle.reactor_core.proofs.Steps.{may_by, Appends, tracks_by}
-use Rattle.reactor_core.proofs.Settled.{IsSettledBut, settled_removed, waits_now, busy_waits_not, none_waits_by, quiet_closed}
+use Rattle.reactor_core.proofs.SettledHistory.{IsSettledBut, settled_removed, waits_now, busy_waits_not, none_waits_by, quiet_closed}
 use Rattle.reactor_core.proofs.Owed.{owed_removed, owed_closed}
 
 pub record RemovesEntry {H M Q W V N E : Type 0} (m : Meaning H M Q W V N E) (old new : Core H M Q W V N E) (handle : Handle) : Type 0 where

@@ -35,7 +35,7 @@ use Rattle.reactor_core.proofs.Ends.{net_quiet, told_same}
 use Rattle.reactor_core.proofs.Steps.{may_by, Appends, tracks_by}
 use Rattle.reactor_core.proofs.Owed.{find_any}
 use Rattle.reactor_core.proofs.Dispatch.{live_returned}
-use Rattle.reactor_core.proofs.Settled.{waits_now}
+use Rattle.reactor_core.proofs.SettledHistory.{waits_now}
 use Rattle.handler_repo.specs.Seats as R
 use Rattle.handler_repo.specs.declared.seat.Seat.TheVariants.{Home}
 

@@ -24,7 +24,7 @@ use Rattle.reactor_core.specs.Settling.{why_of, IsClosing, IsSettling, IsReturne
 use Rattle.reactor_core.specs.Settles.{TakesBack, SettlesEvent}
 use Rattle.reactor_core.specs.declared.reactor.Core.{Core}
 use Rattle.reactor_core.proofs.Returned.{is_returned, GivesBack, given_back}
-use Rattle.reactor_core.proofs.Settled.{IsSettledBut, settled_returned, settled_closed, settled_at_last, alive_waits_not, alive_returned}
+use Rattle.reactor_core.proofs.SettledHistory.{IsSettledBut, settled_returned, settled_closed, settled_at_last, alive_waits_not, alive_returned}
 use Rattle.reactor_core.proofs.Owed.{opens_returned, owed_returned, owed_closed}
 
 -- fewer places

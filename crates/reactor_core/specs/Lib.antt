@@ -15,3 +15,4 @@ pub mod Postings
 pub mod Timers
 pub mod Polling
 pub mod Taking
+pub mod Acting

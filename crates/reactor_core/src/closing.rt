@@ -31,6 +31,7 @@ impl<
             → IsClosable H.means t (past_of h) handle.0 handler why → HasNumber (summary (past_of h))
             → (note : H.Note) × Tracks (meaning H.means M.facts M.keeps (Shows Q.timers) (HasPlaces Q.spare) IsPlaced W.stands V.facts) t self.new F (h ++ Entry.Closed handle note ∷ []) None [] }
         ensures room { SpendsRoom (meaning H.means M.facts M.keeps (Shows Q.timers) (HasPlaces Q.spare) IsPlaced W.stands V.facts) 1 self.old self.new }
+        ensures faults { (M.facts self.new.net).failed_attaches ≡ (M.facts self.old.net).failed_attaches }
     {
         let (end, note) = handler.handle_close(why);
         self.net.retire(handle, end);

@@ -1,6 +1,7 @@
 //! The one-thread reactor (POSA2, Reactor: Initiation Dispatcher; C++NPv2 chapter 3, `ACE_Reactor`).
 #![tactic(auto)]
 
+mod acting;
 mod append;
 mod closing;
 mod job;
@@ -15,6 +16,7 @@ mod settling;
 mod timers;
 mod upcalls;
 
+pub use acting::Settled;
 pub use job::{Done, Job};
 pub use polling::{PollRefused, Polled};
 pub use postings::PostRefused;

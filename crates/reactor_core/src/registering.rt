@@ -54,7 +54,7 @@ const REGISTER_PLACES: Places = Places {
 };
 
 /// Whether one more handler can be taken.
-fn has_place(live: u64, most: u64, opened: u64) -> bool
+pub(crate) fn has_place(live: u64, most: u64, opened: u64) -> bool
     ensures { result ≡ (nat_lt live most && nat_lt opened 4294967295) }
 {
     live < most && opened < MOST_HANDLES

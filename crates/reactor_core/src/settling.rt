@@ -42,9 +42,10 @@ impl<
         handler: H,
     )
         requires stands { StandsWith (meaning H.means M.facts M.keeps (Shows Q.timers) (HasPlaces Q.spare) IsPlaced W.stands V.facts) (λ t h. IsSettling H.means t (past_of h) settled answer note handler) self.old }
-        ensures { (t : Terms) (F : ℕ) (h : List (Entry H.Note)) → Stands (meaning H.means M.facts M.keeps (Shows Q.timers) (HasPlaces Q.spare) IsPlaced W.stands V.facts) t self.old F h
+        ensures settles { (t : Terms) (F : ℕ) (h : List (Entry H.Note)) → Stands (meaning H.means M.facts M.keeps (Shows Q.timers) (HasPlaces Q.spare) IsPlaced W.stands V.facts) t self.old F h
             → IsSettling H.means t (past_of h) settled answer note handler
             → SettlesEvent (meaning H.means M.facts M.keeps (Shows Q.timers) (HasPlaces Q.spare) IsPlaced W.stands V.facts) t F h settled answer note self.new }
+        ensures faults { (M.facts self.new.net).failed_attaches ≡ (M.facts self.old.net).failed_attaches }
     {
         let alive = self.state.is_alive(settled.handle);
         self.record_return(settled.event, answer, note);
@@ -85,6 +86,7 @@ impl<
             → IsReturned H.means t (past_of h) handle.0 handler why → HasNumber (summary (past_of h))
             → TakesBack (meaning H.means M.facts M.keeps (Shows Q.timers) (HasPlaces Q.spare) IsPlaced W.stands V.facts) t F h handle self.old self.new }
         ensures room { SpendsRoom (meaning H.means M.facts M.keeps (Shows Q.timers) (HasPlaces Q.spare) IsPlaced W.stands V.facts) 1 self.old self.new }
+        ensures faults { (M.facts self.new.net).failed_attaches ≡ (M.facts self.old.net).failed_attaches }
     {
         if self.state.is_alive(handle) {
             self.repo.give_back(handle, handler);

@@ -30,8 +30,8 @@ take_back-requires-clause-tracks g c =
       ),
     )
 
-pub returns : goal.returns
-returns g c t F h st s =
+pub returns-clause-settles : goal.returns-clause-settles
+returns-clause-settles g c t F h st s =
     let number : HasNumber (summary (past_of h)) = let owes = owed_returned (summary (past_of h)) c.args.settled.event c.args.answer c.args.note c.args.settled s.event in let r = st.room.numbers in omega (arith, r, owes) in
     let k = c.record_return.ensures.tracks t F h c.args.settled s.event number st.tracks in
     let later : HasNumber (summary (Returned c.args.settled.event c.args.answer c.args.note ∷ past_of h)) =
