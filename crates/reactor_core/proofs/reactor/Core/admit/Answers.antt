@@ -1,4 +1,4 @@
-use Rattle.std.proofs.Common.{refl, sym, subst, ◌≡◌, ◌<◌, ◌^◌, ◌++◌, ◌∷◌, [], arith, Some, None, true, false}
+use Rattle.std.proofs.Common.{sym, subst, ◌≡◌, ◌∷◌, arith, Some, None, true, false}
 use Rattle.reactor_journal.specs.declared.entry.Entry.TheVariants.{Opened}
 use Rattle.reactor_journal.specs.Past.{past_of}
 use Rattle.reactor_journal.proofs.Turning.{past_of-more}
@@ -6,9 +6,8 @@ use Rattle.reactor_summary.specs.Summary.{summary, is_alive}
 use Rattle.reactor_model.specs.Turns.{IsTimer}
 use Rattle.reactor_state.specs.State.{HasNumber}
 use Rattle.reactor_state.proofs.Fewer.{has_fewer}
-use Rattle.reactor_core.specs.Stands.{places_for, Stands, meaning}
+use Rattle.reactor_core.specs.Stands.{places_for}
 use Rattle.reactor_core.specs.Settling.{act_places}
-use Rattle.reactor_core.specs.Registering.{registered}
 use Rattle.reactor_core.proofs.Opened.{opened_alive}
 use Rattle.reactor_core.proofs.Registered.{admitted, admitted_armed, stands_at}
 use Rattle.reactor_core.proofs.reactor.Core.admit.Goals as goal
