@@ -1,5 +1,5 @@
 -- A reactor that begins, and one that is over.
-use Rattle.std.proofs.Common.{ℕ, ◌≡◌, ◌==◌, ◌≤◌, ◌+◌, ◌^◌, true, false, List, [], ◌∷◌, ◌++◌, length, drop, map, refl, sym, ap, ◌∙◌, subst, arith, Option, Some, None}
+use Rattle.std.proofs.Common.{ℕ, ◌≡◌, ◌==◌, ◌≤◌, true, false, List, [], length, refl, sym, ap, subst, arith, Option, Some, None}
 use Rattle.std.specs.List.{list_any}
 use Rattle.std.proofs.lemmas.List.{append-nil}
 use Rattle.ev_base.specs.Terms.{Terms}
@@ -7,15 +7,15 @@ use Rattle.ev_base.specs.Net.{NetFacts, IsNew, HasNone}
 use Rattle.reactor_journal.specs.declared.entry.Entry.{Entry}
 use Rattle.reactor_journal.specs.Past.{past_of}
 use Rattle.reactor_summary.specs.declared.parts.LiveHandle.{LiveHandle}
-use Rattle.reactor_summary.specs.Summary.{Summary, summary, nothing}
+use Rattle.reactor_summary.specs.Summary.{summary, nothing}
 use Rattle.reactor_model.specs.Handling.{Handling}
 use Rattle.handler_repo.specs.Seats as R
 use Rattle.reactor_state.specs.State.{no_places}
-use Rattle.reactor_core.specs.Handlers.{is_live, RepositoryStands, SeatStands}
-use Rattle.reactor_core.specs.Ends.{WhereTold, AreRetired, AreTurnedAway, live_masks}
+use Rattle.reactor_core.specs.Handlers.{SeatStands}
+use Rattle.reactor_core.specs.Ends.{WhereTold, AreRetired, AreTurnedAway}
 use Rattle.reactor_core.specs.Calls.{AreCalls}
-use Rattle.reactor_core.specs.Stands.{Meaning, Tracks, NetStands, HasTaken, HasRoom, Stands, places_for}
-use Rattle.reactor_core.specs.Beginning.{CanBegin, IsOver}
+use Rattle.reactor_core.specs.Stands.{Meaning, NetStands, HasTaken, Stands}
+use Rattle.reactor_core.specs.Beginning.{IsOver}
 use Rattle.reactor_core.specs.declared.reactor.Core.{Core}
 use Rattle.reactor_core.proofs.Seats.{no_seats}
 use Rattle.reactor_core.proofs.Moves.{absent}

@@ -1,7 +1,7 @@
 -- A timer that is taken away.
-use Rattle.std.proofs.Common.{ℕ, ◌≡◌, ◌≤◌, ◌<◌, ◌+◌, ◌==◌, Bool, true, false, not, ◌&&◌, ◌||◌, List, [], ◌∷◌, length, refl, sym, ap, ◌∙◌, subst, arith, cond, Option, Some, None, is_some, option_map, Result, Ok, Err, ⊎_elim}
-use Rattle.std.proofs.lemmas.Bool.{false≢true, and_parts, and_from, or_left, or_right, or_cases, both_ways, cases_Bool, eq-eqb, cond-true, cond-false}
-use Rattle.std.specs.List.{list_any, find, filter}
+use Rattle.std.proofs.Common.{ℕ, ◌≡◌, ◌<◌, ◌==◌, Bool, true, false, not, ◌||◌, List, [], ◌∷◌, length, refl, sym, ap, ◌∙◌, cond, Option, Some, None, is_some, option_map, Result, Ok, Err, ⊎_elim}
+use Rattle.std.proofs.lemmas.Bool.{false≢true, and_parts, and_from, or_left, or_cases, both_ways, cases_Bool, eq-eqb}
+use Rattle.std.specs.List.{list_any, find}
 use Rattle.std.specs.Prelude.{nat_le}
 use Rattle.ev_types.specs.declared.upcall.Handle.{Handle}
 use Rattle.reactor_journal.specs.Event.{Event, Timer}
@@ -13,7 +13,6 @@ use Rattle.reactor_journal.specs.Follow.{is_legal}
 use Rattle.reactor_journal.proofs.Armed.{filtered_any, armed_set}
 use Rattle.reactor_journal.proofs.Timers.{armed_alive}
 use Rattle.reactor_journal.proofs.Closing.{waiting_alive}
-use Rattle.reactor_summary.specs.declared.parts.LiveHandle.{LiveHandle}
 use Rattle.reactor_summary.specs.declared.parts.WaitingEvent.{WaitingEvent}
 use Rattle.reactor_summary.specs.declared.parts.ArmedTimer.{ArmedTimer}
 use Rattle.reactor_summary.specs.Summary as S

@@ -1,22 +1,20 @@
 -- What the closing of a handler leaves.
-use Rattle.std.proofs.Common.{ℕ, zero, suc, get_or, ◌≡◌, ◌≤◌, ◌<◌, ◌+◌, ◌==◌, Bool, true, false, not, ◌&&◌, ◌||◌, List, [], ◌∷◌, ◌++◌, map, reverse, length, refl, sym, ap, ◌∙◌, subst, arith, Option, Some, None, ⊎_elim}
-use Rattle.std.proofs.lemmas.Bool.{false≢true, and_from, or_left, or_right, or_cases, both_ways, eqb-true, eq-eqb, cond-true}
-use Rattle.std.specs.List.{list_any, filter, Contains}
+use Rattle.std.proofs.Common.{ℕ, zero, suc, get_or, ◌≡◌, ◌<◌, ◌==◌, Bool, true, false, ◌||◌, List, [], ◌∷◌, ◌++◌, map, reverse, length, refl, sym, ap, ◌∙◌, subst, arith, Some, None, ⊎_elim}
+use Rattle.std.proofs.lemmas.Bool.{false≢true, or_left, or_right, or_cases, eqb-true, eq-eqb}
+use Rattle.std.specs.List.{list_any, Contains}
 use Rattle.std.proofs.lemmas.List.Folds.{list_any-append}
 use Rattle.std.proofs.lemmas.List.{reverse-reverse}
 use mathlib.Core.List.{reverse-cons}
 use Rattle.ev_types.specs.declared.upcall.Handle.{Handle}
 use Rattle.ev_types.specs.declared.upcall.Why.{Why}
-use Rattle.ev_types.specs.declared.upcall.Why.TheVariants.{Own}
 use Rattle.ev_base.specs.Terms.{Terms}
 use Rattle.ev_base.specs.Net.{RetiresEnd}
 use Rattle.reactor_journal.specs.declared.entry.Entry.{Entry}
 use Rattle.reactor_journal.specs.declared.entry.Entry.TheVariants.{Closed}
-use Rattle.reactor_journal.specs.Past.{past_of, had, origin_of, reason_of}
+use Rattle.reactor_journal.specs.Past.{past_of, had, origin_of}
 use Rattle.reactor_journal.specs.Follow.{follows_due, follows_ready}
 use Rattle.reactor_summary.specs.declared.parts.LiveHandle.{LiveHandle}
 use Rattle.reactor_summary.specs.Summary.{Summary, summary, step}
-use Rattle.reactor_model.specs.Handling.{Handling}
 use Rattle.handler_repo.specs.Seats as R
 use Rattle.reactor_state.specs.State.{HasNumber}
 use Rattle.reactor_core.specs.Handlers.{is_live, RepositoryStands}

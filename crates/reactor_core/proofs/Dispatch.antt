@@ -1,21 +1,20 @@
 -- What `Opened`, `Started` and `Returned` do to the seats.
-use Rattle.std.proofs.Common.{ℕ, ◌≡◌, ◌≢◌, ◌==◌, Bool, true, false, not, ◌&&◌, ◌||◌, List, [], ◌∷◌, ◌++◌, map, refl, sym, ap, ◌∙◌, subst, arith, cond, Option, Some, None, option_map, ⊎_elim}
-use Rattle.std.proofs.lemmas.Bool.{false≢true, true≢false, and_parts, or_parts, or_left, or_right, or_from, both_ways, cases_Bool, cases_eq, cond-true, cond-false, eqb-true, eq-eqb, ne_eqb, not-true, not-false}
+use Rattle.std.proofs.Common.{ℕ, ◌≡◌, ◌==◌, Bool, true, false, not, ◌&&◌, ◌||◌, List, [], ◌∷◌, ◌++◌, refl, sym, ap, ◌∙◌, subst, cond, Option, Some, None, ⊎_elim}
+use Rattle.std.proofs.lemmas.Bool.{false≢true, and_parts, or_parts, or_right, both_ways, cases_Bool, cond-true, cond-false, eqb-true, eq-eqb, not-true}
 use Rattle.std.proofs.lemmas.List.{append-nil}
 use Rattle.std.proofs.lemmas.List.Folds.{list_any-append}
-use Rattle.std.specs.List.{list_any, filter, find}
+use Rattle.std.specs.List.{list_any, filter}
 use Rattle.ev_types.specs.declared.upcall.Mask.{Mask}
 use Rattle.ev_types.specs.declared.upcall.Handle.{Handle}
 use Rattle.ev_types.specs.declared.upcall.Answer.{Answer}
 use Rattle.ev_types.specs.declared.upcall.Answer.TheVariants.{Keep, Again, Close}
 use Rattle.ev_base.specs.Terms.{Terms}
-use Rattle.reactor_journal.specs.Event.{Event, Item}
+use Rattle.reactor_journal.specs.Event.{Event}
 use Rattle.reactor_journal.specs.declared.entry.Entry.{Entry}
-use Rattle.reactor_journal.specs.declared.entry.Entry.TheVariants.{Opened, Started, Returned, Closed}
+use Rattle.reactor_journal.specs.declared.entry.Entry.TheVariants.{Opened, Started, Returned}
 use Rattle.reactor_journal.specs.Past as P
 use Rattle.reactor_journal.specs.Past.{had, items_made, item_of, origin_of, offered_here, event_at, started_at, belongs_to}
 use Rattle.reactor_journal.specs.Follow.{may_follow, is_legal}
-use Rattle.reactor_journal.proofs.Steps.{same_tests}
 use Rattle.reactor_journal.proofs.HadLaw.{no_turn}
 use Rattle.reactor_journal.proofs.OneOpen.{one_open, open_cases}
 use Rattle.reactor_summary.specs.declared.parts.LiveHandle.{LiveHandle}
@@ -26,22 +25,21 @@ use Rattle.reactor_summary.specs.Summary.{Summary, summary, step, is_busy, with_
 use Rattle.reactor_summary.specs.Tells as T
 use Rattle.reactor_summary.specs.Tells.{Tells, Each}
 use Rattle.reactor_summary.proofs.Told.{told}
-use Rattle.reactor_summary.proofs.Lists.{each_any, some_is}
+use Rattle.reactor_summary.proofs.Lists.{some_is}
 use Rattle.reactor_summary.proofs.Opened.{Bare, next_is_bare, open_opened}
-use Rattle.reactor_summary.proofs.Opens.{found_event}
-use Rattle.reactor_summary.proofs.Reading.{live_test, busy_is, open_some, open_is, described}
+use Rattle.reactor_summary.proofs.Reading.{busy_is}
 use Rattle.reactor_turns.proofs.Turns.{had_none}
 use Rattle.reactor_model.specs.Handling.{Handling}
 use Rattle.handler_repo.specs.Seats as R
 use Rattle.handler_repo.specs.declared.seat.Seat.{Seat}
 use Rattle.handler_repo.specs.declared.seat.Seat.TheVariants.{Home, Out}
-use Rattle.reactor_core.specs.Handlers.{is_live, IsOut, IsHome, SeatStands, is_in_hand, IsInHand, SeatBy, RepositoryStands}
-use Rattle.reactor_core.proofs.Seats.{seat_with_entry, seat_with_seat, seat_with_seat_other, seat_without, seat_without_other, same_numbers, end_number, seat_by_same}
+use Rattle.reactor_core.specs.Handlers.{is_live, IsHome, SeatStands, is_in_hand, SeatBy, RepositoryStands}
+use Rattle.reactor_core.proofs.Seats.{seat_with_entry, same_numbers, end_number, seat_by_same}
 use Rattle.reactor_journal.proofs.Basics.{event_at-before}
 use Rattle.reactor_journal.proofs.OneOpen.{started_is_event}
 use Rattle.reactor_journal.proofs.Steps.{busy_event, event_busy}
-use Rattle.reactor_journal.proofs.Closing.{Gone, closed_gone}
-use Rattle.reactor_core.proofs.Moves.{live_is, busy_opened, IsOpenAs, open_as, found_open, open_told, absent}
+use Rattle.reactor_journal.proofs.Closing.{closed_gone}
+use Rattle.reactor_core.proofs.Moves.{live_is, busy_opened, IsOpenAs, found_open, open_told, absent}
 
 not_from : (b : Bool) → (b ≡ true → ⊥) → b ≡ false
 not_from b f = ⊎_elim (λ (t : b ≡ true). absurd (f t)) (λ (n : b ≡ false). n) (cases_Bool b)

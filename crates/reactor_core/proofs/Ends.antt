@@ -1,30 +1,29 @@
 -- What one more entry does to what the net has to do with the journal.
-use Rattle.std.proofs.Common.{ℕ, zero, suc, ◌≡◌, ◌≢◌, ◌≤◌, ◌<◌, ◌+◌, ◌-◌, ◌^◌, ◌==◌, Bool, true, false, not, ◌&&◌, ◌||◌, List, [], ◌∷◌, ◌++◌, map, reverse, length, refl, sym, ap, ◌∙◌, subst, arith, cond, Option, Some, None, option_map, ⊎_elim, min}
-use Rattle.std.proofs.lemmas.Bool.{false≢true, true≢false, and_parts, or_parts, or_left, or_right, or_from, both_ways, cases_Bool, cases_eq, cond-true, cond-false, eqb-true, eq-eqb, ne_eqb, not-true, not-false}
+use Rattle.std.proofs.Common.{ℕ, ◌≡◌, ◌≤◌, ◌==◌, Bool, true, false, not, List, [], ◌∷◌, ◌++◌, map, reverse, refl, sym, ap, ◌∙◌, subst, arith, cond, Option, Some, None, option_map}
+use Rattle.std.proofs.lemmas.Bool.{cond-true, cond-false, eqb-true, eq-eqb}
 use Rattle.std.proofs.lemmas.List.{append-nil, reverse-append, map-append}
 use Rattle.std.proofs.lemmas.List.Elements.{filter-append}
 use mathlib.Core.List.{reverse-cons}
-use Rattle.std.specs.List.{list_any, filter}
+use Rattle.std.specs.List.{filter}
 use Rattle.ev_types.specs.declared.upcall.Mask.{Mask}
 use Rattle.ev_types.specs.declared.upcall.Kind.{Kind}
 use Rattle.ev_types.specs.declared.upcall.Handle.{Handle}
-use Rattle.ev_types.specs.declared.upcall.Answer.TheVariants.{Keep, Again, Close}
+use Rattle.ev_types.specs.declared.upcall.Answer.TheVariants.{Close}
 use Rattle.ev_types.specs.declared.upcall.Why.TheVariants.{Refused as ByRefusal}
 use Rattle.ev_base.specs.Terms.{Terms}
-use Rattle.ev_base.specs.Counts.{Rose}
-use Rattle.ev_base.specs.Net.{NetFacts, Call, Waits, Attaches, SetsMask, Retires, TurnsAway, with_one, without, changed_mask, without_mask, AnswersWait, FailsCall, FailsToWait, FailsToAttach, Reserves, AttachesEnd, SetsMaskOf, RetiresEnd, TurnsAwayEnd}
+use Rattle.ev_base.specs.Net.{NetFacts, Call, Waits, Attaches, SetsMask, Retires, TurnsAway, with_one, without, changed_mask, without_mask, AnswersWait, FailsCall, AttachesEnd, SetsMaskOf, RetiresEnd, TurnsAwayEnd}
 use Rattle.ev_base.specs.declared.net.Report.{Report}
 use Rattle.ev_base.specs.declared.net.Waited.{Waited}
 use Rattle.reactor_journal.specs.Event.{Event}
 use Rattle.reactor_journal.specs.declared.entry.Entry.{Entry}
-use Rattle.reactor_journal.specs.declared.entry.Entry.TheVariants.{Opened, Scheduled, Cancelled, Polled, Due, Ready, Posted, Stale, Started, Returned, Masked, Suspended, Resumed, Refused, Removed, Closed, Ended}
+use Rattle.reactor_journal.specs.declared.entry.Entry.TheVariants.{Opened, Polled, Ready, Returned, Masked, Suspended, Resumed, Refused, Removed, Closed}
 use Rattle.reactor_journal.specs.Past.{had, origin_of, offered_here, reason_of, count}
 use Rattle.reactor_summary.specs.declared.parts.LiveHandle.{LiveHandle}
 use Rattle.reactor_summary.specs.Summary as S
 use Rattle.reactor_summary.specs.Summary.{Summary, summary, step, with_mask, with_suspended, with_end, of_handle}
 use Rattle.reactor_model.specs.Handling.{Handling, Names}
-use Rattle.reactor_core.specs.Ends.{WhereTold, number_of, mask_entry, live_numbers, live_masks, closing, refusing, AreRetired, AreTurnedAway, is_fault}
-use Rattle.reactor_core.specs.Calls.{AreCalls, IsAnsweredAt, IsAskedFor, IsWait, IsAttach, is_taken, taken_before, makes_call}
+use Rattle.reactor_core.specs.Ends.{WhereTold, number_of, mask_entry, live_numbers, live_masks, AreRetired, AreTurnedAway, is_fault}
+use Rattle.reactor_core.specs.Calls.{AreCalls, IsAnsweredAt, IsAskedFor, is_taken}
 use Rattle.reactor_core.specs.Stands.{NetStands}
 use Rattle.reactor_journal.proofs.Steps.{same_tests}
 use Rattle.reactor_core.proofs.Seats.{mask_number, suspended_number, end_number}

@@ -1,5 +1,5 @@
 -- A core that has more room stands for what it stood for.
-use Rattle.std.proofs.Common.{ℕ, ◌≡◌, ◌≤◌, ◌<◌, ◌+◌, List, [], ◌∷◌, ◌++◌, length, refl, sym, ap, ◌∙◌, subst, arith, Option, Some, None}
+use Rattle.std.proofs.Common.{ℕ, ◌≤◌, List, [], length, sym, ap, ◌∙◌, subst, arith, Option, None}
 use Rattle.ev_base.specs.Terms.{Terms}
 use Rattle.ev_base.specs.Net.{NetFacts, Reserves, FailsCall}
 use Rattle.ev_base.specs.declared.net.Report.{Report}
@@ -8,8 +8,7 @@ use Rattle.reactor_journal.specs.Past.{past_of}
 use Rattle.reactor_summary.specs.Summary.{Summary, summary}
 use Rattle.reactor_state.specs.declared.places.Places.{Places}
 use Rattle.reactor_core.specs.Handlers.{RepositoryStands}
-use Rattle.reactor_core.specs.Ends.{WhereTold}
-use Rattle.reactor_core.specs.Stands.{Meaning, Tracks, JournalStands, NetStands, HasTaken, HasRoom, Keeps, Stands, places_for}
+use Rattle.reactor_core.specs.Stands.{Meaning, Tracks, HasTaken, HasRoom, Keeps, Stands, places_for}
 use Rattle.reactor_core.specs.declared.reactor.Core.{Core}
 use Rattle.reactor_core.proofs.Ends.{told_same, net_kept}
 

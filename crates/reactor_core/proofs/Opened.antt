@@ -1,32 +1,29 @@
 -- What the registration of a handler leaves.
-use Rattle.std.proofs.Common.{ℕ, suc, ◌≡◌, ◌≤◌, ◌<◌, ◌+◌, ◌-◌, ◌*◌, ◌^◌, ◌==◌, Bool, true, false, not, ◌&&◌, ◌||◌, List, [], ◌∷◌, ◌++◌, map, length, refl, sym, ap, ◌∙◌, subst, arith, cond, Option, Some, None, append_assoc}
-use Rattle.std.proofs.lemmas.Bool.{and_parts, and_from, or_parts, or_from, or_left, or_right, both_ways, eq-eqb, eqb-true, lt-ltb, leb-true, cases_Bool}
+use Rattle.std.proofs.Common.{ℕ, suc, ◌≡◌, ◌≤◌, ◌<◌, ◌+◌, ◌==◌, Bool, true, false, not, ◌&&◌, ◌||◌, List, [], ◌∷◌, ◌++◌, length, refl, sym, ap, ◌∙◌, subst, arith, cond, Option, None}
+use Rattle.std.proofs.lemmas.Bool.{and_from, or_from, or_left, or_right, both_ways, eq-eqb, lt-ltb}
 use Rattle.std.proofs.lemmas.List.Folds.{list_any-append}
 use Rattle.std.specs.List.{list_any, Contains}
 use Rattle.std.specs.Prelude.{nat_lt}
 use Rattle.ev_types.specs.declared.upcall.Handle.{Handle}
 use Rattle.ev_types.specs.declared.upcall.Mask.{Mask}
 use Rattle.ev_base.specs.Terms.{Terms}
-use Rattle.ev_base.specs.Net.{NetFacts, AttachesEnd, FailsToAttach}
+use Rattle.ev_base.specs.Net.{AttachesEnd, FailsToAttach}
 use Rattle.reactor_journal.specs.declared.entry.Entry.{Entry}
 use Rattle.reactor_journal.specs.declared.entry.Entry.TheVariants.{Opened, Scheduled}
 use Rattle.reactor_journal.specs.Past as P
 use Rattle.reactor_journal.specs.Past.{past_of, offered_here}
 use Rattle.reactor_journal.specs.Follow.{is_legal, may_follow, most_handles, follows_due, follows_ready}
-use Rattle.reactor_journal.proofs.Turning.{past_of-more}
 use Rattle.reactor_summary.specs.declared.parts.LiveHandle.{LiveHandle}
-use Rattle.reactor_summary.specs.Summary as S
-use Rattle.reactor_summary.specs.Summary.{Summary, summary, step, is_alive, is_busy, some_wait, is_overdue}
+use Rattle.reactor_summary.specs.Summary.{Summary, summary, step, is_alive, is_busy}
 use Rattle.reactor_summary.specs.Rules.{live}
 use Rattle.reactor_summary.proofs.Told.{told}
 use Rattle.reactor_model.specs.Handling.{Handling, Names}
 use Rattle.handler_repo.specs.Seats as R
 use Rattle.handler_repo.specs.declared.seat.Seat.TheVariants.{Home}
-use Rattle.reactor_state.specs.State.{HasNumber, owed, no_places}
-use Rattle.reactor_state.specs.declared.places.Places.{Places}
+use Rattle.reactor_state.specs.State.{HasNumber}
 use Rattle.reactor_core.specs.Handlers.{is_live, RepositoryStands}
-use Rattle.reactor_core.specs.Ends.{live_numbers, number_of, is_fault}
-use Rattle.reactor_core.specs.Stands.{Meaning, Tracks, NetStands, HasTaken, HasRoom, IsSettled, Stands, places_for}
+use Rattle.reactor_core.specs.Ends.{live_numbers, is_fault}
+use Rattle.reactor_core.specs.Stands.{Meaning, Tracks, NetStands, HasTaken, IsSettled}
 use Rattle.reactor_core.specs.Registering.{HasPlaceFor, IsOffered}
 use Rattle.reactor_core.specs.Offering.{ComesBack}
 use Rattle.reactor_core.specs.declared.reactor.Core.{Core}

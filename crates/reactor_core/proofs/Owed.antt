@@ -1,6 +1,6 @@
 -- What entries do to the number of places that are owed.
-use Rattle.std.proofs.Common.{ℕ, suc, ◌≡◌, ◌≤◌, ◌<◌, ◌+◌, ◌*◌, ◌==◌, Bool, true, false, not, ◌&&◌, ◌||◌, List, [], ◌∷◌, ◌++◌, map, length, refl, sym, ap, ◌∙◌, subst, arith, cond, Option, Some, None, ⊎_elim, length-append}
-use Rattle.std.proofs.lemmas.Bool.{false≢true, and_parts, or_cases, cases_Bool, eqb-true, eq-eqb, cond-true, cond-false, not-true}
+use Rattle.std.proofs.Common.{ℕ, suc, ◌≡◌, ◌≤◌, ◌+◌, ◌==◌, Bool, true, false, not, ◌&&◌, ◌||◌, List, [], ◌∷◌, ◌++◌, map, length, refl, sym, ap, ◌∙◌, arith, cond, Option, Some, None, ⊎_elim, length-append}
+use Rattle.std.proofs.lemmas.Bool.{false≢true, and_parts, or_cases, eqb-true, eq-eqb, cond-true, cond-false}
 use Rattle.std.specs.List.{list_any, filter, find}
 use Rattle.ev_types.specs.declared.upcall.Handle.{Handle}
 use Rattle.ev_types.specs.declared.upcall.Mask.{Mask}

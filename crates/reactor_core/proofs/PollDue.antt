@@ -16,6 +16,7 @@ use Rattle.reactor_summary.specs.Summary as S
 use Rattle.reactor_summary.specs.Summary.{Summary, summary, step, some_wait, is_first_due, is_overdue}
 use Rattle.reactor_state.specs.State.{HasNumber, IsFewer, no_places}
 use Rattle.reactor_state.specs.declared.places.Places.{Places}
+use Rattle.reactor_state.specs.declared.state.ReactorState.{ReactorState}
 use Rattle.reactor_core.specs.Handlers.{RepositoryStands}
 use Rattle.reactor_core.specs.Stands.{Meaning, Tracks, NetStands, HasRoom, places_for}
 use Rattle.reactor_core.specs.Polling.{AreDue, due_of}
@@ -55,7 +56,8 @@ pub record TakesDue {H M Q W V N E : Type 0} (m : Meaning H M Q W V N E) (old ne
   pub spare : new.journal.spare + 1 ≡ old.journal.spare
   pub repo : new.repo ≡ old.repo
   pub net : new.net ≡ old.net
-  pub due : (s : Summary) → m.shows old.state s → HasNumber s → (is_first_due s timer ≡ true) × m.shows new.state (step {N = N} s (Due timer))
+  pub first : (s : Summary) → m.shows old.state s → is_first_due s timer ≡ true
+  pub state : (s : Summary) → m.shows old.state s → HasNumber s → m.shows new.state (step {N = N} s (Due timer))
   pub places : (p : Places) → m.places p old.state → m.places (record p { timeouts = p.timeouts - 1 }) new.state
 
 module _ {H M Q W V N E : Type 0} (m : Meaning H M Q W V N E) (t : Terms) (old new : Core H M Q W V N E) (F : ℕ) (s0 : Summary) (left events : ℕ) where
@@ -69,11 +71,11 @@ module _ {H M Q W V N E : Type 0} (m : Meaning H M Q W V N E) (t : Terms) (old n
       let o : Tracks m t old F h None pending = k.taking.tracks in
       let r = k.taking.room.numbers in
       let number : HasNumber s = omega (arith, r) in
-      let due = d.due s o.state number in
-      let fits : R.may_follow {N = N} t.most true (follows_ready past) s e ≡ true = and_from (false || not s.ended) _ (ap not k.taking.going) due.0 in
+      let first = d.first s o.state in
+      let fits : R.may_follow {N = N} t.most true (follows_ready past) s e ≡ true = and_from (false || not s.ended) _ (ap not k.taking.going) first in
       let follows : may_follow t.most past e ≡ true = may_by t.most h e true (follows_ready past) o.legal k.follows refl fits in
       let tracks : Tracks m t new F (h ++ e ∷ []) None pending =
-      tracks_by m t old new F h e None None pending pending o d.appends follows due.1
+      tracks_by m t old new F h e None None pending pending o d.appends follows (d.state s o.state number)
       (subst (λ repo. RepositoryStands m.means t (e ∷ past) None repo.entries) (sym d.repo) (seats_quiet m.means t e past None old.repo.entries refl o.repository))
       (subst (λ net. NetStands m.means t (e ∷ past) pending (m.facts net)) (sym d.net) (net_quiet m.means t e past pending (m.facts old.net) refl o.net))
       (subst (λ net. m.keeps t net) (sym d.net) o.keeps) in
@@ -84,7 +86,7 @@ module _ {H M Q W V N E : Type 0} (m : Meaning H M Q W V N E) (t : Terms) (old n
       let room : HasRoom m (left + events) (event_places left events) new (summary (e ∷ past)) =
       room_less m old new s e (left + events) (left + 1) events left events refl refl d.spare d.repo spare places
       (subst (λ (n : ℕ). HasRoom m n (event_places (left + 1) events) old s) (omega arith) k.taking.room) in (
-        due.0,
+        first,
         record {
           taking = record {
             tracks = tracks;
@@ -94,7 +96,7 @@ module _ {H M Q W V N E : Type 0} (m : Meaning H M Q W V N E) (t : Terms) (old n
             room = subst (λ ps. HasRoom m (left + events) (event_places left events) new (summary ps)) (sym same) room;
           };
           follows = ap follows_due same;
-          few = subst (λ ps. length (summary ps).armed ≤ left) (sym same) (let fewer = fewer_armed s.moment timer s.armed due.0 in let few = k.few in omega (arith, fewer, few));
+          few = subst (λ ps. length (summary ps).armed ≤ left) (sym same) (let fewer = fewer_armed s.moment timer s.armed first in let few = k.few in omega (arith, fewer, few));
         },
       )
 
@@ -144,24 +146,23 @@ dues_end m t core F s0 events h pending k none = record {
 -- what the body does where no deadline is reached
 pub record StopsDue {H M Q W V N E : Type 0} (m : Meaning H M Q W V N E) (old new : Core H M Q W V N E) : Type 0 where
   pub same : new ≡ record old { state = new.state }
-  pub none : (s : Summary) → m.shows old.state s → HasNumber s → (is_overdue s ≡ false) × m.shows new.state s
-  pub places : (p : Places) → m.places p old.state → m.places (record p { timeouts = p.timeouts - 1 }) new.state
+  pub none : (s : Summary) → m.shows old.state s → is_overdue s ≡ false
+  pub state : (s : Summary) → m.shows old.state s → m.shows new.state s
+  pub places : (p : Places) → m.places p old.state → m.places p new.state
 
 module _ {H M Q W V N E : Type 0} (m : Meaning H M Q W V N E) (t : Terms) (old new : Core H M Q W V N E) (F : ℕ) (s0 : Summary) (left events : ℕ)
-    (fewer : (state : Q) (few many : Places) → IsFewer few many → m.places many state → m.places few state) where
+    (fewer : (state : ReactorState Q) (few many : Places) → IsFewer few many → m.places many state → m.places few state) where
   taking_stops : (h : List (Entry N)) (pending : List Report) → StopsDue m old new → IsTaking m s0 (left + 1) events t old F h pending → (is_overdue (summary (past_of h)) ≡ false) × IsTaking m s0 0 events t new F h pending
   taking_stops h pending d k =
       let s : Summary = summary (past_of h) in
       let o = k.tracks in
       let r = k.room in
       let numbers = r.numbers in
-      let number : HasNumber s = omega (arith, numbers) in
-      let none = d.none s o.state number in
       let places : m.places (places_for (length s.opens) (event_places 0 events)) new.state =
       fewer new.state _ _ (record { handles = omega arith; timers = omega arith; timeouts = omega arith; events = omega arith; opens = omega arith }) (d.places (places_for (length s.opens) (event_places (left + 1) events)) r.state) in (
-        none.0,
+        d.none s o.state,
         subst (λ core. IsTaking m s0 0 events t core F h pending) (sym d.same) (record {
-          tracks = record { most = o.most; few = o.few; legal = o.legal; journal = record { first = o.journal.first; within = o.journal.within; entries = o.journal.entries }; state = none.1; repository = o.repository; net = o.net; keeps = o.keeps; watch = o.watch; volumes = o.volumes };
+          tracks = record { most = o.most; few = o.few; legal = o.legal; journal = record { first = o.journal.first; within = o.journal.within; entries = o.journal.entries }; state = d.state s o.state; repository = o.repository; net = o.net; keeps = o.keeps; watch = o.watch; volumes = o.volumes };
           none_waits = k.none_waits;
           going = k.going;
           handles = k.handles;
@@ -199,7 +200,7 @@ pub record MayTake {H M Q W V N E : Type 0} (m : Meaning H M Q W V N E) (core : 
   pub spare : 1 ≤ core.journal.spare
 
 pub dues_may : {H M Q W V N E : Type 0} (m : Meaning H M Q W V N E) (t : Terms) (core : Core H M Q W V N E) (F : ℕ) (s0 : Summary) (left events : ℕ) (h : List (Entry N)) (pending : List Report)
-    → ((state : Q) (few many : Places) → IsFewer few many → m.places many state → m.places few state) → 0 < left → HasTakenDues m s0 left events t core F h pending → MayTake m core
+    → ((state : ReactorState Q) (few many : Places) → IsFewer few many → m.places many state → m.places few state) → 0 < left → HasTakenDues m s0 left events t core F h pending → MayTake m core
 dues_may m t core F s0 left events h pending fewer some k =
     let now = h ++ map due_of k.timers in
     let r = k.taking.taking.room in

@@ -17,6 +17,7 @@ use Rattle.reactor_summary.specs.Summary.{Summary, summary, step, some_wait, is_
 use Rattle.reactor_summary.proofs.Lists.{some_is}
 use Rattle.reactor_state.specs.State.{HasNumber, IsFewer, no_places}
 use Rattle.reactor_state.specs.declared.places.Places.{Places}
+use Rattle.reactor_state.specs.declared.state.ReactorState.{ReactorState}
 use Rattle.reactor_core.specs.Handlers.{RepositoryStands}
 use Rattle.reactor_core.specs.Calls.{is_taken}
 use Rattle.reactor_core.specs.Stands.{Meaning, Tracks, NetStands, HasRoom, Stands, places_for}
@@ -146,7 +147,7 @@ reports_begin m t core F s0 h reports left few k = record {
 
 -- all were taken
 pub reports_end : {H M Q W V N E : Type 0} (m : Meaning H M Q W V N E) (t : Terms) (core : Core H M Q W V N E) (F : ℕ) (s0 : Summary) (h : List (Entry N)) (reports : List Report) (at : ℕ)
-    → ((state : Q) (few many : Places) → IsFewer few many → m.places many state → m.places few state) → length reports ≤ at → HasTakenReports m s0 reports at t core F h
+    → ((state : ReactorState Q) (few many : Places) → IsFewer few many → m.places many state → m.places few state) → length reports ≤ at → HasTakenReports m s0 reports at t core F h
     → Stands m t core F (h ++ map ready_of (filter (is_taken s0) reports))
 reports_end {N = N} m t core F s0 h reports at fewer le k =
     let now : List (Entry N) = h ++ map ready_of k.taken in
@@ -174,7 +175,7 @@ pub record MayTakeReport {H M Q W V N E : Type 0} (m : Meaning H M Q W V N E) (c
   pub spare : 1 ≤ core.journal.spare
 
 pub report_may : {H M Q W V N E : Type 0} (m : Meaning H M Q W V N E) (t : Terms) (core : Core H M Q W V N E) (F : ℕ) (s0 : Summary) (h : List (Entry N)) (reports : List Report) (at : ℕ)
-    → ((state : Q) (few many : Places) → IsFewer few many → m.places many state → m.places few state) → at < length reports → HasTakenReports m s0 reports at t core F h → MayTakeReport m core
+    → ((state : ReactorState Q) (few many : Places) → IsFewer few many → m.places many state → m.places few state) → at < length reports → HasTakenReports m s0 reports at t core F h → MayTakeReport m core
 report_may m t core F s0 h reports at fewer lt k =
     let now = h ++ map ready_of k.taken in
     let some : 1 ≤ k.left = let few = k.few in let long = length-drop at reports in omega (arith, few, long, lt) in

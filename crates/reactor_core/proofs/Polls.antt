@@ -12,7 +12,7 @@ use Rattle.reactor_journal.specs.Past.{past_of}
 use Rattle.reactor_journal.proofs.Turning.{past_of-more}
 use Rattle.reactor_summary.specs.declared.parts.ArmedTimer.{ArmedTimer}
 use Rattle.reactor_summary.specs.Summary.{Summary, summary}
-use Rattle.reactor_state.specs.State as Q
+use Rattle.reactor_state.specs.Tables as Q
 use Rattle.reactor_core.specs.Calls.{first_deadline, time_left, least_limit, is_taken, IsAskedFor}
 use Rattle.reactor_core.specs.Stands.{Meaning, HasRoom, Stands, Keeps}
 use Rattle.reactor_core.specs.Polling.{FitsLimit, name_of, AreDue, due_of, ready_of, WaitsOnce, Polls}

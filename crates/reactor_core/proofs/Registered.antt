@@ -1,5 +1,5 @@
 -- What a registration leaves.
-use Rattle.std.proofs.Common.{ℕ, suc, ◌≡◌, ◌≤◌, ◌<◌, ◌+◌, ◌-◌, ◌*◌, ◌^◌, ◌==◌, Bool, true, false, not, ◌&&◌, ◌⊎◌, inl, inr, List, [], ◌∷◌, ◌++◌, length, refl, sym, ap, ◌∙◌, subst, arith, cond, Option, Some, None, append_assoc, ⊎_elim}
+use Rattle.std.proofs.Common.{ℕ, ◌≡◌, ◌≤◌, ◌<◌, ◌+◌, ◌-◌, ◌==◌, true, false, ◌&&◌, ◌⊎◌, inl, inr, List, [], ◌∷◌, ◌++◌, length, sym, ap, ◌∙◌, subst, arith, Option, Some, None, append_assoc, ⊎_elim}
 use Rattle.std.proofs.lemmas.Bool.{and_parts, and_cases, ltb-true, ltb-false}
 use Rattle.std.specs.Prelude.{nat_lt}
 use Rattle.ev_types.specs.declared.upcall.Handle.{Handle}
@@ -13,19 +13,18 @@ use Rattle.reactor_journal.specs.Past.{past_of}
 use Rattle.reactor_journal.specs.Follow.{is_legal, may_follow, most_handles}
 use Rattle.reactor_journal.proofs.Basics.{may_fits}
 use Rattle.reactor_journal.proofs.Turning.{past_of-more}
-use Rattle.reactor_summary.specs.Summary as S
-use Rattle.reactor_summary.specs.Summary.{Summary, summary, step, is_alive}
+use Rattle.reactor_summary.specs.Summary.{Summary, summary, step}
 use Rattle.reactor_summary.specs.Rules.{live}
 use Rattle.reactor_summary.proofs.Told.{told}
-use Rattle.reactor_state.specs.State.{HasNumber, owed, no_places, IsFewer}
+use Rattle.reactor_state.specs.State.{owed, no_places}
 use Rattle.reactor_state.specs.declared.places.Places.{Places}
 use Rattle.reactor_core.specs.Stands.{Meaning, Tracks, HasRoom, IsSettled, Stands, StandsWithRoom, places_for}
-use Rattle.reactor_core.specs.Registering.{HasPlaceFor, IsFull, IsOffered, registered, scheduled}
+use Rattle.reactor_core.specs.Registering.{HasPlaceFor, IsFull, IsOffered, registered}
 use Rattle.reactor_core.specs.Offering.{TakesHandle, ComesBack, GivesBack}
 use Rattle.reactor_core.specs.Settling.{act_places}
 use Rattle.reactor_core.specs.declared.reactor.Core.{Core}
 use Rattle.reactor_core.proofs.Owed.{owed_opened}
-use Rattle.reactor_core.proofs.Opened.{settled_opened, settled_scheduled, opened_alive}
+use Rattle.reactor_core.proofs.Opened.{settled_opened, settled_scheduled}
 use Rattle.reactor_core.proofs.SettleEvent.{Weakens}
 
 -- ---- no more are live than may be

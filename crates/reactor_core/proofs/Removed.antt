@@ -1,6 +1,6 @@
 -- What the removal of a handler leaves.
-use Rattle.std.proofs.Common.{ℕ, suc, ◌≡◌, ◌≤◌, ◌<◌, ◌+◌, ◌-◌, ◌*◌, ◌^◌, ◌==◌, Bool, true, false, not, ◌&&◌, ◌||◌, List, [], ◌∷◌, ◌++◌, length, refl, sym, ap, ◌∙◌, subst, arith, Option, Some, None, ⊎_elim}
-use Rattle.std.proofs.lemmas.Bool.{and_parts, both_ways, or_left, eq-eqb, eqb-true, cases_Bool, and_right, not-true}
+use Rattle.std.proofs.Common.{ℕ, ◌≡◌, ◌≤◌, ◌+◌, ◌==◌, Bool, true, false, not, ◌&&◌, ◌||◌, List, [], ◌∷◌, ◌++◌, length, refl, sym, ap, ◌∙◌, subst, arith, Option, Some, None, ⊎_elim}
+use Rattle.std.proofs.lemmas.Bool.{and_parts, both_ways, eq-eqb, eqb-true, cases_Bool, and_right, not-true}
 use Rattle.std.proofs.lemmas.List.{append-nil}
 use Rattle.ev_types.specs.declared.upcall.Handle.{Handle}
 use Rattle.ev_types.specs.declared.upcall.Why.TheVariants.{Own, Removed as ByRemoval}
@@ -15,13 +15,13 @@ use Rattle.reactor_journal.proofs.Turning.{past_of-more}
 use Rattle.reactor_summary.specs.Summary.{Summary, summary, step, is_alive, is_busy, waits_for_closed}
 use Rattle.reactor_summary.proofs.Told.{told}
 use Rattle.reactor_summary.proofs.Reading.{alive_is}
-use Rattle.reactor_model.specs.Handling.{Handling, EndsInClose}
+use Rattle.reactor_model.specs.Handling.{Handling}
 use Rattle.handler_repo.specs.Seats as R
 use Rattle.handler_repo.specs.declared.seat.Seat.{Seat}
 use Rattle.handler_repo.specs.declared.seat.Seat.TheVariants.{Home, Out}
 use Rattle.reactor_state.specs.State.{HasNumber, owed, no_places}
 use Rattle.reactor_state.specs.declared.places.Places.{Places}
-use Rattle.reactor_core.specs.Handlers.{is_live, IsHome, IsOut, SeatStands, RepositoryStands}
+use Rattle.reactor_core.specs.Handlers.{is_live, IsHome, SeatStands, RepositoryStands}
 use Rattle.reactor_core.specs.Closing.{IsClosable}
 use Rattle.reactor_core.specs.Stands.{Meaning, Tracks, NetStands, HasRoom, IsQuiet, StandsQuiet, SpendsRoom, HasTaken, places_for}
 use Rattle.reactor_core.specs.Settling.{IsClosing}

@@ -1,22 +1,19 @@
 -- What a settled upcall leaves.
-use Rattle.std.proofs.Common.{ℕ, ◌≡◌, ◌≤◌, ◌<◌, ◌+◌, ◌==◌, Bool, true, false, not, ◌&&◌, List, [], ◌∷◌, ◌++◌, length, refl, sym, ap, ◌∙◌, subst, arith, Option, Some, None, ⊎_elim}
-use Rattle.std.proofs.lemmas.Bool.{cases_Bool, false≢true, true≢false, and_parts, both_ways, eq-eqb, not-false, not-true}
-use Rattle.std.specs.List.{list_any}
+use Rattle.std.proofs.Common.{ℕ, ◌≡◌, ◌≤◌, ◌==◌, Bool, true, false, List, [], ◌∷◌, ◌++◌, refl, sym, ap, ◌∙◌, subst, Some, None, ⊎_elim}
+use Rattle.std.proofs.lemmas.Bool.{cases_Bool, and_parts, both_ways, eq-eqb}
 use Rattle.ev_types.specs.declared.upcall.Answer.{Answer}
 use Rattle.ev_types.specs.declared.upcall.Answer.TheVariants.{Keep, Again, Close}
 use Rattle.ev_types.specs.declared.upcall.Why.{Why}
 use Rattle.ev_types.specs.declared.upcall.Why.TheVariants.{Own, Removed as ByRemoval}
 use Rattle.ev_base.specs.Terms.{Terms}
-use Rattle.reactor_journal.specs.Event.{Event, Item}
+use Rattle.reactor_journal.specs.Event.{Item}
 use Rattle.reactor_journal.specs.declared.entry.Entry.{Entry}
 use Rattle.reactor_journal.specs.declared.entry.Entry.TheVariants.{Returned}
 use Rattle.reactor_journal.specs.Past as P
 use Rattle.reactor_journal.specs.Past.{past_of, had, origin_of, reason_of, event_at, belongs_to}
 use Rattle.reactor_journal.specs.Follow.{is_legal, may_follow, follows_due, follows_ready}
 use Rattle.reactor_journal.proofs.Alive.{alive_not_removed, dead_was_removed}
-use Rattle.reactor_summary.specs.declared.parts.LiveHandle.{LiveHandle}
 use Rattle.reactor_summary.specs.declared.parts.OpenEvent.{OpenEvent}
-use Rattle.reactor_summary.specs.Summary as S
 use Rattle.reactor_summary.specs.Summary.{Summary, summary, step, is_alive, is_busy, open_event}
 use Rattle.reactor_summary.proofs.Told.{told}
 use Rattle.reactor_summary.proofs.Opened.{open_opened}

@@ -1,24 +1,21 @@
 -- What one more entry does to the seats of the handlers.
-use Rattle.std.proofs.Common.{ℕ, ◌≡◌, ◌≢◌, ◌==◌, Bool, true, false, not, ◌&&◌, ◌||◌, List, [], ◌∷◌, ◌++◌, map, refl, sym, ap, ◌∙◌, subst, arith, cond, Option, Some, None, ⊎_elim, nat_lt}
-use Rattle.std.proofs.lemmas.Bool.{false≢true, true≢false, and_parts, or_parts, or_left, or_right, or_from, both_ways, cases_Bool, cases_eq, cond-true, cond-false, eqb-true, eq-eqb, ne_eqb, not-true, not-false}
+use Rattle.std.proofs.Common.{ℕ, ◌≡◌, ◌==◌, Bool, true, false, not, ◌||◌, List, [], ◌∷◌, map, refl, sym, ap, ◌∙◌, subst, cond, Option, Some, None, nat_lt}
+use Rattle.std.proofs.lemmas.Bool.{both_ways, cond-true, cond-false, eqb-true, eq-eqb}
 use Rattle.std.proofs.lemmas.List.{append-nil}
-use Rattle.std.proofs.lemmas.List.Folds.{list_any-append}
-use Rattle.std.specs.List.{list_any, filter}
+use Rattle.std.specs.List.{list_any}
 use Rattle.ev_types.specs.declared.upcall.Mask.{Mask}
-use Rattle.ev_types.specs.declared.upcall.Answer.TheVariants.{Keep, Again, Close}
 use Rattle.ev_base.specs.Terms.{Terms}
 use Rattle.reactor_journal.specs.Event.{Event}
 use Rattle.reactor_journal.specs.declared.entry.Entry.{Entry}
-use Rattle.reactor_journal.specs.declared.entry.Entry.TheVariants.{Opened, Scheduled, Cancelled, Polled, Due, Ready, Posted, Stale, Started, Returned, Masked, Suspended, Resumed, Refused, Removed, Closed, Ended}
-use Rattle.reactor_journal.specs.Past.{had, items_made, origin_of}
+use Rattle.reactor_journal.specs.declared.entry.Entry.TheVariants.{Opened, Started, Returned, Masked, Suspended, Resumed, Removed, Closed}
+use Rattle.reactor_journal.specs.Past.{had, origin_of}
 use Rattle.reactor_summary.specs.declared.parts.LiveHandle.{LiveHandle}
-use Rattle.reactor_summary.specs.Summary.{Summary, summary, step, handles_after, opens_after, is_busy, with_mask, with_suspended, with_end, of_handle}
-use Rattle.reactor_summary.proofs.Lists.{any-map}
+use Rattle.reactor_summary.specs.Summary.{Summary, summary, step, is_busy, with_mask, with_suspended, with_end, of_handle}
 use Rattle.reactor_model.specs.Handling.{Handling}
 use Rattle.handler_repo.specs.Seats as R
 use Rattle.handler_repo.specs.declared.seat.Seat.{Seat}
 use Rattle.handler_repo.specs.declared.seat.Seat.TheVariants.{Home, Out}
-use Rattle.reactor_core.specs.Handlers.{is_live, IsOut, IsHome, SeatStands, is_in_hand, IsInHand, SeatBy, RepositoryStands}
+use Rattle.reactor_core.specs.Handlers.{is_live, SeatStands, is_in_hand, SeatBy, RepositoryStands}
 
 -- ---- the seats of a map
 

@@ -1,6 +1,5 @@
 -- What the settling of an upcall leaves, but for its act.
-use Rattle.std.proofs.Common.{ℕ, suc, ◌≡◌, ◌≤◌, ◌<◌, ◌+◌, ◌-◌, ◌*◌, ◌^◌, ◌==◌, Bool, true, false, not, List, [], ◌∷◌, ◌++◌, length, refl, sym, ap, ◌∙◌, subst, arith, Option, Some, None}
-use Rattle.std.proofs.lemmas.Bool.{and_parts}
+use Rattle.std.proofs.Common.{ℕ, ◌≡◌, ◌≤◌, ◌+◌, ◌-◌, Bool, true, false, not, List, [], ◌∷◌, ◌++◌, length, refl, sym, ap, ◌∙◌, subst, arith, Some, None}
 use Rattle.std.proofs.lemmas.List.{append-nil}
 use Rattle.std.specs.List.{list_any}
 use Rattle.ev_types.specs.declared.upcall.Answer.{Answer}
@@ -10,12 +9,12 @@ use Rattle.ev_base.specs.Terms.{Terms}
 use Rattle.reactor_journal.specs.declared.entry.Entry.{Entry}
 use Rattle.reactor_journal.specs.declared.entry.Entry.TheVariants.{Returned, Closed}
 use Rattle.reactor_journal.specs.Past.{past_of}
-use Rattle.reactor_journal.specs.Follow.{is_legal, may_follow}
+use Rattle.reactor_journal.specs.Follow.{is_legal}
 use Rattle.reactor_journal.proofs.Turning.{past_of-more}
 use Rattle.reactor_summary.specs.declared.parts.LiveHandle.{LiveHandle}
 use Rattle.reactor_summary.specs.declared.parts.OpenEvent.{OpenEvent}
-use Rattle.reactor_summary.specs.Summary.{Summary, summary, step, is_alive}
-use Rattle.reactor_state.specs.State.{HasNumber, owed, no_places, IsFewer}
+use Rattle.reactor_summary.specs.Summary.{Summary, summary, is_alive}
+use Rattle.reactor_state.specs.State.{owed, no_places, IsFewer}
 use Rattle.reactor_state.specs.declared.places.Places.{Places}
 use Rattle.reactor_state.specs.declared.state.ReactorState.{ReactorState}
 use Rattle.reactor_core.specs.Handlers.{is_live}

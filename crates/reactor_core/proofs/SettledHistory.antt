@@ -1,6 +1,6 @@
 -- No handle waits for its close, and no deadline is reached: what `Returned`, `Removed` and `Closed` do to that.
-use Rattle.std.proofs.Common.{ℕ, ◌≡◌, ◌≤◌, ◌<◌, ◌+◌, ◌==◌, Bool, true, false, not, ◌&&◌, ◌||◌, List, [], ◌∷◌, ◌++◌, map, length, refl, sym, ap, ◌∙◌, subst, arith, cond, Option, Some, None, option_map, ⊎_elim}
-use Rattle.std.proofs.lemmas.Bool.{false≢true, true≢false, and_parts, and_from, and_left, or_parts, or_from, or_left, or_right, or_cases, both_ways, cases_Bool, eqb-true, eq-eqb, cond-true, cond-false, not-true, not-false}
+use Rattle.std.proofs.Common.{ℕ, ◌≡◌, ◌==◌, Bool, true, false, not, ◌&&◌, ◌||◌, List, [], ◌∷◌, map, refl, sym, ap, ◌∙◌, subst, cond, Option, Some, option_map, ⊎_elim}
+use Rattle.std.proofs.lemmas.Bool.{false≢true, and_parts, and_from, and_left, or_parts, or_from, or_left, or_right, or_cases, both_ways, cases_Bool, eqb-true, eq-eqb, not-true}
 use Rattle.std.specs.List.{list_any, filter}
 use Rattle.std.specs.Prelude.{nat_le}
 use Rattle.ev_types.specs.declared.upcall.Handle.{Handle}
@@ -19,7 +19,7 @@ use Rattle.reactor_summary.specs.declared.parts.OpenEvent.{OpenEvent}
 use Rattle.reactor_summary.specs.Summary as S
 use Rattle.reactor_summary.specs.Summary.{Summary, summary, step, is_busy, is_alive, some_wait, is_overdue, waits_for_closed, with_end, of_handle}
 use Rattle.reactor_summary.proofs.Told.{told}
-use Rattle.reactor_summary.proofs.Reading.{live_test, alive_is, overdue_is, described}
+use Rattle.reactor_summary.proofs.Reading.{live_test, alive_is, overdue_is}
 use Rattle.reactor_core.specs.Handlers.{is_live}
 use Rattle.reactor_core.specs.Stands.{IsSettled, IsQuiet}
 use Rattle.reactor_core.proofs.Ends.{eqb_turned}

@@ -1,16 +1,14 @@
 -- The start of an upcall.
-use Rattle.std.proofs.Common.{ℕ, suc, ◌≡◌, ◌≤◌, ◌<◌, ◌+◌, ◌*◌, ◌^◌, ◌==◌, Bool, true, false, not, ◌&&◌, ◌||◌, List, [], ◌∷◌, ◌++◌, length, refl, sym, ap, ◌∙◌, subst, arith, cond, Option, Some, None, option_map, ⊎_elim, length-append}
-use Rattle.std.proofs.lemmas.Bool.{false≢true, true≢false, and_parts, and_from, and_left, or_parts, or_from, or_left, eqb-false, both_ways, cases_Bool, cases_eq, cond-true, cond-false, eqb-true, eq-eqb, not-true, not-false, leb-true, ltb-true}
+use Rattle.std.proofs.Common.{ℕ, ◌≡◌, ◌≤◌, ◌<◌, ◌==◌, Bool, true, false, not, ◌&&◌, ◌||◌, List, [], ◌∷◌, ◌++◌, refl, sym, ap, ◌∙◌, subst, arith, cond, Option, Some, None, option_map, ⊎_elim}
+use Rattle.std.proofs.lemmas.Bool.{false≢true, and_parts, and_from, or_parts, or_from, or_left, eqb-false, both_ways, cases_Bool, eq-eqb, not-true, leb-true}
 use Rattle.std.proofs.lemmas.List.Folds.{list_any-append}
-use Rattle.std.specs.List.{list_any, find}
-use Rattle.std.specs.Prelude.{nat_le, nat_lt}
-use Rattle.ev_base.specs.Terms.{Terms}
+use Rattle.std.specs.List.{list_any}
 use Rattle.reactor_journal.specs.Event.{Event}
 use Rattle.reactor_journal.specs.declared.entry.Entry.{Entry}
 use Rattle.reactor_journal.specs.declared.entry.Entry.TheVariants.{Started}
 use Rattle.reactor_journal.specs.Past as P
 use Rattle.reactor_journal.specs.Past.{past_of, next_deadline}
-use Rattle.reactor_journal.specs.Follow.{may_follow, is_legal, Legal}
+use Rattle.reactor_journal.specs.Follow.{may_follow, is_legal}
 use Rattle.reactor_journal.proofs.Picking.{pick_parts, next_above}
 use Rattle.reactor_journal.proofs.Basics.{event_at-before}
 use Rattle.reactor_journal.proofs.OneOpen.{started_is_able}

@@ -1,5 +1,5 @@
 -- What `start` leaves.
-use Rattle.std.proofs.Common.{ℕ, suc, ◌≡◌, ◌≤◌, ◌<◌, ◌+◌, ◌-◌, ◌*◌, ◌^◌, ◌==◌, Bool, true, false, List, [], ◌∷◌, ◌++◌, length, refl, sym, ap, ◌∙◌, subst, arith, Option, Some, None, length-append}
+use Rattle.std.proofs.Common.{ℕ, ◌≡◌, ◌≤◌, ◌+◌, ◌-◌, true, false, List, [], ◌∷◌, ◌++◌, length, refl, sym, ap, ◌∙◌, subst, arith, Option, Some, None, length-append}
 use Rattle.std.proofs.lemmas.Bool.{and_parts, both_ways}
 use Rattle.std.proofs.lemmas.List.{append-nil}
 use Rattle.std.specs.List.{list_all, list_any}
@@ -29,7 +29,7 @@ use Rattle.reactor_model.specs.Handling.{Handling, GoesOn, NoClose}
 use Rattle.handler_repo.specs.Seats as R
 use Rattle.handler_repo.specs.declared.seat.Seat.{Seat}
 use Rattle.handler_repo.specs.declared.seat.Seat.TheVariants.{Home, Out}
-use Rattle.reactor_state.specs.State.{HasNumber, owed, no_places}
+use Rattle.reactor_state.specs.State.{HasNumber, no_places}
 use Rattle.reactor_state.specs.declared.places.Places.{Places}
 use Rattle.reactor_core.specs.Handlers.{is_live, IsHome, RepositoryStands, SeatStands}
 use Rattle.reactor_core.specs.Stands.{Meaning, Tracks, NetStands, HasRoom, IsSettled, Stands, places_for, upcall_entries, upcall_places}

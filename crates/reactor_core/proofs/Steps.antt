@@ -1,5 +1,5 @@
 -- Histories that go on.
-use Rattle.std.proofs.Common.{ℕ, ◌≡◌, ◌≤◌, ◌<◌, ◌+◌, Bool, true, false, List, [], ◌∷◌, ◌++◌, length, take, drop, refl, sym, ap, ◌∙◌, subst, arith, Option, Some, None, length-append}
+use Rattle.std.proofs.Common.{ℕ, ◌≡◌, ◌≤◌, Bool, true, List, [], ◌∷◌, ◌++◌, length, sym, ap, ◌∙◌, subst, arith, Option, length-append}
 use Rattle.std.proofs.lemmas.List.{drop-append-le, take-append-le}
 use Rattle.ev_base.specs.Terms.{Terms}
 use Rattle.ev_base.specs.declared.net.Report.{Report}
@@ -7,12 +7,11 @@ use Rattle.reactor_journal.specs.declared.entry.Entry.{Entry}
 use Rattle.reactor_journal.specs.Past.{past_of}
 use Rattle.reactor_journal.specs.Follow.{Legal, may_follow, follows_due, follows_ready}
 use Rattle.reactor_journal.proofs.Turning.{past_of-more, Legal-more}
-use Rattle.reactor_summary.specs.Summary.{Summary, summary, step}
+use Rattle.reactor_summary.specs.Summary.{summary}
 use Rattle.reactor_summary.specs.Rules as R
 use Rattle.reactor_summary.proofs.Told.{told}
 use Rattle.reactor_summary.proofs.Follows.{may_follow_is}
 use Rattle.reactor_core.specs.Handlers.{RepositoryStands}
-use Rattle.reactor_core.specs.Ends.{WhereTold}
 use Rattle.reactor_core.specs.Stands.{Meaning, Tracks, JournalStands, NetStands, HasTaken}
 use Rattle.reactor_core.specs.declared.reactor.Core.{Core}
 use Rattle.reactor_core.proofs.Ends.{told_same}

@@ -1,6 +1,6 @@
 -- What `remove` and `stop` leave.
 use Rattle.std.proofs.Common.{ℕ, zero, suc, ◌≡◌, ◌≤◌, ◌<◌, ◌+◌, ◌==◌, Bool, true, false, not, ◌&&◌, ◌||◌, List, [], ◌∷◌, ◌++◌, map, length, refl, sym, ap, ◌∙◌, subst, arith, cond, Option, Some, None, option_map, ⊎_elim, append_assoc, length-append}
-use Rattle.std.proofs.lemmas.Bool.{false≢true, and_parts, and_from, ne_eqb, le-leb, or_parts, or_left, or_right, both_ways, cases_Bool, eqb-true, eq-eqb, cond-true, cond-false}
+use Rattle.std.proofs.lemmas.Bool.{and_parts, and_from, ne_eqb, le-leb, or_parts, or_left, or_right, both_ways, cases_Bool, eq-eqb, cond-true, cond-false}
 use Rattle.std.proofs.lemmas.List.{append-nil}
 use Rattle.std.specs.List.{list_any, filter, find}
 use Rattle.std.specs.Prelude.{nat_le}
@@ -25,7 +25,7 @@ use Rattle.reactor_core.proofs.Removed.{removed_dead}
 use Rattle.reactor_journal.proofs.Turning.{past_of-more}
 use Rattle.reactor_summary.specs.declared.parts.LiveHandle.{LiveHandle}
 use Rattle.reactor_summary.specs.Summary.{Summary, summary, step, is_alive, is_busy, some_wait, with_end, of_handle}
-use Rattle.reactor_core.specs.Stands.{Meaning, Tracks, NetStands, HasRoom, Stands, StandsQuiet, IsSettled, IsQuiet, places_for}
+use Rattle.reactor_core.specs.Stands.{Meaning, NetStands, HasRoom, Stands, StandsQuiet, IsQuiet, places_for}
 use Rattle.reactor_core.specs.Settling.{IsClosing}
 use Rattle.reactor_core.specs.Removing.{Removes, RemovesQuietly, AreRemovals, alive_handles, RemovesFirst, RemovesSome, RemovesAll, Stops, StopsOnce}
 use Rattle.reactor_core.specs.declared.reactor.Core.{Core}

@@ -1,5 +1,5 @@
 -- How a reactor begins, and what it leaves when it is over.
-use Rattle.std.specs.Prelude.{ℕ, ◌≡◌, ◌≤◌, true, List, [], length, drop, map, Option, Some}
+use Rattle.std.specs.Prelude.{ℕ, ◌≡◌, true, List, [], length, drop, map, Some}
 use Rattle.ev_base.specs.Terms.{Terms}
 use Rattle.ev_base.specs.Net.{NetFacts, IsNew}
 use Rattle.timer_queue.specs.declared.timer.Timer.{Timer}

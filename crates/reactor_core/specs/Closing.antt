@@ -5,7 +5,7 @@ use Rattle.ev_types.specs.declared.upcall.Why.TheVariants.{Own}
 use Rattle.ev_base.specs.Terms.{Terms}
 use Rattle.reactor_journal.specs.declared.entry.Entry.{Entry}
 use Rattle.reactor_journal.specs.Past.{had, origin_of, reason_of}
-use Rattle.reactor_summary.specs.Summary.{Summary, summary, waits_for_closed}
+use Rattle.reactor_summary.specs.Summary.{summary, waits_for_closed}
 use Rattle.reactor_model.specs.Handling.{Handling, EndsInClose}
 use Rattle.reactor_core.specs.Handlers.{is_live}
 

@@ -1,12 +1,12 @@
 -- What a net's ends have to do with the journal (POSA2, Reactor: Synchronous Event Demultiplexer).
-use Rattle.std.specs.Prelude.{ℕ, ◌≡◌, ◌≤◌, Bool, true, false, List, [], ◌∷◌, map, reverse, Option, Some, None}
+use Rattle.std.specs.Prelude.{ℕ, ◌≡◌, Bool, false, List, [], ◌∷◌, map, reverse, Option, Some, None}
 use Rattle.ev_types.specs.declared.upcall.Mask.{Mask}
 use Rattle.ev_types.specs.declared.upcall.Why.TheVariants.{Refused as ByRefusal}
 use Rattle.ev_base.specs.Terms.{Terms}
 use Rattle.reactor_journal.specs.declared.entry.Entry.{Entry}
 use Rattle.reactor_journal.specs.declared.entry.Entry.TheVariants.{Closed, Refused}
 use Rattle.reactor_journal.specs.Past.{had, origin_of, reason_of, offered_here}
-use Rattle.reactor_summary.specs.Summary.{Summary, summary}
+use Rattle.reactor_summary.specs.Summary.{Summary}
 use Rattle.reactor_summary.specs.declared.parts.LiveHandle.{LiveHandle}
 use Rattle.reactor_model.specs.Handling.{Handling}
 

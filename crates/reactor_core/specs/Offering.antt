@@ -1,14 +1,13 @@
 -- What a handler that is offered comes to.
-use Rattle.std.specs.Prelude.{ℕ, ◌≡◌, ◌≤◌, ◌<◌, ◌+◌, ◌-◌, ◌^◌, Bool, List, [], ◌∷◌, ◌++◌, length, true, false, Option, Some, None, Result, Ok, Err}
+use Rattle.std.specs.Prelude.{ℕ, ◌≡◌, ◌≤◌, ◌+◌, ◌-◌, List, [], ◌++◌, true, false, Option, None, Result, Ok, Err}
 use Rattle.ev_types.specs.declared.upcall.Handle.{Handle}
 use Rattle.ev_types.specs.declared.upcall.Mask.{Mask}
 use Rattle.ev_base.specs.Counts.{Rose}
 use Rattle.ev_base.specs.Terms.{Terms}
 use Rattle.ev_base.specs.Net.{FailsToAttach}
 use Rattle.reactor_journal.specs.declared.entry.Entry.{Entry}
-use Rattle.reactor_journal.specs.declared.entry.Entry.TheVariants.{Opened}
 use Rattle.reactor_journal.specs.Past.{past_of}
-use Rattle.reactor_summary.specs.Summary.{Summary, summary}
+use Rattle.reactor_summary.specs.Summary.{summary}
 use Rattle.reactor_state.specs.declared.places.Places.{Places}
 use Rattle.reactor_core.specs.Stands.{Meaning, Tracks, Stands, StandsWithRoom}
 use Rattle.reactor_core.specs.Registering.{HasPlaceFor, IsFull, IsOffered, registered}

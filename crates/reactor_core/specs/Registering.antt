@@ -1,19 +1,15 @@
 -- What the registration of a handler appends (C++NPv2 chapter 3, `register_handler`).
-use Rattle.std.specs.Prelude.{ℕ, ◌≡◌, ◌≤◌, ◌<◌, ◌+◌, ◌⊎◌, Bool, true, false, List, [], ◌∷◌, ◌++◌, Option, Some, None}
+use Rattle.std.specs.Prelude.{ℕ, ◌≡◌, ◌<◌, ◌+◌, ◌⊎◌, false, List, [], ◌∷◌, Option, Some, None}
 use Rattle.ev_types.specs.declared.upcall.Handle.{Handle}
 use Rattle.ev_types.specs.declared.upcall.Mask.{Mask}
 use Rattle.ev_base.specs.Terms.{Terms}
 use Rattle.reactor_journal.specs.declared.entry.Entry.{Entry}
-use Rattle.reactor_journal.specs.declared.entry.Entry.TheVariants.{Opened, Scheduled, Refused}
-use Rattle.reactor_journal.specs.Past.{past_of, offered_here}
+use Rattle.reactor_journal.specs.declared.entry.Entry.TheVariants.{Opened, Scheduled}
+use Rattle.reactor_journal.specs.Past.{offered_here}
 use Rattle.reactor_journal.specs.Follow.{most_handles}
-use Rattle.reactor_summary.specs.Summary.{Summary, summary}
+use Rattle.reactor_summary.specs.Summary.{Summary}
 use Rattle.reactor_summary.specs.Rules.{live}
 use Rattle.reactor_model.specs.Handling.{Handling}
-use Rattle.reactor_state.specs.State.{no_places}
-use Rattle.reactor_state.specs.declared.places.Places.{Places}
-use Rattle.reactor_core.specs.Stands.{Meaning, Stands}
-use Rattle.reactor_core.specs.declared.reactor.Core.{Core}
 
 -- a new timer of the handle: its first delay and its period in milliseconds
 abbrev pub scheduled : {N : Type 0} → Summary → Handle → Option (ℕ × ℕ) → List (Entry N)

@@ -3,10 +3,10 @@ use Rattle.std.specs.Prelude.{ℕ, ◌≡◌, Bool, true, false, not, List, [], 
 use Rattle.ev_types.specs.declared.upcall.Handle.{Handle}
 use Rattle.ev_base.specs.Terms.{Terms}
 use Rattle.reactor_journal.specs.declared.entry.Entry.{Entry}
-use Rattle.reactor_journal.specs.declared.entry.Entry.TheVariants.{Removed, Closed, Ended}
+use Rattle.reactor_journal.specs.declared.entry.Entry.TheVariants.{Removed, Ended}
 use Rattle.reactor_journal.specs.Past.{past_of}
 use Rattle.reactor_summary.specs.declared.parts.LiveHandle.{LiveHandle}
-use Rattle.reactor_summary.specs.Summary.{Summary, summary, is_alive, is_busy}
+use Rattle.reactor_summary.specs.Summary.{Summary, summary, is_busy}
 use Rattle.reactor_core.specs.Stands.{Meaning, StandsQuiet, Stands}
 use Rattle.reactor_core.specs.Settling.{IsClosing}
 use Rattle.reactor_core.specs.declared.reactor.Core.{Core}

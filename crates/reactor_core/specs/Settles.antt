@@ -1,14 +1,13 @@
 -- What `settle` leaves.
-use Rattle.std.specs.Prelude.{ℕ, ◌≡◌, ◌≤◌, ◌+◌, Bool, not, List, [], ◌∷◌, ◌++◌, length, Some, None}
+use Rattle.std.specs.Prelude.{ℕ, ◌≤◌, ◌+◌, not, List, [], ◌∷◌, ◌++◌, length, None}
 use Rattle.ev_types.specs.declared.upcall.Handle.{Handle}
 use Rattle.ev_types.specs.declared.upcall.Answer.{Answer}
-use Rattle.ev_types.specs.declared.upcall.Why.{Why}
 use Rattle.ev_base.specs.Terms.{Terms}
 use Rattle.reactor_journal.specs.declared.entry.Entry.{Entry}
 use Rattle.reactor_journal.specs.declared.entry.Entry.TheVariants.{Returned}
 use Rattle.reactor_journal.specs.Past.{past_of}
 use Rattle.reactor_summary.specs.declared.parts.OpenEvent.{OpenEvent}
-use Rattle.reactor_summary.specs.Summary.{Summary, summary, is_alive}
+use Rattle.reactor_summary.specs.Summary.{summary, is_alive}
 use Rattle.reactor_core.specs.Stands.{Meaning, Tracks, StandsWithRoom}
 use Rattle.reactor_core.specs.Settling.{IsClosing, act_places}
 use Rattle.reactor_core.specs.declared.reactor.Core.{Core}

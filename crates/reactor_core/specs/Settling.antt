@@ -9,7 +9,7 @@ use Rattle.reactor_journal.specs.declared.entry.Entry.TheVariants.{Returned, Clo
 use Rattle.ev_base.specs.Terms.{Terms}
 use Rattle.reactor_journal.specs.Past.{had, origin_of, reason_of}
 use Rattle.reactor_summary.specs.declared.parts.OpenEvent.{OpenEvent}
-use Rattle.reactor_summary.specs.Summary.{Summary, summary, is_alive, is_busy, open_event}
+use Rattle.reactor_summary.specs.Summary.{summary, is_alive, is_busy, open_event}
 use Rattle.reactor_model.specs.Handling.{Handling, EndsInClose}
 use Rattle.reactor_core.specs.Handlers.{is_live}
 use Rattle.reactor_state.specs.declared.places.Places.{Places}

@@ -1,10 +1,10 @@
 -- What an upcall on its way has to do with the journal.
-use Rattle.std.specs.Prelude.{ℕ, ◌≡◌, Bool, false, List, [], ◌∷◌, ◌++◌, Option, Some, None, IsTrue}
+use Rattle.std.specs.Prelude.{ℕ, ◌≡◌, false, List, [], ◌∷◌, ◌++◌, Option, Some, None, IsTrue}
 use Rattle.ev_base.specs.Terms.{Terms}
 use Rattle.reactor_journal.specs.declared.entry.Entry.{Entry}
 use Rattle.reactor_journal.specs.declared.entry.Entry.TheVariants.{Started}
 use Rattle.reactor_journal.specs.Past.{past_of, had, origin_of, is_pick}
-use Rattle.reactor_summary.specs.Summary.{Summary, summary, open_event}
+use Rattle.reactor_summary.specs.Summary.{summary, open_event}
 use Rattle.reactor_model.specs.Handling.{Handling, NoClose}
 use Rattle.reactor_model.specs.Turns.{MayAct, KeepsPromises}
 use Rattle.reactor_core.specs.Stands.{Meaning, Stands}

@@ -91,13 +91,13 @@ fn count_of(answer: Waited) -> usize
     }
 }
 
-impl<H: EventHandler, M: Net<End = H::End>, Q: TimerQueue, W: Watch<H::Note>, V: Volumes<H::Note>> Core<
-    H,
-    M,
-    Q,
-    W,
-    V,
-> {
+impl<
+    H: EventHandler,
+    M: Net<End = H::End>,
+    Q: TimerQueue,
+    W: Watch<H::Note>,
+    V: Volumes<H::Note>,
+> Core<H, M, Q, W, V> {
     /// Waits once for reports, at most `most_ms` milliseconds and no longer than to the earliest deadline; None is no limit
     /// (C++NPv2 chapter 3, `ACE_Reactor::handle_events`; POSA2, Reactor). The journal has more entries: `Polled`, a `Due` for each
     /// timer whose deadline is reached, in order, and a `Ready` for each report whose handle is alive and whose kind is in its

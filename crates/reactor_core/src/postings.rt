@@ -35,13 +35,13 @@ const POST_PLACES: Places = Places {
     opens: 0,
 };
 
-impl<H: EventHandler, M: Net<End = H::End>, Q: TimerQueue, W: Watch<H::Note>, V: Volumes<H::Note>> Core<
-    H,
-    M,
-    Q,
-    W,
-    V,
-> {
+impl<
+    H: EventHandler,
+    M: Net<End = H::End>,
+    Q: TimerQueue,
+    W: Watch<H::Note>,
+    V: Volumes<H::Note>,
+> Core<H, M, Q, W, V> {
     /// Posts a notification to the handler of a handle (ACE's `notify`). `from` is the poster's number, and `seq` its own number
     /// for the notification, from 0. The journal has one more entry: `Posted` where the handle is alive, and else `Stale`.
     /// `Stopped` comes exactly where the reactor was stopped; after a refusal nothing has changed.

@@ -58,13 +58,25 @@ pub struct Parts<N, M, Q, W, V> {
     pub volumes: V,
 }
 
-impl<H: EventHandler, M: Net<End = H::End>, Q: TimerQueue, W: Watch<H::Note>, V: Volumes<H::Note>>
-    Core<H, M, Q, W, V>
-{
+impl<
+    H: EventHandler,
+    M: Net<End = H::End>,
+    Q: TimerQueue,
+    W: Watch<H::Note>,
+    V: Volumes<H::Note>,
+> Core<H, M, Q, W, V> {
     /// A reactor for at most so many live handlers, from 1 to 4,097, which hands its journal over in volumes of at least so many
     /// entries, from 1. Its timer queue is empty, its watch has seen nothing, and its net has made no call. With `NoMemory` all
     /// comes back.
-    pub fn new(alloc: Global, most: u64, volume: u64, net: M, timers: Q, watch: W, volumes: V) -> Result<Self, (M, Q, W, V, NoMemory)>
+    pub fn new(
+        alloc: Global,
+        most: u64,
+        volume: u64,
+        net: M,
+        timers: Q,
+        watch: W,
+        volumes: V,
+    ) -> Result<Self, (M, Q, W, V, NoMemory)>
         requires least { 1 ≤ most }
         requires greatest { most ≤ 4097 }
         requires volume { 1 ≤ volume }

@@ -60,15 +60,24 @@ pub(crate) fn has_place(live: u64, most: u64, opened: u64) -> bool
     live < most && opened < MOST_HANDLES
 }
 
-impl<H: EventHandler, M: Net<End = H::End>, Q: TimerQueue, W: Watch<H::Note>, V: Volumes<H::Note>>
-    Core<H, M, Q, W, V>
-{
+impl<
+    H: EventHandler,
+    M: Net<End = H::End>,
+    Q: TimerQueue,
+    W: Watch<H::Note>,
+    V: Volumes<H::Note>,
+> Core<H, M, Q, W, V> {
     /// Registers a handler (ACE's `register_handler`), with the reports that it wants and, where one is given, a timer: its first
     /// delay, from 1 to 4,294,967,295 milliseconds, and its period, 0 for once. The journal has `Opened`, and `Scheduled` for the
     /// timer. With each refusal the handler comes back, and all is as it was: `Stopped` comes exactly where the reactor was
     /// stopped; `Full` exactly where it was not, and as many handlers are live as may be or 4,294,967,295 were registered;
     /// `NetFailed` only where the net's count of failed attaches rose.
-    pub fn register(&mut self, handler: H, mask: Mask, timer: Option<(u64, u64)>) -> Result<Handle, (H, RegisterRefused)>
+    pub fn register(
+        &mut self,
+        handler: H,
+        mask: Mask,
+        timer: Option<(u64, u64)>,
+    ) -> Result<Handle, (H, RegisterRefused)>
         requires stands { StandsWith (meaning H.means M.facts M.keeps (Shows Q.timers) (HasPlaces Q.spare) IsPlaced W.stands V.facts) (λ t h. IsOffered H.means t (past_of h) handler) self.old }
         requires timer { IsTimer timer }
         ensures { (t : Terms) (F : ℕ) (h : List (Entry H.Note)) → Stands (meaning H.means M.facts M.keeps (Shows Q.timers) (HasPlaces Q.spare) IsPlaced W.stands V.facts) t self.old F h
@@ -94,7 +103,12 @@ impl<H: EventHandler, M: Net<End = H::End>, Q: TimerQueue, W: Watch<H::Note>, V:
     }
 
     /// Registers a handler for which there is room, and its timer.
-    pub(crate) fn admit(&mut self, handler: H, mask: Mask, timer: Option<(u64, u64)>) -> Result<Handle, H>
+    pub(crate) fn admit(
+        &mut self,
+        handler: H,
+        mask: Mask,
+        timer: Option<(u64, u64)>,
+    ) -> Result<Handle, H>
         requires stands { (t : Terms) × (F : ℕ) × (h : List (Entry H.Note)) × StandsWithRoom (meaning H.means M.facts M.keeps (Shows Q.timers) (HasPlaces Q.spare) IsPlaced W.stands V.facts) 4 act_places t self.old F h
             × HasPlaceFor t.most (summary (past_of h)) × IsOffered H.means t (past_of h) handler }
         requires timer { IsTimer timer }
@@ -141,7 +155,11 @@ impl<H: EventHandler, M: Net<End = H::End>, Q: TimerQueue, W: Watch<H::Note>, V:
         }
         self.repo.put(handle, handler);
         let _opened = self.state.open(mask);
-        append(&mut self.journal, &mut self.watch, Entry::Opened { handle, mask });
+        append(
+            &mut self.journal,
+            &mut self.watch,
+            Entry::Opened { handle, mask },
+        );
         Ok(handle)
     }
 
@@ -156,7 +174,7 @@ impl<H: EventHandler, M: Net<End = H::End>, Q: TimerQueue, W: Watch<H::Note>, V:
         ensures tracks { (t : Terms) (F : ℕ) (h : List (Entry H.Note)) → 1 ≤ delay → is_alive (summary (past_of h)) handle.0 ≡ true → (summary (past_of h)).ended ≡ false → HasNumber (summary (past_of h))
             → Tracks (meaning H.means M.facts M.keeps (Shows Q.timers) (HasPlaces Q.spare) IsPlaced W.stands V.facts) t self.old F h None []
             → Tracks (meaning H.means M.facts M.keeps (Shows Q.timers) (HasPlaces Q.spare) IsPlaced W.stands V.facts) t self.new F
-                (h ++ Entry.Scheduled (summary (past_of h)).scheduled handle ((summary (past_of h)).moment + delay) every ∷ []) None [] }
+            (h ++ Entry.Scheduled (summary (past_of h)).scheduled handle ((summary (past_of h)).moment + delay) every ∷ []) None [] }
         ensures number { (t : Terms) (F : ℕ) (h : List (Entry H.Note)) → Tracks (meaning H.means M.facts M.keeps (Shows Q.timers) (HasPlaces Q.spare) IsPlaced W.stands V.facts) t self.old F h None []
             → result ≡ (summary (past_of h)).scheduled }
         ensures journal { self.new.journal.spare + 1 ≡ self.old.journal.spare }
@@ -166,7 +184,16 @@ impl<H: EventHandler, M: Net<End = H::End>, Q: TimerQueue, W: Watch<H::Note>, V:
     {
         let first = self.state.moment() + delay;
         let timer = self.state.schedule(handle, first, every);
-        append(&mut self.journal, &mut self.watch, Entry::Scheduled { timer, handle, first, every });
+        append(
+            &mut self.journal,
+            &mut self.watch,
+            Entry::Scheduled {
+                timer,
+                handle,
+                first,
+                every,
+            },
+        );
         timer
     }
 }

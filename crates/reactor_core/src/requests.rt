@@ -45,13 +45,13 @@ pub(crate) const NO_PLACES: Places = Places {
     opens: 0,
 };
 
-impl<H: EventHandler, M: Net<End = H::End>, Q: TimerQueue, W: Watch<H::Note>, V: Volumes<H::Note>> Core<
-    H,
-    M,
-    Q,
-    W,
-    V,
-> {
+impl<
+    H: EventHandler,
+    M: Net<End = H::End>,
+    Q: TimerQueue,
+    W: Watch<H::Note>,
+    V: Volumes<H::Note>,
+> Core<H, M, Q, W, V> {
     /// Suspends a handle: from now on none of its events is started, while reports and timeouts of it still wait
     /// (ACE's `suspend_handler`). The journal has one more entry, `Suspended`. `NotLive` comes exactly where the handle is not
     /// alive, and `Same` exactly where it is alive and suspended already; after a refusal nothing has changed.

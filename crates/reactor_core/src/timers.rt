@@ -1,5 +1,5 @@
 //! Timers that are set for event handlers, and taken away.
-ghost use Rattle.std.specs.Prelude.{◌≡◌, ◌<◌, ◌≤◌, ◌+◌, ◌-◌, ◌^◌, ◌||◌, ℕ, List, IfOk, OnOk, OnErr, IfSome};
+ghost use Rattle.std.specs.Prelude.{◌≡◌, ◌<◌, ◌≤◌, ◌+◌, ◌-◌, ◌||◌, ℕ, List, IfOk, OnOk, OnErr};
 ghost use Rattle.ev_base.specs.Terms.{Terms};
 ghost use Rattle.reactor_journal.specs.declared.entry.Entry.{Entry};
 ghost use Rattle.reactor_journal.specs.Past.{past_of};
@@ -36,28 +36,13 @@ const TIMER_PLACES: Places = Places {
     opens: 0,
 };
 
-/// The latest first deadline that the timers have room for, in milliseconds. A net's moments are at most half of it.
-const LATEST_FIRST: u64 = 1 << 63;
-
-/// The moment after a delay in milliseconds, or None where it is past the latest first deadline.
-fn first_deadline(moment: u64, delay: u64) -> Option<u64>
-    ensures { IfSome result (λ first. (first ≡ moment + delay) × (first ≤ 2 ^ 63)) }
-{
-    let first = moment.checked_add(delay)?;
-    if first > LATEST_FIRST {
-        None
-    } else {
-        Some(first)
-    }
-}
-
-impl<H: EventHandler, M: Net<End = H::End>, Q: TimerQueue, W: Watch<H::Note>, V: Volumes<H::Note>> Core<
-    H,
-    M,
-    Q,
-    W,
-    V,
-> {
+impl<
+    H: EventHandler,
+    M: Net<End = H::End>,
+    Q: TimerQueue,
+    W: Watch<H::Note>,
+    V: Volumes<H::Note>,
+> Core<H, M, Q, W, V> {
     /// Sets a timer for the handler of an alive handle (ACE's `schedule_timer`), and gives its number: the number of timers that
     /// were set before. It comes due after `delay` milliseconds from the moment of the last wait, and then every `every`
     /// milliseconds, or once where that is 0. The journal has one more entry, `Scheduled`. `NotLive` comes exactly where the handle
@@ -74,13 +59,11 @@ impl<H: EventHandler, M: Net<End = H::End>, Q: TimerQueue, W: Watch<H::Note>, V:
         if !self.state.is_alive(handle) {
             return Err(LiveRefused::NotLive);
         }
-        let Some(first) = first_deadline(self.state.moment(), delay) else {
-            return Err(LiveRefused::NoMemory);
-        };
         match self.make_room(1, TIMER_PLACES) {
             Ok(()) => {}
             Err(_) => return Err(LiveRefused::NoMemory),
         }
+        let first = self.state.moment() + delay;
         let timer = self.state.schedule(handle, first, every);
         append(
             &mut self.journal,

@@ -1,4 +1,4 @@
-use Rattle.std.proofs.Common.{refl, sym, subst, ◌≡◌, ◌<◌, ◌^◌, ◌++◌, ◌∷◌, [], arith, Some, None, true, false}
+use Rattle.std.proofs.Common.{sym, subst, ◌≡◌, ◌∷◌, arith, Some, None, true, false}
 use Rattle.reactor_journal.specs.declared.entry.Entry.TheVariants.{Opened}
 use Rattle.reactor_journal.specs.Past.{past_of}
 use Rattle.reactor_journal.proofs.Turning.{past_of-more}
@@ -6,9 +6,8 @@ use Rattle.reactor_summary.specs.Summary.{summary, is_alive}
 use Rattle.reactor_model.specs.Turns.{IsTimer}
 use Rattle.reactor_state.specs.State.{HasNumber}
 use Rattle.reactor_state.proofs.Fewer.{has_fewer}
-use Rattle.reactor_core.specs.Stands.{places_for, Stands, meaning}
+use Rattle.reactor_core.specs.Stands.{places_for}
 use Rattle.reactor_core.specs.Settling.{act_places}
-use Rattle.reactor_core.specs.Registering.{registered}
 use Rattle.reactor_core.proofs.Opened.{opened_alive}
 use Rattle.reactor_core.proofs.Registered.{admitted, admitted_armed, stands_at}
 use Rattle.reactor_core.proofs.reactor.Core.admit.Goals as goal
@@ -35,17 +34,19 @@ returns-in-Some g c t F h st place offered =
     let timer : IsTimer (Some (c.in-Some.delay, c.in-Some.every)) = subst IsTimer c.in-Some.is c.requires.timer in
     let k = c.in-Ok.ensures.ok t F h place number offered st.tracks in
     let armed = c.arm.ensures.tracks t F _ timer.0
-        (subst (λ ps. is_alive (summary ps) c.in-Ok.handle.0 ≡ true) (sym same) (opened_alive g.row.H-Note.Denot (summary (past_of h)) c.in-Ok.handle c.args.mask))
-        (subst (λ ps. (summary ps).ended ≡ false) (sym same) place.running)
-        (subst (λ ps. HasNumber (summary ps)) (sym same) later) k in
-    (c.in-Ok.ensures.number t F h st.tracks,
+    (subst (λ ps. is_alive (summary ps) c.in-Ok.handle.0 ≡ true) (sym same) (opened_alive g.row.H-Note.Denot (summary (past_of h)) c.in-Ok.handle c.args.mask))
+    (subst (λ ps. (summary ps).ended ≡ false) (sym same) place.running)
+    (subst (λ ps. HasNumber (summary ps)) (sym same) later) k in (
+      c.in-Ok.ensures.number t F h st.tracks,
       stands_at _ t _ F h c.in-Ok.handle c.args.mask c.args.timer _ c.in-Some.is
-      (admitted_armed _ (has_fewer g.Q.TimerQueue.spare) t c.args.self.now c.open_handler.new.self _ F h c.in-Ok.handle c.args.mask c.in-Some.delay c.in-Some.every timer.0 c.in-Ok.ensures.room place st armed c.arm.ensures.journal c.arm.ensures.places c.arm.ensures.repo c.arm.ensures.net))
+          (admitted_armed _ (has_fewer g.Q.TimerQueue.spare) t c.args.self.now c.open_handler.new.self _ F h c.in-Ok.handle c.args.mask c.in-Some.delay c.in-Some.every timer.0 c.in-Ok.ensures.room place st armed c.arm.ensures.journal c.arm.ensures.places c.arm.ensures.repo c.arm.ensures.net),
+    )
 
 pub returns-in-None : goal.returns-in-None
 returns-in-None g c t F h st place offered =
     let r = st.room.numbers in
-    let number : HasNumber (summary (past_of h)) = omega (arith, r) in
-    (c.in-Ok.ensures.number t F h st.tracks,
+    let number : HasNumber (summary (past_of h)) = omega (arith, r) in (
+      c.in-Ok.ensures.number t F h st.tracks,
       stands_at _ t _ F h c.in-Ok.handle c.args.mask c.args.timer None c.in-None.is
-      (admitted _ (has_fewer g.Q.TimerQueue.spare) t c.args.self.now _ c.args.self.now F h c.in-Ok.handle c.args.mask c.in-Ok.ensures.room place st (c.in-Ok.ensures.ok t F h place number offered st.tracks)))
+          (admitted _ (has_fewer g.Q.TimerQueue.spare) t c.args.self.now _ c.args.self.now F h c.in-Ok.handle c.args.mask c.in-Ok.ensures.room place st (c.in-Ok.ensures.ok t F h place number offered st.tracks)),
+    )

@@ -1,7 +1,6 @@
 use Rattle.reactor_state.proofs.Fewer.{has_fewer}
-use Rattle.std.proofs.Common.{sym, refl, arith, ◌∙◌, ◌≡◌}
+use Rattle.std.proofs.Common.{sym, refl, arith, ◌∙◌}
 use Rattle.reactor_journal.specs.Past.{past_of}
-use Rattle.reactor_summary.specs.Summary.{summary}
 use Rattle.reactor_core.specs.Stands.{places_for, upcall_places}
 use Rattle.reactor_core.proofs.Start.{pick_facts}
 use Rattle.reactor_core.proofs.Started.{started, home_at, home_found, not_away}

@@ -1,4 +1,3 @@
-use Rattle.std.proofs.Common.{refl}
 use Rattle.reactor_journal.specs.Past.{past_of}
 use Rattle.reactor_summary.specs.Summary.{summary}
 use Rattle.reactor_core.proofs.Begun.{over_no_seat}

@@ -1,4 +1,4 @@
-use Rattle.std.proofs.Common.{sym, ◌∙◌}
+use Rattle.std.proofs.Common.{◌∙◌}
 use Rattle.reactor_journal.specs.Past.{past_of}
 use Rattle.reactor_summary.specs.Summary.{summary}
 use Rattle.reactor_core.proofs.Cancelling.{armed_found, timeout_found, pending_armed, pending_waits}

@@ -1,4 +1,4 @@
-use Rattle.std.proofs.Common.{refl, sym, subst, ◌∙◌, ◌≡◌, ap, arith}
+use Rattle.std.proofs.Common.{refl, sym, subst, ◌∙◌}
 use Rattle.std.specs.List.{Contains}
 use Rattle.ev_types.specs.declared.upcall.Handle.{Handle}
 use Rattle.reactor_journal.specs.declared.entry.Entry.TheVariants.{Opened}

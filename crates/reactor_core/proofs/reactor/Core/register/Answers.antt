@@ -10,24 +10,32 @@ pub returns-then-not-has_place : goal.returns-then-not-has_place
 returns-then-not-has_place g c t F h st offered =
     let s = summary (past_of h) in
     let live_is = c.live-live.ensures s st.tracks.state in
-    let opened_is = c.opened-opened.ensures s st.tracks.state in
-    (sym (c.is_ended.ensures s st.tracks.state) ∙ c.if-is_ended.false,
+    let opened_is = c.opened-opened.ensures s st.tracks.state in (
+      sym (c.is_ended.ensures s st.tracks.state) ∙ c.if-is_ended.false,
       full_now t.most (past_of h) c.args.self.now.most c.live-live.result c.opened-opened.result st.tracks.legal st.tracks.state.sound.opened st.tracks.most live_is opened_is (sym c.has_place.ensures ∙ c.if-not-has_place.true),
-      live_is, opened_is, record { stands = st; offered = offered })
+      live_is,
+      opened_is,
+      record { stands = st; offered = offered },
+    )
 
 pub returns-in-Err : goal.returns-in-Err
 returns-in-Err g c t F h st offered =
-    let s = summary (past_of h) in
-    (place_by t.most (past_of h) c.args.self.now.most c.live-live.result c.opened-opened.result st.tracks.most (c.live-live.ensures s st.tracks.state) (c.opened-opened.ensures s st.tracks.state) (sym (c.is_ended.ensures s st.tracks.state) ∙ c.if-is_ended.false) (sym c.has_place.ensures ∙ c.if-not-has_place.false),
-      record { stands = stands_kept _ t _ _ F h c.in-Err.ensures.kept st; offered = offered })
+    let s = summary (past_of h) in (
+      place_by t.most (past_of h) c.args.self.now.most c.live-live.result c.opened-opened.result st.tracks.most (c.live-live.ensures s st.tracks.state) (c.opened-opened.ensures s st.tracks.state) (sym (c.is_ended.ensures s st.tracks.state) ∙ c.if-is_ended.false) (sym c.has_place.ensures ∙ c.if-not-has_place.false),
+      record { stands = stands_kept _ t _ _ F h c.in-Err.ensures.kept st; offered = offered },
+    )
 
 pub admit-requires-clause-stands : goal.admit-requires-clause-stands
 admit-requires-clause-stands g c =
     let o = c.requires.stands in
-    let s = summary (past_of o.2) in
-    (o.0, o.1, o.2, room_of _ 4 _ o.0 _ o.1 o.2 (stands_kept _ o.0 _ _ o.1 o.2 c.in-Ok.ensures.kept o.3) (c.in-Ok.ensures.room o.0 o.1 o.2 o.3),
+    let s = summary (past_of o.2) in (
+      o.0,
+      o.1,
+      o.2,
+      room_of _ 4 _ o.0 _ o.1 o.2 (stands_kept _ o.0 _ _ o.1 o.2 c.in-Ok.ensures.kept o.3) (c.in-Ok.ensures.room o.0 o.1 o.2 o.3),
       place_by o.0.most (past_of o.2) c.args.self.now.most c.live-live.result c.opened-opened.result o.3.tracks.most (c.live-live.ensures s o.3.tracks.state) (c.opened-opened.ensures s o.3.tracks.state) (sym (c.is_ended.ensures s o.3.tracks.state) ∙ c.if-is_ended.false) (sym c.has_place.ensures ∙ c.if-not-has_place.false),
-      o.4)
+      o.4,
+    )
 
 pub returns-in-Ok-admit : goal.returns-in-Ok-admit
 returns-in-Ok-admit g c t F h st offered =

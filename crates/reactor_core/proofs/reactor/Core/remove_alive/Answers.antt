@@ -1,14 +1,8 @@
-use Rattle.std.proofs.Common.{refl, sym, ap, ◌∙◌, ◌≡◌, ◌≤◌, ◌<◌, ◌^◌, true, false, subst, arith, ◌∷◌, ◌++◌, []}
+use Rattle.std.proofs.Common.{refl, sym, ◌∙◌, arith}
 use Rattle.reactor_journal.specs.Past.{past_of}
-use Rattle.reactor_journal.specs.Follow.{is_legal}
-use Rattle.reactor_journal.specs.declared.entry.Entry.TheVariants.{Removed}
-use Rattle.reactor_journal.proofs.Turning.{past_of-more}
-use Rattle.reactor_summary.specs.Summary.{summary, is_busy}
-use Rattle.reactor_state.specs.State.{HasNumber}
-use Rattle.reactor_core.specs.Handlers.{RepositoryStands}
+use Rattle.reactor_summary.specs.Summary.{summary}
 use Rattle.reactor_core.proofs.Started.{home_found}
-use Rattle.reactor_core.proofs.Owed.{owed_removed}
-use Rattle.reactor_core.proofs.Removed.{removed_on, removed_out, removed_home, removed_closable, taken_home, home_of_seat, not_home_busy, live_removed, alive_is_live, both_owed, number_of, closes_now, removed_closed}
+use Rattle.reactor_core.proofs.Removed.{removed_on, removed_out, not_home_busy, alive_is_live, both_owed, number_of, closes_now, removed_closed}
 use Rattle.reactor_core.proofs.reactor.Core.remove_alive.Goals as goal
 
 pub returns-in_default : goal.returns-in_default

@@ -1,7 +1,6 @@
-use Rattle.std.proofs.Common.{sym, subst, ◌∙◌, arith, ◌≡◌, ◌≤◌, refl, true, false}
-use Rattle.reactor_journal.specs.Past.{past_of, count}
+use Rattle.std.proofs.Common.{arith}
+use Rattle.reactor_journal.specs.Past.{past_of}
 use Rattle.reactor_summary.specs.Summary.{summary}
-use Rattle.reactor_core.specs.Removing.{RemovesSome, RemovesAll}
 use Rattle.reactor_core.proofs.Stopped.{removes_none, removes_more, removes_all, none_left_of, removes_stopped}
 use Rattle.reactor_core.proofs.reactor.Core.remove_all.Goals as goal
 

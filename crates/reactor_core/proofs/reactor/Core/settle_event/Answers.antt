@@ -1,5 +1,5 @@
 use Rattle.reactor_state.proofs.Fewer.{has_fewer}
-use Rattle.std.proofs.Common.{refl, sym, subst, ◌∙◌, ◌≡◌, ◌∷◌, [], ◌<◌, ◌^◌, arith, true, ap}
+use Rattle.std.proofs.Common.{sym, subst, ◌∙◌, ◌∷◌, arith, ap}
 use Rattle.reactor_journal.specs.Past.{past_of}
 use Rattle.reactor_journal.specs.declared.entry.Entry.TheVariants.{Returned}
 use Rattle.reactor_journal.proofs.Turning.{past_of-more}

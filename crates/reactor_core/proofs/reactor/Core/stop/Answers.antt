@@ -1,4 +1,4 @@
-use Rattle.std.proofs.Common.{sym, refl, ◌∙◌, arith, ◌≡◌, false, true}
+use Rattle.std.proofs.Common.{sym, refl, ◌∙◌, false, true}
 use Rattle.reactor_journal.specs.Past.{past_of}
 use Rattle.reactor_summary.specs.Summary.{summary}
 use Rattle.reactor_core.proofs.Stopped.{ended_on, stops, stops_once}

@@ -36,3 +36,6 @@ returns-clause-ok g c t F h o =
     (λ legal. o.settled.none_due)
     (has_number _ _ _ _ room)
     room now
+
+pub returns-in-Err-clause-err : goal.returns-in-Err-clause-err
+returns-in-Err-clause-err g c t F h o = stands_kept _ t _ _ F h c.in-Err.ensures.kept o

@@ -23,7 +23,7 @@ append-requires g c =
 
 pub returns-in_default-clause-dues : goal.returns-in_default-clause-dues
 returns-in_default-clause-dues g c t F h s events pending k =
-    dues_stop _ t c.loop-left.self _ F s _ events (has_fewer g.Q.TimerQueue.spare) h pending (record { same = refl; none = c.in_default.ensures.none; places = c.in_default.ensures.places })
+    dues_stop _ t c.loop-left.self _ F s _ events (has_fewer g.Q.TimerQueue.spare) h pending (record { same = refl; none = c.in_default.ensures.none; state = c.in_default.ensures.unchanged; places = c.in_default.ensures.unused })
     (may_take _ t c.loop-left.self F s c.loop-left.left events h pending (omega (arith, c.loop-left-test.true)) (c.loop-left.invariant.dues t F h s events pending k))
 
 pub loop-left-preserved : goal.loop-left-preserved
@@ -34,7 +34,8 @@ loop-left-preserved g c = record {
         spare = c.append.ensures.spare;
         repo = refl;
         net = refl;
-        due = c.in-Some.ensures.due;
+        first = c.in-Some.ensures.first;
+        state = c.in-Some.ensures.steps;
         places = c.in-Some.ensures.places;
       }) (may_take _ t c.loop-left.self F s c.loop-left.left events h pending (omega (arith, c.loop-left-test.true)) (c.loop-left.invariant.dues t F h s events pending k));
   net = c.loop-left.invariant.net;

@@ -25,14 +25,11 @@ returns-clause-failed g c q = absurd (some_none (sym (sym c.moment_of.ensures �
 
 pub poll-requires : goal.poll-requires
 poll-requires g c =
-    let o = c.requires in
-    record {
-      can = (
-        summary (past_of o.2),
-        o.4.stands.tracks.state,
-        may_poll _ o.0 c.args.self.now o.1 o.2 o.3 c.args.limit c.wait-answer.result c.in-Some.now _ (answered _ _ c.args.limit c.wait-answer.result c.in-Some.now (sym c.moment_of.ensures ∙ c.in-Some.is) c.wait-answer.ensures.waits) o.4,
-      );
-    }
+    let o = c.requires in (
+      summary (past_of o.2),
+      o.4.stands.tracks.state,
+      may_poll _ o.0 c.args.self.now o.1 o.2 o.3 c.args.limit c.wait-answer.result c.in-Some.now _ (answered _ _ c.args.limit c.wait-answer.result c.in-Some.now (sym c.moment_of.ensures ∙ c.in-Some.is) c.wait-answer.ensures.waits) o.4,
+    )
 
 pub append-requires : goal.append-requires
 append-requires g c = let room = c.requires.4.room.journal in omega (arith, room)
