@@ -28,3 +28,4 @@ mod PollReady
 mod Polls
 pub mod Acted
 pub mod Refused
+pub mod ActsOf
