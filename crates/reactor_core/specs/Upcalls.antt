@@ -27,6 +27,13 @@ pub record DoneFits {H E N : Type 0} (means : Handling H E N) (t : Terms) (past 
   pub act : MayAct means t done.upcall (record { note = done.turn.note; moment = done.now }) done.turn.act
   pub promises : KeepsPromises means done.upcall done.turn
 
+-- the upcall of the job was made, for its event and at its moment
+pub record IsRunOf {H N E : Type 0} (job : Job H N E) (done : Done H N E) : Type 0 where
+  pub event : done.event ≡ job.event
+  pub handle : done.handle ≡ job.handle
+  pub upcall : done.upcall ≡ job.upcall
+  pub now : done.now ≡ job.now
+
 -- no event is to be started next
 abbrev pub HasNoPick : {N : Type 0} → List (Entry N) → Type 0
 HasNoPick past = (i : ℕ) → is_pick past i ≡ false

@@ -1,10 +1,13 @@
 //! An upcall on its way: out to its event handler, and back.
-ghost use Rattle.std.specs.Prelude.{◌≡◌};
+ghost use Rattle.std.specs.Prelude.{◌≡◌, List};
+ghost use Rattle.ev_base.specs.Terms.{Terms};
+ghost use Rattle.reactor_journal.specs.declared.entry.Entry.{Entry};
+ghost use Rattle.reactor_core.specs.Upcalls.{JobFits, DoneFits, IsRunOf};
 
 use ev_types::{Answer, Handle, Upcall};
 use reactor_model::{EventHandler, Turn};
 
-/// An upcall that is to be made. It owns the event handler.
+/// An upcall that is to be made. It owns the event handler, so no other thread can call that handler meanwhile.
 pub struct Job<H: EventHandler> {
     pub(crate) event: u64,
     pub(crate) handle: Handle,
@@ -13,7 +16,7 @@ pub struct Job<H: EventHandler> {
     pub(crate) handler: H,
 }
 
-/// An upcall that was made.
+/// An upcall that was made. It is to be given to `Core::settle`.
 pub struct Done<H: EventHandler> {
     pub(crate) event: u64,
     pub(crate) handle: Handle,
@@ -21,4 +24,89 @@ pub struct Done<H: EventHandler> {
     pub(crate) now: u64,
     pub(crate) handler: H,
     pub(crate) turn: Turn<H>,
+}
+
+impl<H: EventHandler> Job<H> {
+    /// The number of its event.
+    pub fn event(&self) -> u64
+        ensures { result ≡ self.entry.now.event }
+    {
+        self.event
+    }
+
+    /// The handle of its event.
+    pub fn handle(&self) -> Handle
+        ensures { result ≡ self.entry.now.handle }
+    {
+        self.handle
+    }
+
+    /// The upcall that it makes.
+    pub fn upcall(&self) -> Upcall
+        ensures { result ≡ self.entry.now.upcall }
+    {
+        self.upcall
+    }
+
+    /// The moment in milliseconds at which it was started.
+    pub fn now(&self) -> u64
+        ensures { result ≡ self.entry.now.now }
+    {
+        self.now
+    }
+
+    /// Makes the upcall at the moment at which it was started (C++NPv2 chapter 3, `handle_input` and its fellows). Whatever journal
+    /// the job fits, what comes back fits it too: the handler has had one turn more, and its act is one that the turn may carry.
+    pub fn run(self) -> Done<H>
+        ensures fits { (t : Terms) (past : List (Entry H.Note)) → JobFits H.means t past self → DoneFits H.means t past result }
+        ensures same { IsRunOf self result }
+    {
+        let Job {
+            event,
+            handle,
+            upcall,
+            now,
+            handler,
+        } = self;
+        let mut handler = handler;
+        let turn = handler.upcall(upcall, now);
+        Done {
+            event,
+            handle,
+            upcall,
+            now,
+            handler,
+            turn,
+        }
+    }
+}
+
+impl<H: EventHandler> Done<H> {
+    /// The number of its event.
+    pub fn event(&self) -> u64
+        ensures { result ≡ self.entry.now.event }
+    {
+        self.event
+    }
+
+    /// The handle of its event.
+    pub fn handle(&self) -> Handle
+        ensures { result ≡ self.entry.now.handle }
+    {
+        self.handle
+    }
+
+    /// What the handler answered.
+    pub fn answer(&self) -> Answer
+        ensures { result ≡ self.entry.now.turn.answer }
+    {
+        self.turn.answer
+    }
+
+    /// What the handler noted.
+    pub fn note(&self) -> &H::Note
+        ensures { result.now ≡ self.entry.now.turn.note }
+    {
+        &self.turn.note
+    }
 }
