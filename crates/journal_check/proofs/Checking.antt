@@ -1,6 +1,6 @@
 -- Steps of the check.
-use Rattle.std.proofs.Common.{ℕ, zero, suc, ◌≡◌, ◌+◌, ◌^◌, ◌<◌, ◌≤◌, ◌==◌, Bool, true, false, ◌&&◌, List, [], ◌∷◌, ◌++◌, length, take, drop, take-append-drop, get_or, refl, sym, ap, ◌∙◌, subst, arith, cond, Option, Some, None, ⊎_elim, inl, inr}
-use Rattle.std.proofs.lemmas.Bool.{and_parts, and_from, or_cases, or_left, or_right, eq-eqb, both_ways, cases_Bool, cases_order, cond-true, cond-false}
+use Rattle.std.proofs.Common.{ℕ, zero, suc, ◌≡◌, ◌+◌, ◌^◌, ◌<◌, ◌≤◌, ◌==◌, Bool, true, false, not, ◌&&◌, option_map, List, [], ◌∷◌, ◌++◌, length, take, drop, take-append-drop, get_or, refl, sym, ap, ◌∙◌, subst, arith, cond, Option, Some, None, ⊎_elim, inl, inr}
+use Rattle.std.proofs.lemmas.Bool.{false_from_ne_true, and_parts, and_from, or_cases, or_left, or_right, eqb-true, eq-eqb, both_ways, cases_Bool, cases_order, cond-true, cond-false}
 use Rattle.std.proofs.lemmas.List.{take-take, length-reverse, length-take-le}
 use Rattle.std.specs.List.{list_any}
 use Rattle.std.specs.Option.{option_to_list}
@@ -8,13 +8,14 @@ use Rattle.std.specs.Prelude.{Ok, Err, OnOk}
 use Rattle.std.specs.declared.result.Result.{Result}
 use Rattle.reactor_journal.specs.Event.{Event}
 use Rattle.reactor_journal.specs.declared.entry.Entry.{Entry}
-use Rattle.reactor_journal.specs.declared.entry.Entry.TheVariants.{Due, Started}
+use Rattle.reactor_journal.specs.declared.entry.Entry.TheVariants.{Opened, Scheduled, Due, Started}
 use Rattle.reactor_journal.specs.Past as P
 use Rattle.reactor_journal.specs.Past.{past_of, count}
 use Rattle.reactor_journal.specs.Follow as F
 use Rattle.reactor_journal.specs.Follow.{is_legal, Legal}
 use Rattle.reactor_journal.proofs.Basics.{may_fits}
 use Rattle.reactor_journal.proofs.Alive.{opened_below, alive_was_opened}
+use Rattle.reactor_journal.proofs.Armed.{armed_known, due_timers}
 use Rattle.reactor_journal.proofs.Closing.{waiting_alive}
 use Rattle.reactor_journal.proofs.Turning.{past_more, Legal-front}
 use Rattle.reactor_summary.specs.declared.parts.LiveHandle.{LiveHandle}
@@ -26,12 +27,14 @@ use Rattle.reactor_summary.specs.Tells.{Tells, Each, listed}
 use Rattle.reactor_summary.specs.Rules as R
 use Rattle.reactor_summary.proofs.Lists.{each_append}
 use Rattle.reactor_summary.proofs.Told.{told}
-use Rattle.reactor_summary.proofs.Reading.{first_due_is, alive_is, waiting_some}
+use Rattle.reactor_summary.proofs.Reading.{first_due_is, alive_is, armed_is, waiting_some}
 use Rattle.reactor_summary.proofs.Picks.{pick_is}
 use Rattle.reactor_summary.proofs.Follows.{may_follow_is}
 use Rattle.journal_check.specs.declared.reading.CheckRefused.{CheckRefused}
 use Rattle.journal_check.specs.declared.reading.CheckRefused.TheVariants.{Illegal, NoMemory}
 use Rattle.journal_check.specs.Small.{IsSmall}
+use Rattle.journal_check.specs.Index.{is_idle}
+use Rattle.journal_check.specs.Next.{IsNext}
 use Rattle.journal_check.specs.Lanes.{Kept, Shows, IsSound}
 use Rattle.journal_check.specs.Refusal.{RefusesAt, IsUnlessNoMemory}
 
@@ -84,6 +87,16 @@ waiting_handle most past k w legal is =
     let mine : P.belongs_to v.0.handle (P.event_at past k) ≡ true = ap (P.belongs_to v.0.handle) v.2 ∙ eq-eqb v.0.handle v.0.handle refl in
     subst (λ (x : ℕ). P.is_alive past x ≡ true) (ap (λ (a : WaitingEvent). a.handle.0) v.3) (waiting_alive most past k v.0.handle legal v.1 mine)
 
+-- the timer of a timeout that waits is not armed
+waiting_idle : {N : Type 0} (most : ℕ) (past : List (Entry N)) (k : ℕ) (w : WaitingEvent) → is_legal most past ≡ true → T.waiting_event past k ≡ Some w → is_idle w.due (summary past).armed ≡ true
+waiting_idle {N} most past k w legal is =
+    let v : (ev : Event) × (P.is_waiting past k ≡ true) × (P.event_at past k ≡ Some ev) × (T.as_waiting past k ev ≡ w) = waiting_some past k w is in
+    subst (λ (a : WaitingEvent). is_idle a.due (summary past).armed ≡ true) v.3 (by_due v.1 (P.due_at past k) refl)
+  where
+    by_due : P.is_waiting past k ≡ true → (due : Option ℕ) → P.due_at past k ≡ due → is_idle (option_map (T.due_timer past) due) (summary past).armed ≡ true
+    by_due waits None q = refl
+    by_due waits (Some t) q = ap not (armed_is past (summary past) t (told most past legal) ∙ (due_timers most past legal).idle k t waits q)
+
 pub sound : {N : Type 0} (most : ℕ) (past : List (Entry N)) → is_legal most past ≡ true → IsSound (summary past)
 sound most past legal =
     let t : Tells past (summary past) = told most past legal in
@@ -103,6 +116,12 @@ sound most past legal =
       below = subst (Each (λ (w : WaitingEvent). w.handle.0 < (summary past).opened)) (sym t.waiting)
           (each_listed (λ (w : WaitingEvent). w.handle.0 < (summary past).opened) (T.waiting_event past) (length past)
           (λ k w lt is. subst (λ (n : ℕ). w.handle.0 < n) (sym t.opened) (opened_below most past w.handle.0 legal (alive_was_opened past w.handle.0 (waiting_handle most past k w legal is)))));
+      idle = subst (Each (λ (w : WaitingEvent). is_idle w.due (summary past).armed ≡ true)) (sym t.waiting)
+          (each_listed (λ (w : WaitingEvent). is_idle w.due (summary past).armed ≡ true) (T.waiting_event past) (length past) (λ k w lt is. waiting_idle most past k w legal is));
+      fresh = λ n le. false_from_ne_true _ (λ h.
+          let known : n < P.scheduled past = armed_known most past n legal (sym (armed_is past s n t) ∙ h) in
+          let number : (summary past).scheduled ≡ P.scheduled past = t.scheduled in
+          omega arith);
     }
 
 -- ---- what the check knows of the first entries
@@ -140,10 +159,18 @@ says_first {N} most past machine due ready e timer r may is =
     ap (λ (s : Summary). S.is_first_due s timer) r.shows.base
     ∙ (first_due_is past (summary past) timer (told most past r.legal) ∙ (and_parts (F.follows_due past) _ (may_fits most past (Due timer) now_due)).1)
 
-pub says_pick : {N : Type 0} (most : ℕ) (past : List (Entry N)) (e : Entry N) (event : ℕ) → is_legal most past ≡ true → F.may_follow most past e ≡ true → e ≡ Started event → S.is_pick (summary past) event ≡ true
-says_pick {N} most past e event legal may is =
-    let now_started : F.may_follow most past (Started event) ≡ true = subst (λ (d : Entry N). F.may_follow most past d ≡ true) is may in
-    pick_is most past (summary past) event legal (told most past legal) ∙ (and_parts (P.is_pick past event) _ (may_fits most past (Started event) now_started)).0
+-- what the rules say of an entry that may follow
+pub says_next : {N : Type 0} (most : ℕ) (past : List (Entry N)) (e : Entry N) → is_legal most past ≡ true → F.may_follow most past e ≡ true → IsNext (summary past) e
+says_next {N} most past e legal may =
+    let t : Tells past (summary past) = told most past legal in
+    record {
+      opened = λ handle mask is. eqb-true handle.0 (P.opened past) (and_parts _ _ (fits (Opened handle mask) is)).0 ∙ sym t.opened;
+      scheduled = λ timer handle first every is. eqb-true timer (P.scheduled past) (and_parts _ _ (fits (Scheduled timer handle first every) is)).0 ∙ sym t.scheduled;
+      started = λ event is. pick_is most past (summary past) event legal t ∙ (and_parts (P.is_pick past event) _ (fits (Started event) is)).0;
+    }
+  where
+    fits : (d : Entry N) → e ≡ d → F.fits most past d ≡ true
+    fits d is = may_fits most past d (subst (λ (c : Entry N). F.may_follow most past c ≡ true) is may)
 
 -- one more entry
 pub read_more : {N : Type 0} (most : ℕ) (journal : List (Entry N)) (k : ℕ) (e : Entry N) (machine later : Kept) (due ready : Bool) → k < length journal → e ≡ get_or journal k e → Read most (past_of (take k journal)) machine due ready

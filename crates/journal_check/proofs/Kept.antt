@@ -2,8 +2,7 @@
 use Rattle.std.proofs.Common.{ℕ, zero, suc, ◌≡◌, ◌≢◌, ◌+◌, ◌*◌, ◌<◌, ◌≤◌, ◌==◌, Bool, true, false, not, List, [], ◌∷◌, ◌++◌, length, drop, get_or, refl, sym, ap, ◌∙◌, subst, arith, cond, Option, Some, None, ⊎_elim, length-append, drop-cons, add-one}
 use Rattle.std.proofs.lemmas.Bool.{false≢true, and_from, or_cases, or_left, or_right, eqb-true, eq-eqb, ne_eqb, cases_Bool, cases_eq, both_ways, cond-true, cond-false}
 use Rattle.std.proofs.lemmas.List.{append-nil, length-set, get_or-set_same, get_or-set_other}
-use Rattle.std.specs.Prelude.{slice_set, Ok, Err, OnOk}
-use Rattle.std.specs.declared.result.Result.{Result}
+use Rattle.std.specs.Prelude.{slice_set}
 use Rattle.std.specs.List.{filter, find, list_any}
 use Rattle.std.specs.Option.{option_to_list}
 use Rattle.ev_types.specs.declared.upcall.Upcall.{Upcall}
@@ -26,6 +25,8 @@ use Rattle.reactor_summary.specs.Rules as R
 use Rattle.reactor_summary.specs.Tells.{listed, Each}
 use Rattle.reactor_summary.proofs.Lists.{listed_same, filter-listed, kept, any_listed-some, any_listed-from}
 use Rattle.reactor_summary.proofs.Found.{Answers, find_answers}
+use Rattle.journal_check.specs.Index.{is_idle}
+use Rattle.journal_check.specs.Next.{IsNext, IsNew}
 use Rattle.journal_check.specs.Lanes.{lane_of, HasLanes, Kept, Shows, IsSound, pushed, emptied, cleared, cleared_of, narrowed, without_timeouts, has_timeout, queues_after, kept_after, kept_started, is_alone}
 use Rattle.journal_check.proofs.Lanes.{lanes_more, lanes_pushed, lanes_cleared, lanes_cleared_of, lanes_masked, lanes_cancelled, lanes_same, lane_first}
 use Rattle.journal_check.proofs.Best.{Own, First, Picks, goes, goes_later, summary_picks}
@@ -330,6 +331,24 @@ timeout_is k s t shows sound =
     (ap (kept (λ (w : WaitingEvent). lane_of w == x.handle.0 * 5)) r.3 ∙ cond-true _ (Some r.1) None lane) r.4)
     live)
 
+-- the timer of the pick is not armed
+pub picked_idle : (k : Kept) (s : Summary) (sound : IsSound s) (w : WaitingEvent) → Shows k s → S.pick s ≡ Some w → is_idle w.due k.base.armed ≡ true
+picked_idle k s sound w shows q =
+    let p : First sound.event sound.bound (λ v. S.is_free s v.handle.0) 0 w = picked_first s sound w q in
+    let idle : is_idle w.due s.armed ≡ true =
+    each_listed_at sound.event sound.bound (λ (v : WaitingEvent). is_idle v.due s.armed ≡ true) (subst (Each (λ (v : WaitingEvent). is_idle v.due s.armed ≡ true)) sound.listed sound.idle) w.event w p.below p.is
+    in
+    ap (λ (b : Summary). is_idle w.due b.armed) shows.base ∙ idle
+
+-- nor is one that is set
+pub next_new : {N : Type 0} (k : Kept) (s : Summary) (e : Entry N) → Shows k s → IsSound s → IsNext s e → IsNew k.base e
+next_new k s e shows sound next =
+    record {
+      timer = λ timer handle first every is.
+          let number : timer ≡ s.scheduled = next.scheduled timer handle first every is in
+          ap (λ (b : Summary). S.is_armed b timer) shows.base ∙ sound.fresh timer (omega arith);
+    }
+
 -- ---- for the code
 
 pub no_start : {N : Type 0} (e : Entry N) → ((i : ℕ) → e ≡ Started i → ⊥) → (i : ℕ) → P.starts i e ≡ false
@@ -357,10 +376,6 @@ shows_counted k s t n shows q =
       lanes = shows.lanes;
       five = shows.five;
     }
-
-pub on_ok : {E P Q : Type 0} (r : Result (Unit {0}) E) → OnOk r P → (P → Q) → OnOk r Q
-on_ok (Ok u) p f = f p
-on_ok (Err e) p f = p
 
 -- ---- the cases that the waiting events do not touch
 

@@ -1,6 +1,6 @@
 -- How the checker keeps the waiting events: in a queue for each handle and class, so that none is looked at but
 -- the first of each.
-use Rattle.std.specs.Prelude.{ℕ, ◌≡◌, ◌<◌, ◌+◌, ◌*◌, ◌==◌, Bool, true, false, not, ◌&&◌, ◌||◌, if◌then◌else◌, List, [], ◌∷◌, ◌++◌, length, filter, drop, slice_set, slice_get, slice_index_or, nat_lt, nat_le, Option, Some, None}
+use Rattle.std.specs.Prelude.{ℕ, ◌≡◌, ◌<◌, ◌≤◌, ◌+◌, ◌*◌, ◌==◌, Bool, true, false, not, ◌&&◌, ◌||◌, if◌then◌else◌, List, [], ◌∷◌, ◌++◌, length, filter, drop, slice_set, slice_get, slice_index_or, nat_lt, nat_le, Option, Some, None}
 use Rattle.std.specs.List.{list_any}
 use Rattle.ev_types.specs.declared.upcall.Mask.{Mask}
 use Rattle.ev_types.specs.declared.upcall.Answer.TheVariants.{Again, Close}
@@ -15,6 +15,7 @@ use Rattle.reactor_summary.specs.declared.parts.WaitingEvent.{WaitingEvent}
 use Rattle.reactor_summary.specs.Summary as S
 use Rattle.reactor_summary.specs.Summary.{Summary}
 use Rattle.reactor_summary.specs.Tells.{listed, Each}
+use Rattle.journal_check.specs.Index.{is_idle}
 
 -- the queue of an event: five for each handle, one for each class
 abbrev pub lane_of : WaitingEvent → ℕ
@@ -35,7 +36,8 @@ pub record Shows (kept : Kept) (s : Summary) : Type 0 where
   pub lanes : HasLanes kept.queues s.waiting
   pub five : length kept.queues ≡ s.opened * 5
 
--- what holds of the waiting events of each legal journal: their numbers rise, and their handles are live
+-- what holds of each legal journal: the numbers of its waiting events rise, their handles are live, and their timers
+-- are not armed; nor is a timer that was not set
 pub record IsSound (s : Summary) : Type 0 where
   pub event : ℕ → Option WaitingEvent
   pub bound : ℕ
@@ -43,6 +45,8 @@ pub record IsSound (s : Summary) : Type 0 where
   pub own : (k : ℕ) (w : WaitingEvent) → event k ≡ Some w → w.event ≡ k
   pub live : Each (λ w. list_any (λ h. h.handle.0 == w.handle.0) s.handles ≡ true) s.waiting
   pub below : Each (λ w. w.handle.0 < s.opened) s.waiting
+  pub idle : Each (λ w. is_idle w.due s.armed ≡ true) s.waiting
+  pub fresh : (t : ℕ) → s.scheduled ≤ t → S.is_armed s t ≡ false
 
 -- the first event of a queue, and the one of a handle that goes first
 abbrev pub front_at : List (List WaitingEvent) → ℕ → Option WaitingEvent

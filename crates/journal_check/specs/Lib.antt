@@ -1,4 +1,6 @@
 pub mod Small
+pub mod Index
 pub mod Lanes
+pub mod Next
 pub mod Refusal
 pub mod Laws

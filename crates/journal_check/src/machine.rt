@@ -1,6 +1,6 @@
 //! The summary of the entries that were read, and what it says of the next one.
 
-ghost use Rattle.std.specs.Prelude.{◌≡◌, ◌==◌, not, if◌then◌else◌, ◌&&◌, ◌||◌, ◌<◌, ◌+◌, ◌^◌, ◌++◌, ◌∷◌, [], true, None, Some, OnOk, ℕ, List};
+ghost use Rattle.std.specs.Prelude.{◌≡◌, ◌==◌, not, if◌then◌else◌, ◌&&◌, ◌||◌, ◌<◌, ◌+◌, ◌^◌, ◌++◌, ◌∷◌, [], true, false, None, Some, OnOk, ℕ, List};
 ghost use Rattle.reactor_journal.specs.declared.entry.Entry.{Entry};
 ghost use Rattle.reactor_summary.specs.Summary as S;
 ghost use Rattle.reactor_summary.specs.Summary.{Summary};
@@ -9,7 +9,9 @@ ghost use Rattle.reactor_journal.specs.Follow as F;
 ghost use Rattle.std.specs.Option.{option_to_list};
 ghost use Rattle.journal_check.specs.Small.{IsSmall};
 ghost use Rattle.journal_check.specs.Lanes as L;
+ghost use Rattle.journal_check.specs.Index.{is_idle};
 ghost use Rattle.journal_check.specs.Lanes.{Shows, IsSound};
+ghost use Rattle.journal_check.specs.Next.{IsNext, IsNew};
 
 use crate::events::{find_open, is_open, settle};
 use crate::handles::{
@@ -19,9 +21,7 @@ use crate::handles::{
 use crate::queues::{
     add_five, cancel, clear_all, clear_masked, pick, pop_from, push_to, timeout_waits,
 };
-use crate::timers::{
-    arm, arm_again, disarm, disarm_all, due_event, is_armed, is_first, is_reached,
-};
+use crate::timers::Timers;
 use crate::words::{lane_of, upcall_of, winds_up};
 use ev_types::{Answer, Handle, Kind, Mask, NoMemory, Upcall};
 use reactor_journal::Entry;
@@ -46,7 +46,7 @@ pub struct Machine {
     ended: bool,
     handles: Vec<LiveHandle>,
     opens: Vec<OpenEvent>,
-    armed: Vec<ArmedTimer>,
+    armed: Timers,
     queues: Vec<VecDeque<WaitingEvent>>,
 }
 
@@ -57,7 +57,7 @@ impl Model for Machine {
 
     ghost Value = { Kept };
 
-    ghost view = { λ m. record { base = record { entries = m.entries; moment = m.moment; opened = m.opened; closed = m.closed; scheduled = m.scheduled; refused = m.refused; ended = m.ended; handles = m.handles.items; waiting = []; opens = m.opens.items; armed = m.armed.items }; queues = map deque_items m.queues.items } };
+    ghost view = { λ m. record { base = record { entries = m.entries; moment = m.moment; opened = m.opened; closed = m.closed; scheduled = m.scheduled; refused = m.refused; ended = m.ended; handles = m.handles.items; waiting = []; opens = m.opens.items; armed = m.armed }; queues = map deque_items m.queues.items } };
 }
 
 impl Machine {
@@ -76,7 +76,7 @@ impl Machine {
             ended: false,
             handles: Vec::new(alloc),
             opens: Vec::new(alloc),
-            armed: Vec::new(alloc),
+            armed: Timers::new(alloc),
             queues: Vec::new(alloc),
         }
     }
@@ -112,7 +112,7 @@ impl Machine {
     fn may_begin(&self, picked: bool) -> bool
         ensures { result ≡ (picked && (not (S.is_overdue self.now.base) && not (S.some_wait self.now.base))) }
     {
-        picked && (!is_reached(self.moment, &self.armed) && !self.some_wait())
+        picked && (!self.armed.is_reached(self.moment) && !self.some_wait())
     }
 
     fn timeout_waits(&self, timer: u64) -> bool
@@ -124,7 +124,7 @@ impl Machine {
     fn may_cancel(&self, timer: u64) -> bool
         ensures { result ≡ (S.is_armed self.now.base timer || L.has_timeout self.now timer) }
     {
-        is_armed(&self.armed, timer) || self.timeout_waits(timer)
+        self.armed.is_armed(timer) || self.timeout_waits(timer)
     }
 
     fn may_refuse(&self, live: u64, fault: bool, most: u64) -> bool
@@ -153,10 +153,10 @@ impl Machine {
             }
             Entry::Cancelled { .. } => false,
             Entry::Polled { now } => self.moment <= *now && !self.some_wait(),
-            Entry::Due { timer } => due && is_first(self.moment, *timer, &self.armed),
+            Entry::Due { timer } => due && self.armed.is_first(self.moment, *timer),
             Entry::Ready { handle, kind } => {
                 ready
-                    && (!is_reached(self.moment, &self.armed)
+                    && (!self.armed.is_reached(self.moment)
                         && is_wanted(&self.handles, *handle, *kind))
             }
             Entry::Posted { handle, .. } => is_alive(&self.handles, *handle),
@@ -240,17 +240,14 @@ impl Machine {
         every: u64,
     ) -> Result<(), NoMemory>
         requires { self.old.base.scheduled + 1 < 2 ^ 64 }
-        ensures { OnOk result (self.new ≡ L.kept_after {N = ℕ} self.old (Entry.Scheduled timer handle first every)) }
+        ensures { S.is_armed self.old.base timer ≡ false → OnOk result (self.new ≡ L.kept_after {N = ℕ} self.old (Entry.Scheduled timer handle first every)) }
     {
-        arm(
-            &mut self.armed,
-            ArmedTimer {
-                deadline: first as u128,
-                timer,
-                handle,
-                every,
-            },
-        )?;
+        self.armed.arm(ArmedTimer {
+            deadline: first as u128,
+            timer,
+            handle,
+            every,
+        })?;
         self.scheduled += 1;
         Ok(())
     }
@@ -259,23 +256,23 @@ impl Machine {
         requires { S.is_first_due self.old.base timer ≡ true }
         ensures { OnOk result (self.new ≡ L.kept_after {N = ℕ} self.old (Entry.Due timer)) }
     {
-        let made = due_event(self.entries, self.moment, timer, &self.armed);
-        disarm(&mut self.armed, timer);
+        let made = self.armed.due_event(self.entries, self.moment, timer);
+        self.armed.disarm(timer);
         self.push(made)
     }
 
     fn cancel(&mut self, timer: u64)
         ensures { self.new ≡ L.kept_after {N = ℕ} self.old (Entry.Cancelled timer) }
     {
-        disarm(&mut self.armed, timer);
+        self.armed.disarm(timer);
         cancel(&mut self.queues, &self.handles, timer);
     }
 
     fn begin(&mut self, w: WaitingEvent) -> Result<(), NoMemory>
-        ensures { OnOk result (self.new ≡ L.kept_started self.old w) }
+        ensures { is_idle w.due self.old.base.armed ≡ true → OnOk result (self.new ≡ L.kept_started self.old w) }
     {
         pop_from(&mut self.queues, lane_of(&w));
-        arm_again(&mut self.armed, self.moment, w.handle, w.due)?;
+        self.armed.arm_again(self.moment, w.handle, w.due)?;
         self.opens.push(OpenEvent {
             event: w.event,
             handle: w.handle,
@@ -306,7 +303,7 @@ impl Machine {
     {
         end_life(&mut self.handles, handle);
         clear_all(&mut self.queues, handle);
-        disarm_all(&mut self.armed, handle);
+        self.armed.disarm_all(handle);
     }
 
     /// The event that asks for the same upcall once more, where the handle is alive.
@@ -378,7 +375,7 @@ impl Machine {
         requires refused { self.old.base.refused + 1 < 2 ^ 64 }
         requires due { (timer : ℕ) → entry.now ≡ Entry.Due timer → S.is_first_due self.old.base timer ≡ true }
         requires other { (event : ℕ) → entry.now ≡ Entry.Started event → ⊥ }
-        ensures { OnOk result (self.new ≡ L.kept_after self.old entry.now) }
+        ensures { IsNew self.old.base entry.now → OnOk result (self.new ≡ L.kept_after self.old entry.now) }
     {
         match entry {
             Entry::Opened { handle, mask } => self.open(alloc, *handle, *mask),
@@ -443,7 +440,7 @@ impl Machine {
         requires scheduled { self.old.base.scheduled + 1 < 2 ^ 64 }
         requires refused { self.old.base.refused + 1 < 2 ^ 64 }
         requires due { (timer : ℕ) → entry.now ≡ Entry.Due timer → S.is_first_due self.old.base timer ≡ true }
-        ensures { (s : Summary) → Shows self.old s → IsSound s → IsSound (S.step s entry.now) → ((event : ℕ) → entry.now ≡ Entry.Started event → S.is_pick s event ≡ true) → OnOk result (Shows self.new (record (S.step s entry.now) { entries = s.entries })) }
+        ensures { (s : Summary) → Shows self.old s → IsSound s → IsSound (S.step s entry.now) → IsNext s entry.now → OnOk result (Shows self.new (record (S.step s entry.now) { entries = s.entries })) }
     {
         match entry {
             Entry::Started { event } => self.start(*event),
@@ -461,7 +458,7 @@ impl Machine {
     pub fn step<N>(&mut self, alloc: Global, entry: &Entry<N>) -> Result<(), NoMemory>
         requires small { IsSmall self.old.base }
         requires due { (timer : ℕ) → entry.now ≡ Entry.Due timer → S.is_first_due self.old.base timer ≡ true }
-        ensures { (s : Summary) → Shows self.old s → IsSound s → IsSound (S.step s entry.now) → ((event : ℕ) → entry.now ≡ Entry.Started event → S.is_pick s event ≡ true) → OnOk result (Shows self.new (S.step s entry.now)) }
+        ensures { (s : Summary) → Shows self.old s → IsSound s → IsSound (S.step s entry.now) → IsNext s entry.now → OnOk result (Shows self.new (S.step s entry.now)) }
     {
         let entries = self.entries + 1;
         self.change(alloc, entry)?;

@@ -10,7 +10,7 @@ use Rattle.journal_check.specs.declared.reading.CheckRefused.{CheckRefused}
 use Rattle.journal_check.specs.declared.reading.CheckRefused.TheVariants.{Illegal}
 use Rattle.journal_check.specs.Lanes.{Shows}
 use Rattle.journal_check.specs.Refusal.{RefusesAt}
-use Rattle.journal_check.proofs.Checking.{length-past, says_follow, says_first, says_pick, small_base, sound, read_none, read_more, refused_at}
+use Rattle.journal_check.proofs.Checking.{length-past, says_follow, says_first, says_next, small_base, sound, read_none, read_more, refused_at}
 use Rattle.journal_check.proofs.reading.read.Goals as goal
 
 same_place : (k at : ℕ) → ◌≡◌ {A = Result (Unit {0}) CheckRefused} (Err (Illegal k)) (Err (Illegal at)) → k ≡ at
@@ -53,7 +53,7 @@ loop-k-preserved g c =
     let stepped : Shows c.step.new.self (S.step (summary (past_of (take c.loop-k.k c.args.journal.now))) c.index-journal-k.result) =
     c.in_ok-step.ensures (summary (past_of (take c.loop-k.k c.args.journal.now))) c.loop-k.invariant.shows (sound c.args.most (past_of (take c.loop-k.k c.args.journal.now)) c.loop-k.invariant.legal)
     (sound c.args.most (c.index-journal-k.result ∷ past_of (take c.loop-k.k c.args.journal.now)) (and_from (F.may_follow c.args.most (past_of (take c.loop-k.k c.args.journal.now)) c.index-journal-k.result) (is_legal c.args.most (past_of (take c.loop-k.k c.args.journal.now))) may legal))
-    (λ event is. says_pick c.args.most (past_of (take c.loop-k.k c.args.journal.now)) c.index-journal-k.result event legal may is)
+    (says_next c.args.most (past_of (take c.loop-k.k c.args.journal.now)) c.index-journal-k.result legal may)
     in
     read_more c.args.most c.args.journal.now c.loop-k.k c.index-journal-k.result c.loop-k.machine c.step.new.self c.loop-k.due c.loop-k.ready c.loop-k-test.true c.index-journal-k.is c.loop-k.invariant may stepped
     c.admits_due-due.result c.admits_ready-ready.result c.admits_due-due.ensures c.admits_ready-ready.ensures
