@@ -1,8 +1,7 @@
 -- Steps of the check.
-use Rattle.std.proofs.Common.{ℕ, zero, suc, ◌≡◌, ◌+◌, ◌^◌, ◌<◌, ◌≤◌, ◌==◌, Bool, true, false, not, ◌&&◌, option_map, List, [], ◌∷◌, ◌++◌, length, take, drop, take-append-drop, get_or, refl, sym, ap, ◌∙◌, subst, arith, cond, Option, Some, None, ⊎_elim, inl, inr}
-use Rattle.std.proofs.lemmas.Bool.{false_from_ne_true, and_parts, and_from, or_cases, or_left, or_right, eqb-true, eq-eqb, both_ways, cases_Bool, cases_order, cond-true, cond-false}
+use Rattle.std.proofs.Common.{ℕ, zero, suc, ◌≡◌, ◌+◌, ◌^◌, ◌<◌, ◌≤◌, Bool, true, false, not, option_map, List, [], ◌∷◌, ◌++◌, length, take, drop, take-append-drop, get_or, refl, sym, ap, ◌∙◌, subst, arith, cond, Option, Some, None, ⊎_elim, inl, inr}
+use Rattle.std.proofs.lemmas.Bool.{false_from_ne_true, and_parts, and_from, eqb-true, both_ways, cases_Bool, cases_order, cond-true, cond-false}
 use Rattle.std.proofs.lemmas.List.{take-take, length-reverse, length-take-le}
-use Rattle.std.specs.List.{list_any}
 use Rattle.std.specs.Option.{option_to_list}
 use Rattle.std.specs.Prelude.{Ok, Err, OnOk}
 use Rattle.std.specs.declared.result.Result.{Result}
@@ -14,11 +13,8 @@ use Rattle.reactor_journal.specs.Past.{past_of, count}
 use Rattle.reactor_journal.specs.Follow as F
 use Rattle.reactor_journal.specs.Follow.{is_legal, Legal}
 use Rattle.reactor_journal.proofs.Basics.{may_fits}
-use Rattle.reactor_journal.proofs.Alive.{opened_below, alive_was_opened}
 use Rattle.reactor_journal.proofs.Armed.{armed_known, due_timers}
-use Rattle.reactor_journal.proofs.Closing.{waiting_alive}
 use Rattle.reactor_journal.proofs.Turning.{past_more, Legal-front}
-use Rattle.reactor_summary.specs.declared.parts.LiveHandle.{LiveHandle}
 use Rattle.reactor_summary.specs.declared.parts.WaitingEvent.{WaitingEvent}
 use Rattle.reactor_summary.specs.Summary as S
 use Rattle.reactor_summary.specs.Summary.{Summary, summary}
@@ -27,7 +23,7 @@ use Rattle.reactor_summary.specs.Tells.{Tells, Each, listed}
 use Rattle.reactor_summary.specs.Rules as R
 use Rattle.reactor_summary.proofs.Lists.{each_append}
 use Rattle.reactor_summary.proofs.Told.{told}
-use Rattle.reactor_summary.proofs.Reading.{first_due_is, alive_is, armed_is, waiting_some}
+use Rattle.reactor_summary.proofs.Reading.{first_due_is, armed_is, waiting_some}
 use Rattle.reactor_summary.proofs.Picks.{pick_is}
 use Rattle.reactor_summary.proofs.Follows.{may_follow_is}
 use Rattle.journal_check.specs.declared.reading.CheckRefused.{CheckRefused}
@@ -35,7 +31,7 @@ use Rattle.journal_check.specs.declared.reading.CheckRefused.TheVariants.{Illega
 use Rattle.journal_check.specs.Small.{IsSmall}
 use Rattle.journal_check.specs.Index.{is_idle}
 use Rattle.journal_check.specs.Next.{IsNext}
-use Rattle.journal_check.specs.Lanes.{Kept, Shows, IsSound}
+use Rattle.journal_check.specs.Sound.{IsSound}
 use Rattle.journal_check.specs.Refusal.{RefusesAt, IsUnlessNoMemory}
 
 -- ---- the numbers of a summary are small
@@ -77,16 +73,6 @@ each_listed {A} Q f (suc n) h = each_append Q (listed f n) (option_to_list (f n)
     last None q = tt
     last (Some a) q = (h n a (omega arith) q, tt)
 
-any_imply : {A : Type 0} (p q : A → Bool) (xs : List A) → ((a : A) → p a ≡ true → q a ≡ true) → list_any p xs ≡ true → list_any q xs ≡ true
-any_imply p q [] f h = h
-any_imply p q (x ∷ xs) f h = ⊎_elim (λ (t : p x ≡ true). or_left (q x) (list_any q xs) (f x t)) (λ (t : list_any p xs ≡ true). or_right (q x) (list_any q xs) (any_imply p q xs f t)) (or_cases (p x) (list_any p xs) h)
-
-waiting_handle : {N : Type 0} (most : ℕ) (past : List (Entry N)) (k : ℕ) (w : WaitingEvent) → is_legal most past ≡ true → T.waiting_event past k ≡ Some w → P.is_alive past w.handle.0 ≡ true
-waiting_handle most past k w legal is =
-    let v : (ev : Event) × (P.is_waiting past k ≡ true) × (P.event_at past k ≡ Some ev) × (T.as_waiting past k ev ≡ w) = waiting_some past k w is in
-    let mine : P.belongs_to v.0.handle (P.event_at past k) ≡ true = ap (P.belongs_to v.0.handle) v.2 ∙ eq-eqb v.0.handle v.0.handle refl in
-    subst (λ (x : ℕ). P.is_alive past x ≡ true) (ap (λ (a : WaitingEvent). a.handle.0) v.3) (waiting_alive most past k v.0.handle legal v.1 mine)
-
 -- the timer of a timeout that waits is not armed
 waiting_idle : {N : Type 0} (most : ℕ) (past : List (Entry N)) (k : ℕ) (w : WaitingEvent) → is_legal most past ≡ true → T.waiting_event past k ≡ Some w → is_idle w.due (summary past).armed ≡ true
 waiting_idle {N} most past k w legal is =
@@ -108,14 +94,11 @@ sound most past legal =
       own = λ k w is.
           let v : (ev : Event) × (P.is_waiting past k ≡ true) × (P.event_at past k ≡ Some ev) × (T.as_waiting past k ev ≡ w) = waiting_some past k w is in
           sym (ap (λ (a : WaitingEvent). a.event) v.3);
-      live = subst (Each (λ (w : WaitingEvent). list_any (λ (h : LiveHandle). h.handle.0 == w.handle.0) (summary past).handles ≡ true)) (sym t.waiting)
-          (each_listed (λ (w : WaitingEvent). list_any (λ (h : LiveHandle). h.handle.0 == w.handle.0) (summary past).handles ≡ true) (T.waiting_event past) (length past)
+      past = subst (Each (λ (w : WaitingEvent). w.event < (summary past).entries)) (sym t.waiting)
+          (each_listed (λ (w : WaitingEvent). w.event < (summary past).entries) (T.waiting_event past) (length past)
           (λ k w lt is.
-          any_imply (λ (h : LiveHandle). h.handle.0 == w.handle.0 && h.alive) (λ (h : LiveHandle). h.handle.0 == w.handle.0) (summary past).handles (λ h a. (and_parts _ _ a).0)
-          (alive_is most past (summary past) w.handle.0 legal t ∙ waiting_handle most past k w legal is)));
-      below = subst (Each (λ (w : WaitingEvent). w.handle.0 < (summary past).opened)) (sym t.waiting)
-          (each_listed (λ (w : WaitingEvent). w.handle.0 < (summary past).opened) (T.waiting_event past) (length past)
-          (λ k w lt is. subst (λ (n : ℕ). w.handle.0 < n) (sym t.opened) (opened_below most past w.handle.0 legal (alive_was_opened past w.handle.0 (waiting_handle most past k w legal is)))));
+          let v : (ev : Event) × (P.is_waiting past k ≡ true) × (P.event_at past k ≡ Some ev) × (T.as_waiting past k ev ≡ w) = waiting_some past k w is in
+          subst (λ (a : WaitingEvent). a.event < (summary past).entries) v.3 (subst (λ (n : ℕ). k < n) (sym t.entries) lt)));
       idle = subst (Each (λ (w : WaitingEvent). is_idle w.due (summary past).armed ≡ true)) (sym t.waiting)
           (each_listed (λ (w : WaitingEvent). is_idle w.due (summary past).armed ≡ true) (T.waiting_event past) (length past) (λ k w lt is. waiting_idle most past k w legal is));
       fresh = λ n le. false_from_ne_true _ (λ h.
@@ -126,63 +109,60 @@ sound most past legal =
 
 -- ---- what the check knows of the first entries
 
-pub record Read {N : Type 0} (most : ℕ) (past : List (Entry N)) (machine : Kept) (due ready : Bool) : Type 0 where
+pub record Read {N : Type 0} (most : ℕ) (past : List (Entry N)) (machine : Summary) (due ready : Bool) : Type 0 where
   pub legal : is_legal most past ≡ true
-  pub shows : Shows machine (summary past)
+  pub is : machine ≡ summary past
   pub follows_due : due ≡ F.follows_due past
   pub follows_ready : ready ≡ F.follows_ready past
 
-pub read_none : {N : Type 0} (most : ℕ) (machine : Kept) → machine.base ≡ S.nothing → machine.queues ≡ [] → Read {N = N} most [] machine false false
-read_none most machine b q =
-    record {
-      legal = refl;
-      shows = record { base = b; lanes = record { at = λ i. ap (λ (qs : List (List WaitingEvent)). get_or qs i []) q }; five = ap length q };
-      follows_due = refl;
-      follows_ready = refl;
-    }
+pub read_none : {N : Type 0} (most : ℕ) (machine : Summary) → machine ≡ S.nothing → Read {N = N} most [] machine false false
+read_none most machine q = record { legal = refl; is = q; follows_due = refl; follows_ready = refl }
+
+pub read_sound : {N : Type 0} (most : ℕ) (past : List (Entry N)) (machine : Summary) (due ready : Bool) → Read most past machine due ready → IsSound machine
+read_sound most past machine due ready r = subst IsSound (sym r.is) (sound most past r.legal)
 
 -- what the machine says of the next entry
-pub says_follow : {N : Type 0} (most : ℕ) (past : List (Entry N)) (machine : Kept) (due ready : Bool) (e : Entry N) → Read most past machine due ready → R.may_follow most due ready (summary past) e ≡ F.may_follow most past e
+pub says_follow : {N : Type 0} (most : ℕ) (past : List (Entry N)) (machine : Summary) (due ready : Bool) (e : Entry N) → Read most past machine due ready → R.may_follow most due ready machine e ≡ F.may_follow most past e
 says_follow most past machine due ready e r =
-    ap (λ b. R.may_follow most b ready (summary past) e) r.follows_due
-    ∙ (ap (λ b. R.may_follow most (F.follows_due past) b (summary past) e) r.follows_ready
-    ∙ may_follow_is most past (summary past) e r.legal (told most past r.legal))
+    ap (λ b. R.may_follow most b ready machine e) r.follows_due
+    ∙ (ap (λ b. R.may_follow most (F.follows_due past) b machine e) r.follows_ready
+    ∙ (ap (λ (s : Summary). R.may_follow most (F.follows_due past) (F.follows_ready past) s e) r.is
+    ∙ may_follow_is most past (summary past) e r.legal (told most past r.legal)))
 
-pub small_base : {N : Type 0} (most : ℕ) (past : List (Entry N)) (machine : Kept) (due ready : Bool) → Read most past machine due ready → length past + 1 < 2 ^ 64 → IsSmall machine.base
-small_base most past machine due ready r h =
-    let s : IsSmall (summary past) = small most past r.legal h in
-    subst IsSmall (sym r.shows.base) (record { entries = s.entries; opened = s.opened; closed = s.closed; scheduled = s.scheduled; refused = s.refused })
+pub small_base : {N : Type 0} (most : ℕ) (past : List (Entry N)) (machine : Summary) (due ready : Bool) → Read most past machine due ready → length past + 1 < 2 ^ 64 → IsSmall machine
+small_base most past machine due ready r h = subst IsSmall (sym r.is) (small most past r.legal h)
 
-pub says_first : {N : Type 0} (most : ℕ) (past : List (Entry N)) (machine : Kept) (due ready : Bool) (e : Entry N) (timer : ℕ) → Read most past machine due ready → F.may_follow most past e ≡ true → e ≡ Due timer → S.is_first_due machine.base timer ≡ true
+pub says_first : {N : Type 0} (most : ℕ) (past : List (Entry N)) (machine : Summary) (due ready : Bool) (e : Entry N) (timer : ℕ) → Read most past machine due ready → F.may_follow most past e ≡ true → e ≡ Due timer → S.is_first_due machine timer ≡ true
 says_first {N} most past machine due ready e timer r may is =
     let now_due : F.may_follow most past (Due timer) ≡ true = subst (λ (d : Entry N). F.may_follow most past d ≡ true) is may in
-    ap (λ (s : Summary). S.is_first_due s timer) r.shows.base
+    ap (λ (s : Summary). S.is_first_due s timer) r.is
     ∙ (first_due_is past (summary past) timer (told most past r.legal) ∙ (and_parts (F.follows_due past) _ (may_fits most past (Due timer) now_due)).1)
 
 -- what the rules say of an entry that may follow
-pub says_next : {N : Type 0} (most : ℕ) (past : List (Entry N)) (e : Entry N) → is_legal most past ≡ true → F.may_follow most past e ≡ true → IsNext (summary past) e
-says_next {N} most past e legal may =
+pub says_next : {N : Type 0} (most : ℕ) (past : List (Entry N)) (e : Entry N) → is_legal most past ≡ true → F.may_follow most past e ≡ true → (machine : Summary) → machine ≡ summary past → IsNext machine e
+says_next {N} most past e legal may machine q =
     let t : Tells past (summary past) = told most past legal in
-    record {
+    subst (λ (s : Summary). IsNext s e) (sym q)
+    (record {
       opened = λ handle mask is. eqb-true handle.0 (P.opened past) (and_parts _ _ (fits (Opened handle mask) is)).0 ∙ sym t.opened;
       scheduled = λ timer handle first every is. eqb-true timer (P.scheduled past) (and_parts _ _ (fits (Scheduled timer handle first every) is)).0 ∙ sym t.scheduled;
       started = λ event is. pick_is most past (summary past) event legal t ∙ (and_parts (P.is_pick past event) _ (fits (Started event) is)).0;
-    }
+    })
   where
     fits : (d : Entry N) → e ≡ d → F.fits most past d ≡ true
     fits d is = may_fits most past d (subst (λ (c : Entry N). F.may_follow most past c ≡ true) is may)
 
 -- one more entry
-pub read_more : {N : Type 0} (most : ℕ) (journal : List (Entry N)) (k : ℕ) (e : Entry N) (machine later : Kept) (due ready : Bool) → k < length journal → e ≡ get_or journal k e → Read most (past_of (take k journal)) machine due ready
-    → F.may_follow most (past_of (take k journal)) e ≡ true → Shows later (S.step (summary (past_of (take k journal))) e)
+pub read_more : {N : Type 0} (most : ℕ) (journal : List (Entry N)) (k : ℕ) (e : Entry N) (machine later : Summary) (due ready : Bool) → k < length journal → e ≡ get_or journal k e → Read most (past_of (take k journal)) machine due ready
+    → F.may_follow most (past_of (take k journal)) e ≡ true → later ≡ S.step machine e
     → (now_due now_ready : Bool) → ((past : List (Entry N)) → now_due ≡ F.follows_due (e ∷ past)) → ((past : List (Entry N)) → now_ready ≡ F.follows_ready (e ∷ past))
     → Read most (past_of (take (k + 1) journal)) later now_due now_ready
-read_more {N} most journal k e machine later due ready lt is r may shows now_due now_ready hd hr =
+read_more {N} most journal k e machine later due ready lt is r may stepped now_due now_ready hd hr =
     let more : past_of (take (k + 1) journal) ≡ e ∷ past_of (take k journal) = past_more journal k e lt ∙ ap (λ (d : Entry N). d ∷ past_of (take k journal)) (sym is) in
     subst (λ (p : List (Entry N)). Read most p later now_due now_ready) (sym more)
     (record {
       legal = and_from (F.may_follow most (past_of (take k journal)) e) (is_legal most (past_of (take k journal))) may r.legal;
-      shows = shows;
+      is = stepped ∙ ap (λ (s : Summary). S.step s e) r.is;
       follows_due = hd (past_of (take k journal));
       follows_ready = hr (past_of (take k journal));
     })

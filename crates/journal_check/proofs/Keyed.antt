@@ -1,13 +1,13 @@
 -- A map of std as the list of its values, where a test of the values tells a key.
-use Rattle.std.proofs.Common.{ℕ, ◌≡◌, Bool, true, false, not, ◌||◌, List, [], ◌∷◌, ◌++◌, refl, sym, ap, ◌∙◌, subst, cond, Option, Some, None, is_some, ⊎_elim}
-use Rattle.std.proofs.lemmas.Bool.{cases_Bool, cond-true, cond-false}
+use Rattle.std.proofs.Common.{◌≡◌, Bool, true, false, not, ◌||◌, List, [], ◌∷◌, refl, sym, ap, ◌∙◌, subst, cond, Option, Some, None, is_some, ⊎_elim}
+use Rattle.std.proofs.lemmas.Bool.{false≢true, cases_Bool, cond-true, cond-false, or_cases, or_left, or_right, or_parts, or_from}
 use Rattle.std.specs.BTreeMap.{insert_entry}
 use Rattle.std.specs.List.{filter, find, list_any}
-use Rattle.std.specs.Map.{keys_of, values_of, lookup, remove_entry}
+use Rattle.std.specs.Map.{values_of, lookup, remove_entry}
 use Rattle.std.specs.Ordering.{match_ordering}
 use Rattle.std.specs.declared.cmp.Ordering.{Ordering}
 use Rattle.std.specs.declared.cmp.Ordering.TheVariants.{Less, Equal, Greater}
-use Rattle.std.specs.Prelude.{Ok, Err, OnOk}
+use Rattle.std.specs.Prelude.{Ok, Err, OnOk, IfSome}
 use Rattle.std.specs.declared.result.Result.{Result}
 use Rattle.reactor_summary.specs.Tells.{Each}
 
@@ -92,3 +92,76 @@ each_inserted {K} {X} P R (e ∷ es) k v exact h n = by_cases (each_inserted P R
 pub on_ok : {E P Q : Type 0} (r : Result (Unit {0}) E) → OnOk r P → (P → Q) → OnOk r Q
 on_ok (Ok u) p f = f p
 on_ok (Err e) p f = p
+
+-- what holds of each entry holds of the one that a look-up finds
+pub looked_up : {K X : Type 0} (P : K × X → Type 0) (test : K → Bool) (es : List (K × X)) (x : X) → Each P es → lookup test es ≡ Some x → (k : K) × P (k, x) × (test k ≡ true)
+looked_up {K} {X} P test [] x h is = absurd (none is)
+  where
+    none : ◌≡◌ {A = Option X} None (Some x) → ⊥
+    none q = cc
+looked_up {K} {X} P test (e ∷ es) x h is =
+    ⊎_elim
+    (λ (t : test e.0 ≡ true).
+    let same : e.1 ≡ x = some (sym (cond-true (test e.0) (Some e.1) (lookup test es) t) ∙ is) in
+    (e.0, subst (λ (y : X). P (e.0, y)) same h.0, t))
+    (λ (f : test e.0 ≡ false). looked_up P test es x h.1 (sym (cond-false (test e.0) (Some e.1) (lookup test es) f) ∙ is))
+    (cases_Bool (test e.0))
+  where
+    some : ◌≡◌ {A = Option X} (Some e.1) (Some x) → e.1 ≡ x
+    some q = cc
+
+pub value_looked_up : {K X : Type 0} (P : X → Type 0) (test : K → Bool) (es : List (K × X)) (x : X) → Each P (values_of es) → lookup test es ≡ Some x → P x
+value_looked_up {K} {X} P test [] x h is = absurd (none is)
+  where
+    none : ◌≡◌ {A = Option X} None (Some x) → ⊥
+    none q = cc
+value_looked_up {K} {X} P test (e ∷ es) x h is =
+    ⊎_elim
+    (λ (t : test e.0 ≡ true). subst P (some (sym (cond-true (test e.0) (Some e.1) (lookup test es) t) ∙ is)) h.0)
+    (λ (f : test e.0 ≡ false). value_looked_up P test es x h.1 (sym (cond-false (test e.0) (Some e.1) (lookup test es) f) ∙ is))
+    (cases_Bool (test e.0))
+  where
+    some : ◌≡◌ {A = Option X} (Some e.1) (Some x) → e.1 ≡ x
+    some q = cc
+
+-- ---- members of a list, by the tests that find them
+
+pub any_member : {A : Type 0} (p : A → Bool) (xs : List A) → list_any p xs ≡ true → (a : A) × (p a ≡ true) × ((q : A → Bool) → q a ≡ true → list_any q xs ≡ true)
+any_member p [] h = absurd (false≢true h)
+any_member {A} p (x ∷ xs) h =
+    ⊎_elim
+    (λ (t : p x ≡ true). (x, t, λ q c. or_left (q x) (list_any q xs) c))
+    (λ (t : list_any p xs ≡ true).
+    let r : (a : A) × (p a ≡ true) × ((q : A → Bool) → q a ≡ true → list_any q xs ≡ true) = any_member p xs t in
+    (r.0, r.1, λ q c. or_right (q x) (list_any q xs) (r.2 q c)))
+    (or_cases (p x) (list_any p xs) h)
+
+pub each_member : {A : Type 0} (P : A → Type 0) (xs : List A) → ((a : A) → ((q : A → Bool) → q a ≡ true → list_any q xs ≡ true) → P a) → Each P xs
+each_member P [] h = tt
+each_member P (x ∷ xs) h =
+    (h x (λ q c. or_left (q x) (list_any q xs) c), each_member P xs (λ a m. h a (λ q c. or_right (q x) (list_any q xs) (m q c))))
+
+-- ---- filters
+
+-- one that takes nothing away
+pub filter_all : {A : Type 0} (p : A → Bool) (xs : List A) → list_any p xs ≡ false → filter (λ a. not (p a)) xs ≡ xs
+filter_all p [] h = refl
+filter_all p (x ∷ xs) h =
+    let both : (p x ≡ false) × (list_any p xs ≡ false) = or_parts (p x) (list_any p xs) h in
+    cond-true (not (p x)) _ _ (ap not both.0) ∙ ap (λ ys. x ∷ ys) (filter_all p xs both.1)
+
+pub none_left : {A : Type 0} (p : A → Bool) (xs : List A) → list_any p (filter (λ a. not (p a)) xs) ≡ false
+none_left p [] = refl
+none_left p (x ∷ xs) =
+    ⊎_elim
+    (λ (t : p x ≡ true). ap (list_any p) (cond-false (not (p x)) (x ∷ filter (λ a. not (p a)) xs) _ (ap not t)) ∙ none_left p xs)
+    (λ (f : p x ≡ false). ap (list_any p) (cond-true (not (p x)) (x ∷ filter (λ a. not (p a)) xs) _ (ap not f)) ∙ or_from (p x) _ f (none_left p xs))
+    (cases_Bool (p x))
+
+pub if_some : {A : Type 0} {P Q : A → Type 0} (o : Option A) → IfSome o P → ((a : A) → P a → Q a) → IfSome o Q
+if_some None h f = h
+if_some (Some a) h f = f a h
+
+pub any_none : {A : Type 0} (p : A → Bool) (xs : List A) → ((a : A) → p a ≡ false) → list_any p xs ≡ false
+any_none p [] h = refl
+any_none p (x ∷ xs) h = or_from (p x) (list_any p xs) (h x) (any_none p xs h)

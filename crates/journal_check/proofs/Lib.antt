@@ -2,7 +2,7 @@ pub mod Clock
 pub mod Ended
 pub mod Keyed
 pub mod Timed
-pub mod Lanes
+pub mod Queue
 pub mod Best
-pub mod Kept
+pub mod Picked
 pub mod Checking

@@ -1,5 +1,5 @@
 -- Steps of the index of the armed timers.
-use Rattle.std.proofs.Common.{ℕ, ◌≡◌, ◌+◌, ◌<◌, ◌≤◌, ◌==◌, Bool, true, false, not, ◌&&◌, ◌||◌, List, [], ◌∷◌, map, refl, sym, ap, ◌∙◌, subst, arith, cond, Option, Some, None, ◌⊎◌, inl, inr, ⊎_elim}
+use Rattle.std.proofs.Common.{ℕ, ◌≡◌, ◌<◌, ◌==◌, Bool, true, false, not, ◌&&◌, List, [], ◌∷◌, refl, sym, ap, ◌∙◌, arith, cond, Option, Some, None, ◌⊎◌, inl, inr, ⊎_elim}
 use Rattle.std.proofs.lemmas.Bool.{both_ways, false_from_ne_true, cases_Bool, cases_eq, cases_order, cond-true, cond-false, eq-eqb, ne_eqb, lt-ltb, le-ltb, and_from, and_right, and_left, or_parts, or_left, or_right, or_from}
 use Rattle.std.proofs.lemmas.Map.Lookups.{exact_pairs, exact_unsigned}
 use Rattle.std.specs.BTreeMap.{is_at, insert_entry}
@@ -10,10 +10,9 @@ use Rattle.std.specs.declared.cmp.Ordering.{Ordering}
 use Rattle.std.specs.declared.cmp.Ordering.TheVariants.{Less, Equal, Greater}
 use Rattle.reactor_summary.specs.declared.parts.ArmedTimer.{ArmedTimer}
 use Rattle.reactor_summary.specs.Summary as S
-use Rattle.reactor_summary.specs.Tells.{Each}
-use Rattle.reactor_summary.proofs.Lists.{some_is, each_same, filter_each}
+use Rattle.reactor_summary.proofs.Lists.{some_is, each_same}
 use Rattle.journal_check.specs.Index.{pair_cmp, IsArmedAt, IsIndexed}
-use Rattle.journal_check.proofs.Keyed.{Agrees}
+use Rattle.journal_check.proofs.Keyed.{Agrees, filter_all, none_left}
 
 pub cmp_less : (x y : ℕ) → x < y → nat_cmp x y ≡ Less
 cmp_less x y h = cond-true _ Less _ (lt-ltb x y h)
@@ -65,21 +64,6 @@ unled_none lead owns t (e ∷ es) led h =
   where
     none : ◌≡◌ {A = Option ArmedTimer} None (Some e.1) → ⊥
     none q = cc
-
--- a filter that takes nothing away
-pub filter_all : (p : ArmedTimer → Bool) (xs : List ArmedTimer) → list_any p xs ≡ false → filter (λ a. not (p a)) xs ≡ xs
-filter_all p [] h = refl
-filter_all p (x ∷ xs) h =
-    let both : (p x ≡ false) × (list_any p xs ≡ false) = or_parts (p x) (list_any p xs) h in
-    cond-true (not (p x)) _ _ (ap not both.0) ∙ ap (λ ys. x ∷ ys) (filter_all p xs both.1)
-
-pub none_left : (p : ArmedTimer → Bool) (xs : List ArmedTimer) → list_any p (filter (λ a. not (p a)) xs) ≡ false
-none_left p [] = refl
-none_left p (x ∷ xs) =
-    ⊎_elim
-    (λ (t : p x ≡ true). ap (list_any p) (cond-false (not (p x)) (x ∷ filter (λ a. not (p a)) xs) _ (ap not t)) ∙ none_left p xs)
-    (λ (f : p x ≡ false). ap (list_any p) (cond-true (not (p x)) (x ∷ filter (λ a. not (p a)) xs) _ (ap not f)) ∙ or_from (p x) _ f (none_left p xs))
-    (cases_Bool (p x))
 
 -- a timer of another number stands before or behind
 Stands : ArmedTimer → ArmedTimer → Ordering → Type 0

@@ -1,6 +1,7 @@
 pub mod Small
 pub mod Index
-pub mod Lanes
+pub mod Queue
+pub mod Sound
 pub mod Next
 pub mod Refusal
 pub mod Laws

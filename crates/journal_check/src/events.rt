@@ -2,8 +2,8 @@
 
 ghost use Rattle.std.specs.Prelude.{◌≡◌, ◌==◌, ◌&&◌, ◌||◌, nat_lt, nat_le, not, filter};
 ghost use Rattle.std.specs.List.{list_any, find};
-ghost use Rattle.reactor_journal.specs.Past as P;
-ghost use Rattle.journal_check.specs.Lanes as L;
+ghost use Rattle.journal_check.specs.Queue as Q;
+ghost use Rattle.journal_check.specs.Sound as L;
 
 use crate::words::class_of;
 use reactor_summary::{OpenEvent, WaitingEvent};
@@ -47,7 +47,7 @@ pub fn first_of(a: Option<WaitingEvent>, b: Option<WaitingEvent>) -> Option<Wait
 }
 
 fn goes_first(a: &WaitingEvent, b: &WaitingEvent) -> bool
-    ensures { result ≡ (nat_lt (P.class_of a.now.upcall) (P.class_of b.now.upcall) || (P.class_of a.now.upcall == P.class_of b.now.upcall && nat_le a.now.event b.now.event)) }
+    ensures { result ≡ Q.goes_first a.now b.now }
 {
     class_of(a.upcall) < class_of(b.upcall)
         || (class_of(a.upcall) == class_of(b.upcall) && a.event <= b.event)

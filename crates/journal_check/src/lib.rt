@@ -1,19 +1,20 @@
 //! Whether a journal of a reactor is legal, and at which entry it is not.
 //!
 //! The check reads the journal once, front to back. The armed timers stand in order of their deadlines and are found
-//! by number and by handle, so that an entry costs the logarithm of the number of timers that were set. An entry
-//! also costs the number of live handles at that point, and for a `Started` that of open events for each live
-//! handle; it does not cost the number of entries or of waiting events. Each waiting event is taken out of its queue
-//! once; a `Cancelled` looks at the timeouts that wait. For each handle that was ever opened five queues are kept.
+//! by number and by handle; the waiting events are found by number, by handle and class, and by timer. So what an
+//! entry costs grows with the logarithm of the number of timers that were set and of events that wait, and each timer
+//! and each event is taken out once. An entry also costs the number of live handles at that point, and for a `Started`
+//! that of open events for each live handle.
 #![tactic(auto)]
 
 mod events;
 mod handles;
 pub mod laws;
 mod machine;
-mod queues;
+mod picks;
 mod reading;
 mod timers;
+mod waiting;
 mod words;
 
 pub use reading::{CheckRefused, check};

@@ -6,11 +6,11 @@ ghost use Rattle.reactor_summary.specs.Summary as S;
 ghost use Rattle.reactor_summary.specs.Summary.{Summary};
 ghost use Rattle.reactor_summary.specs.Rules as R;
 ghost use Rattle.reactor_journal.specs.Follow as F;
-ghost use Rattle.std.specs.Option.{option_to_list};
 ghost use Rattle.journal_check.specs.Small.{IsSmall};
-ghost use Rattle.journal_check.specs.Lanes as L;
 ghost use Rattle.journal_check.specs.Index.{is_idle};
-ghost use Rattle.journal_check.specs.Lanes.{Shows, IsSound};
+ghost use Rattle.journal_check.specs.Sound as L;
+ghost use Rattle.journal_check.specs.Sound.{IsSound, after};
+ghost use Rattle.reactor_summary.specs.Tells.{Each};
 ghost use Rattle.journal_check.specs.Next.{IsNext, IsNew};
 
 use crate::events::{find_open, is_open, settle};
@@ -18,23 +18,20 @@ use crate::handles::{
     close, end_life, is_alive, is_busy, is_over, is_resumed, is_suspended, is_wanted, set_mask,
     set_suspended, some_wait,
 };
-use crate::queues::{
-    add_five, cancel, clear_all, clear_masked, pick, pop_from, push_to, timeout_waits,
-};
+use crate::picks::pick;
 use crate::timers::Timers;
-use crate::words::{lane_of, upcall_of, winds_up};
+use crate::waiting::Waiting;
+use crate::words::{upcall_of, winds_up};
 use ev_types::{Answer, Handle, Kind, Mask, NoMemory, Upcall};
 use reactor_journal::Entry;
 use reactor_summary::{ArmedTimer, DueTimer, LiveHandle, OpenEvent, WaitingEvent};
 use std::alloc::Global;
-use std::collections::VecDeque;
 use std::marker::Model;
 
 /// The most handles that a journal may open.
 const MOST_HANDLES: u64 = 4_294_967_295;
 
-/// The summary of the entries that were read. The waiting events stand in a queue for each handle that was opened
-/// and each class, so that an entry costs no look at events that wait behind others.
+/// The summary of the entries that were read.
 #[derive(Drop)]
 pub struct Machine {
     entries: u64,
@@ -46,25 +43,22 @@ pub struct Machine {
     ended: bool,
     handles: Vec<LiveHandle>,
     opens: Vec<OpenEvent>,
+    waiting: Waiting,
     armed: Timers,
-    queues: Vec<VecDeque<WaitingEvent>>,
 }
 
 impl Model for Machine {
-    ghost use Rattle.std.specs.Prelude.{[], map};
-    ghost use Rattle.std.specs.VecDeque.{deque_items};
-    ghost use Rattle.journal_check.specs.Lanes.{Kept};
+    ghost use Rattle.reactor_summary.specs.Summary.{Summary};
 
-    ghost Value = { Kept };
+    ghost Value = { Summary };
 
-    ghost view = { λ m. record { base = record { entries = m.entries; moment = m.moment; opened = m.opened; closed = m.closed; scheduled = m.scheduled; refused = m.refused; ended = m.ended; handles = m.handles.items; waiting = []; opens = m.opens.items; armed = m.armed }; queues = map deque_items m.queues.items } };
+    ghost view = { λ m. record { entries = m.entries; moment = m.moment; opened = m.opened; closed = m.closed; scheduled = m.scheduled; refused = m.refused; ended = m.ended; handles = m.handles.items; waiting = m.waiting; opens = m.opens.items; armed = m.armed } };
 }
 
 impl Machine {
     /// That of no entries.
     pub fn new(alloc: Global) -> Machine
-        ensures base { result.base ≡ S.nothing }
-        ensures queues { result.queues ≡ [] }
+        ensures { result ≡ S.nothing }
     {
         Machine {
             entries: 0,
@@ -76,32 +70,32 @@ impl Machine {
             ended: false,
             handles: Vec::new(alloc),
             opens: Vec::new(alloc),
+            waiting: Waiting::new(alloc),
             armed: Timers::new(alloc),
-            queues: Vec::new(alloc),
         }
     }
 
     fn live(&self) -> u64
-        ensures { result ≡ R.live self.now.base }
+        ensures { result ≡ R.live self.now }
     {
         self.opened.saturating_sub(self.closed)
     }
 
     /// The event to be started next.
     fn pick(&self) -> Option<WaitingEvent>
-        ensures { (s : Summary) → Shows self.now s → IsSound s → result ≡ S.pick s }
+        ensures { IsSound self.now → result ≡ S.pick self.now }
     {
-        pick(&self.handles, &self.opens, &self.queues)
+        pick(&self.handles, &self.opens, &self.waiting)
     }
 
     fn some_wait(&self) -> bool
-        ensures { result ≡ S.some_wait self.now.base }
+        ensures { result ≡ S.some_wait self.now }
     {
         some_wait(&self.handles, &self.opens)
     }
 
     fn is_pick(&self, event: u64) -> bool
-        ensures { (s : Summary) → Shows self.now s → IsSound s → result ≡ S.is_pick s event }
+        ensures { IsSound self.now → result ≡ S.is_pick self.now event }
     {
         match self.pick() {
             Some(w) => w.event == event,
@@ -110,33 +104,27 @@ impl Machine {
     }
 
     fn may_begin(&self, picked: bool) -> bool
-        ensures { result ≡ (picked && (not (S.is_overdue self.now.base) && not (S.some_wait self.now.base))) }
+        ensures { result ≡ (picked && (not (S.is_overdue self.now) && not (S.some_wait self.now))) }
     {
         picked && (!self.armed.is_reached(self.moment) && !self.some_wait())
     }
 
-    fn timeout_waits(&self, timer: u64) -> bool
-        ensures { result ≡ L.has_timeout self.now timer }
-    {
-        timeout_waits(&self.queues, &self.handles, timer)
-    }
-
     fn may_cancel(&self, timer: u64) -> bool
-        ensures { result ≡ (S.is_armed self.now.base timer || L.has_timeout self.now timer) }
+        ensures { result ≡ (S.is_armed self.now timer || S.timeout_waits self.now timer) }
     {
-        self.armed.is_armed(timer) || self.timeout_waits(timer)
+        self.armed.is_armed(timer) || self.waiting.has_timeout(timer)
     }
 
     fn may_refuse(&self, live: u64, fault: bool, most: u64) -> bool
-        ensures { result ≡ (live == R.live self.now.base && (R.live self.now.base == most || (self.now.base.opened == F.most_handles || (fault || self.now.base.ended)))) }
+        ensures { result ≡ (live == R.live self.now && (R.live self.now == most || (self.now.opened == F.most_handles || (fault || self.now.ended)))) }
     {
         live == self.live()
             && (self.live() == most || (self.opened == MOST_HANDLES || (fault || self.ended)))
     }
 
-    /// The case of each kind of entry but two.
+    /// The case of each kind of entry but one.
     fn fits_alone<N>(&self, due: bool, ready: bool, entry: &Entry<N>, most: u64) -> bool
-        ensures { L.is_alone entry.now ≡ true → result ≡ R.fits most due ready self.now.base entry.now }
+        ensures { L.is_alone entry.now ≡ true → result ≡ R.fits most due ready self.now entry.now }
     {
         match entry {
             Entry::Opened { handle, .. } => {
@@ -151,7 +139,7 @@ impl Machine {
                 *timer == self.scheduled
                     && (is_alive(&self.handles, *handle) && self.moment < *first)
             }
-            Entry::Cancelled { .. } => false,
+            Entry::Cancelled { timer } => self.may_cancel(*timer),
             Entry::Polled { now } => self.moment <= *now && !self.some_wait(),
             Entry::Due { timer } => due && self.armed.is_first(self.moment, *timer),
             Entry::Ready { handle, kind } => {
@@ -178,50 +166,43 @@ impl Machine {
     /// The case of each kind of entry. `due` says whether a timer may come due now, and `ready` whether a report
     /// may come now.
     fn fits<N>(&self, due: bool, ready: bool, entry: &Entry<N>, most: u64) -> bool
-        ensures { (s : Summary) → Shows self.now s → IsSound s → result ≡ R.fits most due ready s entry.now }
+        ensures { IsSound self.now → result ≡ R.fits most due ready self.now entry.now }
     {
         match entry {
             Entry::Started { event } => self.may_begin(self.is_pick(*event)),
-            Entry::Cancelled { timer } => self.may_cancel(*timer),
             _ => self.fits_alone(due, ready, entry, most),
         }
     }
 
     /// Whether the entry may follow.
     pub fn may_follow<N>(&self, due: bool, ready: bool, entry: &Entry<N>, most: u64) -> bool
-        ensures { (s : Summary) → Shows self.now s → IsSound s → result ≡ R.may_follow most due ready s entry.now }
+        ensures { IsSound self.now → result ≡ R.may_follow most due ready self.now entry.now }
     {
         (winds_up(entry) || !self.ended) && self.fits(due, ready, entry, most)
     }
 
-    /// Adds the event that an entry makes, if it makes one.
-    fn push(&mut self, made: Option<WaitingEvent>) -> Result<(), NoMemory>
-        ensures { OnOk result (self.new ≡ record self.old { queues = L.pushed self.old.queues (option_to_list made) }) }
-    {
-        match made {
-            None => Ok(()),
-            Some(w) => push_to(&mut self.queues, lane_of(&w), w),
-        }
-    }
-
-    /// Adds the event of a report or of a notification.
-    fn report(&mut self, handle: Handle, upcall: Upcall) -> Result<(), NoMemory>
-        ensures { OnOk result (self.new ≡ record self.old { queues = L.pushed self.old.queues (record { event = self.old.base.entries; handle = handle; upcall = upcall; due = None } ∷ []) }) }
+    /// Adds an event, whose number is that of the entry.
+    fn report(
+        &mut self,
+        handle: Handle,
+        upcall: Upcall,
+        due: Option<DueTimer>,
+    ) -> Result<(), NoMemory>
+        ensures { Each (λ w. w.event < self.old.entries) self.old.waiting → OnOk result (self.new ≡ record self.old { waiting = self.old.waiting ++ record { event = self.old.entries; handle = handle; upcall = upcall; due = due } ∷ [] }) }
     {
         let event = self.entries;
-        self.push(Some(WaitingEvent {
+        self.waiting.push(WaitingEvent {
             event,
             handle,
             upcall,
-            due: None,
-        }))
+            due,
+        })
     }
 
-    fn open(&mut self, alloc: Global, handle: Handle, mask: Mask) -> Result<(), NoMemory>
-        requires { self.old.base.opened + 1 < 2 ^ 64 }
-        ensures { OnOk result (self.new ≡ L.kept_after {N = ℕ} self.old (Entry.Opened handle mask)) }
+    fn open(&mut self, handle: Handle, mask: Mask) -> Result<(), NoMemory>
+        requires { self.old.opened + 1 < 2 ^ 64 }
+        ensures { OnOk result (self.new ≡ after {N = ℕ} self.old (Entry.Opened handle mask)) }
     {
-        add_five(alloc, &mut self.queues)?;
         self.handles.push(LiveHandle {
             handle,
             mask,
@@ -239,8 +220,8 @@ impl Machine {
         first: u64,
         every: u64,
     ) -> Result<(), NoMemory>
-        requires { self.old.base.scheduled + 1 < 2 ^ 64 }
-        ensures { S.is_armed self.old.base timer ≡ false → OnOk result (self.new ≡ L.kept_after {N = ℕ} self.old (Entry.Scheduled timer handle first every)) }
+        requires { self.old.scheduled + 1 < 2 ^ 64 }
+        ensures { S.is_armed self.old timer ≡ false → OnOk result (self.new ≡ after {N = ℕ} self.old (Entry.Scheduled timer handle first every)) }
     {
         self.armed.arm(ArmedTimer {
             deadline: first as u128,
@@ -253,25 +234,35 @@ impl Machine {
     }
 
     fn come_due(&mut self, timer: u64) -> Result<(), NoMemory>
-        requires { S.is_first_due self.old.base timer ≡ true }
-        ensures { OnOk result (self.new ≡ L.kept_after {N = ℕ} self.old (Entry.Due timer)) }
+        requires { S.is_first_due self.old timer ≡ true }
+        ensures { Each (λ w. w.event < self.old.entries) self.old.waiting → OnOk result (self.new ≡ after {N = ℕ} self.old (Entry.Due timer)) }
     {
-        let made = self.armed.due_event(self.entries, self.moment, timer);
+        let first = self.armed.first_due(self.moment, timer);
         self.armed.disarm(timer);
-        self.push(made)
+        match first {
+            None => Ok(()),
+            Some(a) => {
+                let due = DueTimer {
+                    timer: a.timer,
+                    deadline: a.deadline as u64,
+                    every: a.every,
+                };
+                self.report(a.handle, Upcall::Timeout { timer: a.timer }, Some(due))
+            }
+        }
     }
 
     fn cancel(&mut self, timer: u64)
-        ensures { self.new ≡ L.kept_after {N = ℕ} self.old (Entry.Cancelled timer) }
+        ensures { self.new ≡ after {N = ℕ} self.old (Entry.Cancelled timer) }
     {
         self.armed.disarm(timer);
-        cancel(&mut self.queues, &self.handles, timer);
+        self.waiting.cancel(timer);
     }
 
     fn begin(&mut self, w: WaitingEvent) -> Result<(), NoMemory>
-        ensures { is_idle w.due self.old.base.armed ≡ true → OnOk result (self.new ≡ L.kept_started self.old w) }
+        ensures { is_idle w.due self.old.armed ≡ true → OnOk result (self.new ≡ L.started self.old w) }
     {
-        pop_from(&mut self.queues, lane_of(&w));
+        self.waiting.take(w.event);
         self.armed.arm_again(self.moment, w.handle, w.due)?;
         self.opens.push(OpenEvent {
             event: w.event,
@@ -283,7 +274,7 @@ impl Machine {
     }
 
     fn start(&mut self, event: u64) -> Result<(), NoMemory>
-        ensures { (s : Summary) → Shows self.old s → IsSound s → S.is_pick s event ≡ true → OnOk result (Shows self.new (record (S.step {N = ℕ} s (Entry.Started event)) { entries = s.entries })) }
+        ensures { IsSound self.old → S.is_pick self.old event ≡ true → OnOk result (self.new ≡ after {N = ℕ} self.old (Entry.Started event)) }
     {
         match self.pick() {
             None => Ok(()),
@@ -292,56 +283,45 @@ impl Machine {
     }
 
     fn mask(&mut self, handle: Handle, mask: Mask)
-        ensures { self.new ≡ L.kept_after {N = ℕ} self.old (Entry.Masked handle mask) }
+        ensures { self.new ≡ after {N = ℕ} self.old (Entry.Masked handle mask) }
     {
         set_mask(&mut self.handles, handle, mask);
-        clear_masked(&mut self.queues, handle, mask);
+        self.waiting.clear_masked(handle, mask);
     }
 
     fn end(&mut self, handle: Handle)
-        ensures { self.new ≡ L.kept_after {N = ℕ} self.old (Entry.Removed handle) }
+        ensures { self.new ≡ after {N = ℕ} self.old (Entry.Removed handle) }
     {
         end_life(&mut self.handles, handle);
-        clear_all(&mut self.queues, handle);
+        self.waiting.clear_all(handle);
         self.armed.disarm_all(handle);
     }
 
-    /// The event that asks for the same upcall once more, where the handle is alive.
-    fn once_more(&self, o: OpenEvent) -> Option<WaitingEvent>
-        ensures { option_to_list result ≡ S.waiting_again self.now.base (Some o) }
+    /// Adds an event that asks for the same upcall once more, where the handle is alive.
+    fn once_more(&mut self, o: OpenEvent) -> Result<(), NoMemory>
+        ensures { Each (λ w. w.event < self.old.entries) self.old.waiting → OnOk result (self.new ≡ record self.old { waiting = self.old.waiting ++ S.waiting_again self.old (Some o) }) }
     {
         if is_alive(&self.handles, o.handle) {
-            Some(WaitingEvent {
-                event: self.entries,
-                handle: o.handle,
-                upcall: o.upcall,
-                due: None,
-            })
+            self.report(o.handle, o.upcall, None)
         } else {
-            None
-        }
-    }
-
-    fn again(&self, event: u64) -> Option<WaitingEvent>
-        ensures { option_to_list result ≡ S.waiting_again self.now.base (S.open_event self.now.base event) }
-    {
-        match find_open(&self.opens, event) {
-            None => None,
-            Some(o) => self.once_more(o),
+            Ok(())
         }
     }
 
     fn settle_again(&mut self, event: u64) -> Result<(), NoMemory>
-        ensures { OnOk result (self.new ≡ L.kept_after {N = ℕ} self.old (Entry.Returned event Answer.Again 0)) }
+        ensures { Each (λ w. w.event < self.old.entries) self.old.waiting → OnOk result (self.new ≡ after {N = ℕ} self.old (Entry.Returned event Answer.Again 0)) }
     {
-        let made = self.again(event);
+        let found = find_open(&self.opens, event);
         settle(&mut self.opens, event);
-        self.push(made)
+        match found {
+            None => Ok(()),
+            Some(o) => self.once_more(o),
+        }
     }
 
     #[tactic(auto, using(crate::proofs::Ended::no_owner))]
     fn settle_close(&mut self, event: u64)
-        ensures { self.new ≡ L.kept_after {N = ℕ} self.old (Entry.Returned event Answer.Close 0) }
+        ensures { self.new ≡ after {N = ℕ} self.old (Entry.Returned event Answer.Close 0) }
     {
         let found = find_open(&self.opens, event);
         settle(&mut self.opens, event);
@@ -352,7 +332,7 @@ impl Machine {
     }
 
     fn settle(&mut self, event: u64, answer: Answer) -> Result<(), NoMemory>
-        ensures { OnOk result (self.new ≡ L.kept_after {N = ℕ} self.old (Entry.Returned event answer 0)) }
+        ensures { Each (λ w. w.event < self.old.entries) self.old.waiting → OnOk result (self.new ≡ after {N = ℕ} self.old (Entry.Returned event answer 0)) }
     {
         match answer {
             Answer::Keep => {
@@ -368,17 +348,17 @@ impl Machine {
     }
 
     /// What an entry that is no `Started` changes, but for the number of entries.
-    fn apply<N>(&mut self, alloc: Global, entry: &Entry<N>) -> Result<(), NoMemory>
-        requires opened { self.old.base.opened + 1 < 2 ^ 64 }
-        requires closed { self.old.base.closed + 1 < 2 ^ 64 }
-        requires scheduled { self.old.base.scheduled + 1 < 2 ^ 64 }
-        requires refused { self.old.base.refused + 1 < 2 ^ 64 }
-        requires due { (timer : ℕ) → entry.now ≡ Entry.Due timer → S.is_first_due self.old.base timer ≡ true }
+    fn apply<N>(&mut self, entry: &Entry<N>) -> Result<(), NoMemory>
+        requires opened { self.old.opened + 1 < 2 ^ 64 }
+        requires closed { self.old.closed + 1 < 2 ^ 64 }
+        requires scheduled { self.old.scheduled + 1 < 2 ^ 64 }
+        requires refused { self.old.refused + 1 < 2 ^ 64 }
+        requires due { (timer : ℕ) → entry.now ≡ Entry.Due timer → S.is_first_due self.old timer ≡ true }
         requires other { (event : ℕ) → entry.now ≡ Entry.Started event → ⊥ }
-        ensures { IsNew self.old.base entry.now → OnOk result (self.new ≡ L.kept_after self.old entry.now) }
+        ensures { IsNew self.old entry.now → OnOk result (self.new ≡ after self.old entry.now) }
     {
         match entry {
-            Entry::Opened { handle, mask } => self.open(alloc, *handle, *mask),
+            Entry::Opened { handle, mask } => self.open(*handle, *mask),
             Entry::Scheduled {
                 timer,
                 handle,
@@ -394,9 +374,9 @@ impl Machine {
                 Ok(())
             }
             Entry::Due { timer } => self.come_due(*timer),
-            Entry::Ready { handle, kind } => self.report(*handle, upcall_of(*kind)),
+            Entry::Ready { handle, kind } => self.report(*handle, upcall_of(*kind), None),
             Entry::Posted { handle, kind, .. } => {
-                self.report(*handle, Upcall::Notice { kind: *kind })
+                self.report(*handle, Upcall::Notice { kind: *kind }, None)
             }
             Entry::Stale { .. } => Ok(()),
             Entry::Started { .. } => Ok(()),
@@ -434,34 +414,34 @@ impl Machine {
     }
 
     /// What an entry changes, but for the number of entries.
-    fn change<N>(&mut self, alloc: Global, entry: &Entry<N>) -> Result<(), NoMemory>
-        requires opened { self.old.base.opened + 1 < 2 ^ 64 }
-        requires closed { self.old.base.closed + 1 < 2 ^ 64 }
-        requires scheduled { self.old.base.scheduled + 1 < 2 ^ 64 }
-        requires refused { self.old.base.refused + 1 < 2 ^ 64 }
-        requires due { (timer : ℕ) → entry.now ≡ Entry.Due timer → S.is_first_due self.old.base timer ≡ true }
-        ensures { (s : Summary) → Shows self.old s → IsSound s → IsSound (S.step s entry.now) → IsNext s entry.now → OnOk result (Shows self.new (record (S.step s entry.now) { entries = s.entries })) }
+    fn change<N>(&mut self, entry: &Entry<N>) -> Result<(), NoMemory>
+        requires opened { self.old.opened + 1 < 2 ^ 64 }
+        requires closed { self.old.closed + 1 < 2 ^ 64 }
+        requires scheduled { self.old.scheduled + 1 < 2 ^ 64 }
+        requires refused { self.old.refused + 1 < 2 ^ 64 }
+        requires due { (timer : ℕ) → entry.now ≡ Entry.Due timer → S.is_first_due self.old timer ≡ true }
+        ensures { IsSound self.old → IsNext self.old entry.now → OnOk result (self.new ≡ after self.old entry.now) }
     {
         match entry {
             Entry::Started { event } => self.start(*event),
-            _ => self.apply(alloc, entry),
+            _ => self.apply(entry),
         }
     }
 
     fn count(&mut self, entries: u64)
-        ensures { self.new ≡ record self.old { base = record self.old.base { entries = entries } } }
+        ensures { self.new ≡ record self.old { entries = entries } }
     {
         self.entries = entries;
     }
 
     /// Reads one more entry, which may follow.
-    pub fn step<N>(&mut self, alloc: Global, entry: &Entry<N>) -> Result<(), NoMemory>
-        requires small { IsSmall self.old.base }
-        requires due { (timer : ℕ) → entry.now ≡ Entry.Due timer → S.is_first_due self.old.base timer ≡ true }
-        ensures { (s : Summary) → Shows self.old s → IsSound s → IsSound (S.step s entry.now) → IsNext s entry.now → OnOk result (Shows self.new (S.step s entry.now)) }
+    pub fn step<N>(&mut self, entry: &Entry<N>) -> Result<(), NoMemory>
+        requires small { IsSmall self.old }
+        requires due { (timer : ℕ) → entry.now ≡ Entry.Due timer → S.is_first_due self.old timer ≡ true }
+        ensures { IsSound self.old → IsNext self.old entry.now → OnOk result (self.new ≡ S.step self.old entry.now) }
     {
         let entries = self.entries + 1;
-        self.change(alloc, entry)?;
+        self.change(entry)?;
         self.count(entries);
         Ok(())
     }

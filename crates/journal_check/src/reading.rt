@@ -79,7 +79,7 @@ fn read<N>(alloc: Global, journal: &[Entry<N>], most: u64) -> Result<(), CheckRe
         if !machine.may_follow(due, ready, entry, most) {
             return Err(CheckRefused::Illegal { at: k as u64 });
         }
-        machine.step(alloc, entry)?;
+        machine.step(entry)?;
         due = admits_due(entry);
         ready = admits_ready(entry);
     }

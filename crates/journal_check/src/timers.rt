@@ -1,19 +1,18 @@
 //! The armed timers, in the order in which they come due.
 
-ghost use Rattle.std.specs.Prelude.{◌≡◌, ◌<◌, ◌==◌, ◌&&◌, not, filter, true, false, [], OnOk, ℕ, List, Some, None, IfSome, Bool, slice_get};
+ghost use Rattle.std.specs.Prelude.{◌≡◌, ◌<◌, ◌≤◌, ◌==◌, ◌&&◌, not, filter, true, false, [], OnOk, ℕ, List, Some, None, IfSome, Bool, slice_get};
 ghost use Rattle.std.specs.List.{list_any, find};
 ghost use Rattle.std.specs.BTreeMap.{get};
 ghost use Rattle.std.specs.BTreeSet.{contains};
 ghost use Rattle.std.specs.Map.{values_of};
 ghost use Rattle.std.specs.Ordering.{nat_cmp};
-ghost use Rattle.std.specs.Option.{option_to_list};
 ghost use Rattle.reactor_journal.specs.Past as P;
 ghost use Rattle.reactor_summary.specs.Summary as S;
 ghost use Rattle.reactor_summary.specs.declared.parts.ArmedTimer.{ArmedTimer};
 ghost use Rattle.journal_check.specs.Index.{pair_cmp, IsIndexed, is_idle};
 
-use ev_types::{Handle, NoMemory, Upcall};
-use reactor_summary::{ArmedTimer, DueTimer, WaitingEvent};
+use ev_types::{Handle, NoMemory};
+use reactor_summary::{ArmedTimer, DueTimer};
 use std::alloc::Global;
 use std::collections::{BTreeMap, BTreeSet};
 use std::marker::Model;
@@ -180,25 +179,17 @@ impl Timers {
         }
     }
 
-    /// The event of the timer that comes due, if it is the first and its deadline is reached.
-    pub fn due_event(&self, event: u64, moment: u64, timer: u64) -> Option<WaitingEvent>
-        ensures { S.is_first moment timer self.now ≡ true → option_to_list result ≡ S.waiting_due event (find (λ a. a.timer == timer) self.now) }
+    /// The timer that comes due, if it is the first and its deadline is reached.
+    pub fn first_due(&self, moment: u64, timer: u64) -> Option<ArmedTimer>
+        ensures found { S.is_first moment timer self.now ≡ true → result ≡ find (λ a. a.timer == timer) self.now }
+        ensures reached { IfSome result (λ a. a.deadline ≤ moment) }
+        ensures number { IfSome result (λ a. a.timer ≡ timer) }
     {
         match self.first() {
             None => None,
             Some(a) => {
                 if a.timer == timer && a.deadline <= moment as u128 {
-                    let due = DueTimer {
-                        timer: a.timer,
-                        deadline: a.deadline as u64,
-                        every: a.every,
-                    };
-                    Some(WaitingEvent {
-                        event,
-                        handle: a.handle,
-                        upcall: Upcall::Timeout { timer: a.timer },
-                        due: Some(due),
-                    })
+                    Some(a)
                 } else {
                     None
                 }

@@ -1,29 +1,26 @@
-use Rattle.std.proofs.Common.{◌≡◌, ◌+◌, ◌^◌, ◌<◌, ◌∷◌, ℕ, true, false, take, length, Err, sym, ap, ◌∙◌, subst, arith}
-use Rattle.std.proofs.lemmas.Bool.{and_from}
+use Rattle.std.proofs.Common.{◌≡◌, ◌+◌, ◌^◌, ◌<◌, ℕ, true, false, take, length, Err, sym, ap, ◌∙◌, subst, arith}
 use Rattle.std.specs.declared.result.Result.{Result}
 use Rattle.reactor_journal.specs.Past.{past_of}
 use Rattle.reactor_journal.specs.Follow as F
 use Rattle.reactor_journal.specs.Follow.{is_legal}
 use Rattle.reactor_summary.specs.Summary as S
-use Rattle.reactor_summary.specs.Summary.{Summary, summary}
 use Rattle.journal_check.specs.declared.reading.CheckRefused.{CheckRefused}
 use Rattle.journal_check.specs.declared.reading.CheckRefused.TheVariants.{Illegal}
-use Rattle.journal_check.specs.Lanes.{Shows}
 use Rattle.journal_check.specs.Refusal.{RefusesAt}
-use Rattle.journal_check.proofs.Checking.{length-past, says_follow, says_first, says_next, small_base, sound, read_none, read_more, refused_at}
+use Rattle.journal_check.proofs.Checking.{length-past, says_follow, says_first, says_next, small_base, read_sound, read_none, read_more, refused_at}
 use Rattle.journal_check.proofs.reading.read.Goals as goal
 
 same_place : (k at : ℕ) → ◌≡◌ {A = Result (Unit {0}) CheckRefused} (Err (Illegal k)) (Err (Illegal at)) → k ≡ at
 same_place k at q = cc
 
 pub loop-k-init : goal.loop-k-init
-loop-k-init g c = read_none c.args.most c.new-machine.result c.new-machine.ensures.base c.new-machine.ensures.queues
+loop-k-init g c = read_none c.args.most c.new-machine.result c.new-machine.ensures
 
 pub returns-then-not-may_follow-clause-illegal : goal.returns-then-not-may_follow-clause-illegal
 returns-then-not-may_follow-clause-illegal g c at q =
     let may : F.may_follow c.args.most (past_of (take c.loop-k.k c.args.journal.now)) c.index-journal-k.result ≡ false =
     sym (says_follow c.args.most (past_of (take c.loop-k.k c.args.journal.now)) c.loop-k.machine c.loop-k.due c.loop-k.ready c.index-journal-k.result c.loop-k.invariant)
-    ∙ (sym (c.may_follow.ensures (summary (past_of (take c.loop-k.k c.args.journal.now))) c.loop-k.invariant.shows (sound c.args.most (past_of (take c.loop-k.k c.args.journal.now)) c.loop-k.invariant.legal)) ∙ c.if-not-may_follow.true)
+    ∙ (sym (c.may_follow.ensures (read_sound c.args.most (past_of (take c.loop-k.k c.args.journal.now)) c.loop-k.machine c.loop-k.due c.loop-k.ready c.loop-k.invariant)) ∙ c.if-not-may_follow.true)
     in
     subst (RefusesAt c.args.journal.now c.args.most) (same_place c.loop-k.k at q)
     (refused_at c.args.journal.now c.args.most c.loop-k.k c.index-journal-k.result c.loop-k-test.true c.loop-k.invariant.legal
@@ -39,7 +36,7 @@ pub step-requires-clause-due : goal.step-requires-clause-due
 step-requires-clause-due g c timer is =
     let may : F.may_follow c.args.most (past_of (take c.loop-k.k c.args.journal.now)) c.index-journal-k.result ≡ true =
     sym (says_follow c.args.most (past_of (take c.loop-k.k c.args.journal.now)) c.loop-k.machine c.loop-k.due c.loop-k.ready c.index-journal-k.result c.loop-k.invariant)
-    ∙ (sym (c.may_follow.ensures (summary (past_of (take c.loop-k.k c.args.journal.now))) c.loop-k.invariant.shows (sound c.args.most (past_of (take c.loop-k.k c.args.journal.now)) c.loop-k.invariant.legal)) ∙ c.if-not-may_follow.false)
+    ∙ (sym (c.may_follow.ensures (read_sound c.args.most (past_of (take c.loop-k.k c.args.journal.now)) c.loop-k.machine c.loop-k.due c.loop-k.ready c.loop-k.invariant)) ∙ c.if-not-may_follow.false)
     in
     says_first c.args.most (past_of (take c.loop-k.k c.args.journal.now)) c.loop-k.machine c.loop-k.due c.loop-k.ready c.index-journal-k.result timer c.loop-k.invariant may is
 
@@ -48,12 +45,11 @@ loop-k-preserved g c =
     let legal : is_legal c.args.most (past_of (take c.loop-k.k c.args.journal.now)) ≡ true = c.loop-k.invariant.legal in
     let may : F.may_follow c.args.most (past_of (take c.loop-k.k c.args.journal.now)) c.index-journal-k.result ≡ true =
     sym (says_follow c.args.most (past_of (take c.loop-k.k c.args.journal.now)) c.loop-k.machine c.loop-k.due c.loop-k.ready c.index-journal-k.result c.loop-k.invariant)
-    ∙ (sym (c.may_follow.ensures (summary (past_of (take c.loop-k.k c.args.journal.now))) c.loop-k.invariant.shows (sound c.args.most (past_of (take c.loop-k.k c.args.journal.now)) c.loop-k.invariant.legal)) ∙ c.if-not-may_follow.false)
+    ∙ (sym (c.may_follow.ensures (read_sound c.args.most (past_of (take c.loop-k.k c.args.journal.now)) c.loop-k.machine c.loop-k.due c.loop-k.ready c.loop-k.invariant)) ∙ c.if-not-may_follow.false)
     in
-    let stepped : Shows c.step.new.self (S.step (summary (past_of (take c.loop-k.k c.args.journal.now))) c.index-journal-k.result) =
-    c.in_ok-step.ensures (summary (past_of (take c.loop-k.k c.args.journal.now))) c.loop-k.invariant.shows (sound c.args.most (past_of (take c.loop-k.k c.args.journal.now)) c.loop-k.invariant.legal)
-    (sound c.args.most (c.index-journal-k.result ∷ past_of (take c.loop-k.k c.args.journal.now)) (and_from (F.may_follow c.args.most (past_of (take c.loop-k.k c.args.journal.now)) c.index-journal-k.result) (is_legal c.args.most (past_of (take c.loop-k.k c.args.journal.now))) may legal))
-    (says_next c.args.most (past_of (take c.loop-k.k c.args.journal.now)) c.index-journal-k.result legal may)
+    let stepped : c.step.new.self ≡ S.step c.loop-k.machine c.index-journal-k.result =
+    c.in_ok-step.ensures (read_sound c.args.most (past_of (take c.loop-k.k c.args.journal.now)) c.loop-k.machine c.loop-k.due c.loop-k.ready c.loop-k.invariant)
+    (says_next c.args.most (past_of (take c.loop-k.k c.args.journal.now)) c.index-journal-k.result legal may c.loop-k.machine c.loop-k.invariant.is)
     in
     read_more c.args.most c.args.journal.now c.loop-k.k c.index-journal-k.result c.loop-k.machine c.step.new.self c.loop-k.due c.loop-k.ready c.loop-k-test.true c.index-journal-k.is c.loop-k.invariant may stepped
     c.admits_due-due.result c.admits_ready-ready.result c.admits_due-due.ensures c.admits_ready-ready.ensures

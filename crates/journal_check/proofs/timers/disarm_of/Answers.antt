@@ -1,11 +1,11 @@
-use Rattle.std.proofs.Common.{ℕ, ◌≡◌, ◌==◌, Bool, List, None, Some, sym, ap, ◌∙◌, subst}
+use Rattle.std.proofs.Common.{ℕ, ◌≡◌, ◌==◌, List, Some, sym, ap, ◌∙◌, subst}
 use Rattle.std.specs.BTreeMap.{get, is_at}
 use Rattle.std.specs.Map.{values_of, lookup}
 use Rattle.std.specs.Ordering.{nat_cmp}
 use Rattle.reactor_summary.specs.declared.parts.ArmedTimer.{ArmedTimer}
 use Rattle.journal_check.specs.Index.{pair_cmp, IsIndexed, IsArmedAt}
-use Rattle.journal_check.proofs.Keyed.{values_removed, each_removed}
-use Rattle.journal_check.proofs.Timed.{of_both, led_agrees, unled_none, filter_all, both_same, both_none, none_of_both}
+use Rattle.journal_check.proofs.Keyed.{values_removed, each_removed, filter_all}
+use Rattle.journal_check.proofs.Timed.{of_both, led_agrees, unled_none, both_same, both_none, none_of_both}
 use Rattle.journal_check.proofs.timers.disarm_of.Goals as goal
 
 pub returns-then-a-handle-clause-gone : goal.returns-then-a-handle-clause-gone

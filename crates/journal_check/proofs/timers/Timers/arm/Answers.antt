@@ -1,7 +1,7 @@
-use Rattle.std.proofs.Common.{◌≡◌, ◌==◌, ap, ◌∙◌}
+use Rattle.std.proofs.Common.{◌==◌, ap, ◌∙◌}
 use Rattle.std.specs.List.{list_any}
 use Rattle.reactor_summary.specs.declared.parts.ArmedTimer.{ArmedTimer}
-use Rattle.journal_check.proofs.Timed.{none_left}
+use Rattle.journal_check.proofs.Keyed.{none_left}
 use Rattle.journal_check.proofs.timers.Timers.arm.Goals as goal
 
 pub insert-requires : goal.insert-requires

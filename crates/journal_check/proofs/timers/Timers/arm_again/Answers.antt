@@ -1,12 +1,11 @@
-use Rattle.std.proofs.Common.{ℕ, ◌≡◌, ◌==◌, true, false, Option, Some, sym, ap, ◌∙◌, subst}
+use Rattle.std.proofs.Common.{ℕ, ◌≡◌, ◌==◌, true, false, Option, sym, ap, ◌∙◌, subst}
 use Rattle.std.proofs.lemmas.Bool.{not-true, cond-false, ne_eqb}
 use Rattle.std.specs.List.{list_any}
 use Rattle.reactor_summary.specs.Summary as S
 use Rattle.reactor_summary.specs.declared.parts.ArmedTimer.{ArmedTimer}
 use Rattle.reactor_summary.specs.declared.parts.DueTimer.{DueTimer}
 use Rattle.journal_check.specs.Index.{is_idle}
-use Rattle.journal_check.proofs.Keyed.{on_ok}
-use Rattle.journal_check.proofs.Timed.{filter_all}
+use Rattle.journal_check.proofs.Keyed.{on_ok, filter_all}
 use Rattle.journal_check.proofs.timers.Timers.arm_again.Goals as goal
 
 pub returns-else-due-eq0 : goal.returns-else-due-eq0

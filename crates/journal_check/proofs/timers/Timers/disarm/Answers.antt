@@ -1,4 +1,4 @@
-use Rattle.std.proofs.Common.{ℕ, ◌≡◌, ◌==◌, false, List, None, Some, sym, ap, ◌∙◌, subst}
+use Rattle.std.proofs.Common.{ℕ, ◌≡◌, ◌==◌, false, List, Some, sym, ap, ◌∙◌, subst}
 use Rattle.std.specs.BTreeMap.{get, is_at}
 use Rattle.std.specs.BTreeSet.{contains}
 use Rattle.std.specs.List.{list_any}
@@ -7,8 +7,8 @@ use Rattle.std.specs.Ordering.{nat_cmp}
 use Rattle.reactor_summary.specs.Summary as S
 use Rattle.reactor_summary.specs.declared.parts.ArmedTimer.{ArmedTimer}
 use Rattle.journal_check.specs.Index.{pair_cmp, IsIndexed, IsArmedAt}
-use Rattle.journal_check.proofs.Keyed.{values_removed, each_removed}
-use Rattle.journal_check.proofs.Timed.{led_agrees, unled_none, filter_all}
+use Rattle.journal_check.proofs.Keyed.{values_removed, each_removed, filter_all}
+use Rattle.journal_check.proofs.Timed.{led_agrees, unled_none}
 use Rattle.journal_check.proofs.timers.Timers.disarm.Goals as goal
 
 pub invariant_of-self : goal.invariant_of-self
