@@ -1,11 +1,10 @@
 -- Steps of the check.
-use Rattle.std.proofs.Common.{ℕ, zero, suc, ◌≡◌, ◌+◌, ◌^◌, ◌<◌, ◌≤◌, Bool, true, false, not, option_map, List, [], ◌∷◌, ◌++◌, length, take, drop, take-append-drop, get_or, refl, sym, ap, ◌∙◌, subst, arith, cond, Option, Some, None, ⊎_elim, inl, inr}
-use Rattle.std.proofs.lemmas.Bool.{false_from_ne_true, and_parts, and_from, eqb-true, both_ways, cases_Bool, cases_order, cond-true, cond-false}
+use Rattle.std.proofs.Common.{ℕ, suc, ◌≡◌, ◌+◌, ◌^◌, ◌<◌, ◌≤◌, Bool, true, false, not, option_map, List, [], ◌∷◌, ◌++◌, length, take, drop, take-append-drop, get_or, refl, sym, ap, ◌∙◌, subst, arith, cond, Option, Some, None, ⊎_elim, inl, inr}
+use Rattle.std.proofs.lemmas.Bool.{false≢true, eq-eqb, false_from_ne_true, and_parts, and_from, eqb-true, both_ways, cases_Bool, cases_order, cond-true, cond-false}
 use Rattle.std.proofs.lemmas.List.{take-take, length-reverse, length-take-le}
-use Rattle.std.specs.Option.{option_to_list}
 use Rattle.std.specs.Prelude.{Ok, Err, OnOk}
 use Rattle.std.specs.declared.result.Result.{Result}
-use Rattle.reactor_journal.specs.Event.{Event}
+use Rattle.reactor_journal.specs.Event.{Event, Timer}
 use Rattle.reactor_journal.specs.declared.entry.Entry.{Entry}
 use Rattle.reactor_journal.specs.declared.entry.Entry.TheVariants.{Opened, Scheduled, Due, Started}
 use Rattle.reactor_journal.specs.Past as P
@@ -14,6 +13,7 @@ use Rattle.reactor_journal.specs.Follow as F
 use Rattle.reactor_journal.specs.Follow.{is_legal, Legal}
 use Rattle.reactor_journal.proofs.Basics.{may_fits}
 use Rattle.reactor_journal.proofs.Armed.{armed_known, due_timers}
+use Rattle.reactor_journal.proofs.Timers.{timeout_owned}
 use Rattle.reactor_journal.proofs.Turning.{past_more, Legal-front}
 use Rattle.reactor_summary.specs.declared.parts.WaitingEvent.{WaitingEvent}
 use Rattle.reactor_summary.specs.Summary as S
@@ -21,7 +21,6 @@ use Rattle.reactor_summary.specs.Summary.{Summary, summary}
 use Rattle.reactor_summary.specs.Tells as T
 use Rattle.reactor_summary.specs.Tells.{Tells, Each, listed}
 use Rattle.reactor_summary.specs.Rules as R
-use Rattle.reactor_summary.proofs.Lists.{each_append}
 use Rattle.reactor_summary.proofs.Told.{told}
 use Rattle.reactor_summary.proofs.Reading.{first_due_is, armed_is, waiting_some}
 use Rattle.reactor_summary.proofs.Picks.{pick_is}
@@ -31,7 +30,9 @@ use Rattle.journal_check.specs.declared.reading.CheckRefused.TheVariants.{Illega
 use Rattle.journal_check.specs.Small.{IsSmall}
 use Rattle.journal_check.specs.Index.{is_idle}
 use Rattle.journal_check.specs.Next.{IsNext}
+use Rattle.journal_check.specs.Fronts.{IsUpToDate}
 use Rattle.journal_check.specs.Sound.{IsSound}
+use Rattle.journal_check.proofs.Best.{each_listed}
 use Rattle.journal_check.specs.Refusal.{RefusesAt, IsUnlessNoMemory}
 
 -- ---- the numbers of a summary are small
@@ -65,14 +66,6 @@ length-past journal k h = length-reverse (take k journal) ∙ length-take-le k j
 
 -- ---- the waiting events of a legal journal
 
-each_listed : {A : Type 0} (Q : A → Type 0) (f : ℕ → Option A) (n : ℕ) → ((k : ℕ) (a : A) → k < n → f k ≡ Some a → Q a) → Each Q (listed f n)
-each_listed Q f zero h = tt
-each_listed {A} Q f (suc n) h = each_append Q (listed f n) (option_to_list (f n)) (each_listed Q f n (λ k a lt is. h k a (omega arith) is)) (last (f n) refl)
-  where
-    last : (o : Option A) → f n ≡ o → Each Q (option_to_list o)
-    last None q = tt
-    last (Some a) q = (h n a (omega arith) q, tt)
-
 -- the timer of a timeout that waits is not armed
 waiting_idle : {N : Type 0} (most : ℕ) (past : List (Entry N)) (k : ℕ) (w : WaitingEvent) → is_legal most past ≡ true → T.waiting_event past k ≡ Some w → is_idle w.due (summary past).armed ≡ true
 waiting_idle {N} most past k w legal is =
@@ -82,6 +75,19 @@ waiting_idle {N} most past k w legal is =
     by_due : P.is_waiting past k ≡ true → (due : Option ℕ) → P.due_at past k ≡ due → is_idle (option_map (T.due_timer past) due) (summary past).armed ≡ true
     by_due waits None q = refl
     by_due waits (Some t) q = ap not (armed_is past (summary past) t (told most past legal) ∙ (due_timers most past legal).idle k t waits q)
+
+-- a timeout is of the handle of its timer
+timeout_handle : {N : Type 0} (most : ℕ) (past : List (Entry N)) (n k : ℕ) (w : WaitingEvent) → is_legal most past ≡ true → T.waiting_event past k ≡ Some w → P.is_timeout_of n w.upcall ≡ true → w.handle.0 ≡ T.owner (P.timer_of past n)
+timeout_handle most past n k w legal is h =
+    let v : (ev : Event) × (P.is_waiting past k ≡ true) × (P.event_at past k ≡ Some ev) × (T.as_waiting past k ev ≡ w) = waiting_some past k w is in
+    let timeout : P.is_timeout_of n v.0.upcall ≡ true = ap (λ (a : WaitingEvent). P.is_timeout_of n a.upcall) v.3 ∙ h in
+    let own : (x : ℕ) → P.belongs_to x (P.event_at past k) ≡ P.is_timer_of x (P.timer_of past n) = timeout_owned most past n legal k (ap (F.is_timeout_event n) v.2 ∙ timeout) in
+    let mine : P.is_timer_of v.0.handle (P.timer_of past n) ≡ true = sym (own v.0.handle) ∙ (ap (P.belongs_to v.0.handle) v.2 ∙ eq-eqb v.0.handle v.0.handle refl) in
+    ap (λ (a : WaitingEvent). a.handle.0) (sym v.3) ∙ owner_of v.0.handle (P.timer_of past n) mine
+  where
+    owner_of : (x : ℕ) (timer : Option Timer) → P.is_timer_of x timer ≡ true → x ≡ T.owner timer
+    owner_of x None q = absurd (false≢true q)
+    owner_of x (Some timer) q = sym (eqb-true timer.handle x q)
 
 pub sound : {N : Type 0} (most : ℕ) (past : List (Entry N)) → is_legal most past ≡ true → IsSound (summary past)
 sound most past legal =
@@ -105,38 +111,50 @@ sound most past legal =
           let known : n < P.scheduled past = armed_known most past n legal (sym (armed_is past s n t) ∙ h) in
           let number : (summary past).scheduled ≡ P.scheduled past = t.scheduled in
           omega arith);
+      owned = λ n. record {
+        owner = T.owner (P.timer_of past n);
+        mine = subst (Each (λ (w : WaitingEvent). P.is_timeout_of n w.upcall ≡ true → w.handle.0 ≡ T.owner (P.timer_of past n))) (sym t.waiting)
+            (each_listed (λ (w : WaitingEvent). P.is_timeout_of n w.upcall ≡ true → w.handle.0 ≡ T.owner (P.timer_of past n)) (T.waiting_event past) (length past) (λ k w lt is. timeout_handle most past n k w legal is));
+      };
+      opened = T.open_event past;
+      opens = t.opens;
     }
 
 -- ---- what the check knows of the first entries
 
-pub record Read {N : Type 0} (most : ℕ) (past : List (Entry N)) (machine : Summary) (due ready : Bool) : Type 0 where
+pub record Read {N : Type 0} (most : ℕ) (past : List (Entry N)) (machine : Summary) (fronts : ℕ × ℕ → Bool) (closing : ℕ → Bool) (due ready : Bool) : Type 0 where
   pub legal : is_legal most past ≡ true
   pub is : machine ≡ summary past
+  pub index : IsUpToDate machine fronts closing
   pub follows_due : due ≡ F.follows_due past
   pub follows_ready : ready ≡ F.follows_ready past
 
-pub read_none : {N : Type 0} (most : ℕ) (machine : Summary) → machine ≡ S.nothing → Read {N = N} most [] machine false false
-read_none most machine q = record { legal = refl; is = q; follows_due = refl; follows_ready = refl }
+pub read_none : {N : Type 0} (most : ℕ) (machine : Summary) (fronts : ℕ × ℕ → Bool) (closing : ℕ → Bool) → machine ≡ S.nothing → IsUpToDate machine fronts closing → Read {N = N} most [] machine fronts closing false false
+read_none most machine fronts closing q u = record { legal = refl; is = q; index = u; follows_due = refl; follows_ready = refl }
 
-pub read_sound : {N : Type 0} (most : ℕ) (past : List (Entry N)) (machine : Summary) (due ready : Bool) → Read most past machine due ready → IsSound machine
-read_sound most past machine due ready r = subst IsSound (sym r.is) (sound most past r.legal)
+pub read_sound : {N : Type 0} (most : ℕ) (past : List (Entry N)) (machine : Summary) → is_legal most past ≡ true → machine ≡ summary past → IsSound machine
+read_sound most past machine legal q = subst IsSound (sym q) (sound most past legal)
+
+-- and of the summary after one more
+pub next_sound : {N : Type 0} (most : ℕ) (past : List (Entry N)) (e : Entry N) (machine : Summary) → is_legal most past ≡ true → machine ≡ summary past → F.may_follow most past e ≡ true → IsSound (S.step machine e)
+next_sound most past e machine legal q may = subst (λ (s : Summary). IsSound (S.step s e)) (sym q) (sound most (e ∷ past) (and_from _ _ may legal))
 
 -- what the machine says of the next entry
-pub says_follow : {N : Type 0} (most : ℕ) (past : List (Entry N)) (machine : Summary) (due ready : Bool) (e : Entry N) → Read most past machine due ready → R.may_follow most due ready machine e ≡ F.may_follow most past e
-says_follow most past machine due ready e r =
+pub says_follow : {N : Type 0} (most : ℕ) (past : List (Entry N)) (machine : Summary) (fronts : ℕ × ℕ → Bool) (closing : ℕ → Bool) (due ready : Bool) (e : Entry N) → Read most past machine fronts closing due ready → R.may_follow most due ready machine e ≡ F.may_follow most past e
+says_follow most past machine fronts closing due ready e r =
     ap (λ b. R.may_follow most b ready machine e) r.follows_due
     ∙ (ap (λ b. R.may_follow most (F.follows_due past) b machine e) r.follows_ready
     ∙ (ap (λ (s : Summary). R.may_follow most (F.follows_due past) (F.follows_ready past) s e) r.is
     ∙ may_follow_is most past (summary past) e r.legal (told most past r.legal)))
 
-pub small_base : {N : Type 0} (most : ℕ) (past : List (Entry N)) (machine : Summary) (due ready : Bool) → Read most past machine due ready → length past + 1 < 2 ^ 64 → IsSmall machine
-small_base most past machine due ready r h = subst IsSmall (sym r.is) (small most past r.legal h)
+pub small_base : {N : Type 0} (most : ℕ) (past : List (Entry N)) (machine : Summary) → is_legal most past ≡ true → machine ≡ summary past → length past + 1 < 2 ^ 64 → IsSmall machine
+small_base most past machine legal q h = subst IsSmall (sym q) (small most past legal h)
 
-pub says_first : {N : Type 0} (most : ℕ) (past : List (Entry N)) (machine : Summary) (due ready : Bool) (e : Entry N) (timer : ℕ) → Read most past machine due ready → F.may_follow most past e ≡ true → e ≡ Due timer → S.is_first_due machine timer ≡ true
-says_first {N} most past machine due ready e timer r may is =
+pub says_first : {N : Type 0} (most : ℕ) (past : List (Entry N)) (machine : Summary) (e : Entry N) (timer : ℕ) → machine ≡ summary past → is_legal most past ≡ true → F.may_follow most past e ≡ true → e ≡ Due timer → S.is_first_due machine timer ≡ true
+says_first {N} most past machine e timer q legal may is =
     let now_due : F.may_follow most past (Due timer) ≡ true = subst (λ (d : Entry N). F.may_follow most past d ≡ true) is may in
-    ap (λ (s : Summary). S.is_first_due s timer) r.is
-    ∙ (first_due_is past (summary past) timer (told most past r.legal) ∙ (and_parts (F.follows_due past) _ (may_fits most past (Due timer) now_due)).1)
+    ap (λ (s : Summary). S.is_first_due s timer) q
+    ∙ (first_due_is past (summary past) timer (told most past legal) ∙ (and_parts (F.follows_due past) _ (may_fits most past (Due timer) now_due)).1)
 
 -- what the rules say of an entry that may follow
 pub says_next : {N : Type 0} (most : ℕ) (past : List (Entry N)) (e : Entry N) → is_legal most past ≡ true → F.may_follow most past e ≡ true → (machine : Summary) → machine ≡ summary past → IsNext machine e
@@ -153,16 +171,17 @@ says_next {N} most past e legal may machine q =
     fits d is = may_fits most past d (subst (λ (c : Entry N). F.may_follow most past c ≡ true) is may)
 
 -- one more entry
-pub read_more : {N : Type 0} (most : ℕ) (journal : List (Entry N)) (k : ℕ) (e : Entry N) (machine later : Summary) (due ready : Bool) → k < length journal → e ≡ get_or journal k e → Read most (past_of (take k journal)) machine due ready
-    → F.may_follow most (past_of (take k journal)) e ≡ true → later ≡ S.step machine e
+pub read_more : {N : Type 0} (most : ℕ) (journal : List (Entry N)) (k : ℕ) (e : Entry N) (machine later : Summary) (fronts fronts_then : ℕ × ℕ → Bool) (closing closing_then : ℕ → Bool) (due ready : Bool) → k < length journal → e ≡ get_or journal k e → Read most (past_of (take k journal)) machine fronts closing due ready
+    → F.may_follow most (past_of (take k journal)) e ≡ true → later ≡ S.step machine e → IsUpToDate later fronts_then closing_then
     → (now_due now_ready : Bool) → ((past : List (Entry N)) → now_due ≡ F.follows_due (e ∷ past)) → ((past : List (Entry N)) → now_ready ≡ F.follows_ready (e ∷ past))
-    → Read most (past_of (take (k + 1) journal)) later now_due now_ready
-read_more {N} most journal k e machine later due ready lt is r may stepped now_due now_ready hd hr =
+    → Read most (past_of (take (k + 1) journal)) later fronts_then closing_then now_due now_ready
+read_more {N} most journal k e machine later fronts fronts_then closing closing_then due ready lt is r may stepped index now_due now_ready hd hr =
     let more : past_of (take (k + 1) journal) ≡ e ∷ past_of (take k journal) = past_more journal k e lt ∙ ap (λ (d : Entry N). d ∷ past_of (take k journal)) (sym is) in
-    subst (λ (p : List (Entry N)). Read most p later now_due now_ready) (sym more)
+    subst (λ (p : List (Entry N)). Read most p later fronts_then closing_then now_due now_ready) (sym more)
     (record {
       legal = and_from (F.may_follow most (past_of (take k journal)) e) (is_legal most (past_of (take k journal))) may r.legal;
       is = stepped ∙ ap (λ (s : Summary). S.step s e) r.is;
+      index = index;
       follows_due = hd (past_of (take k journal));
       follows_ready = hr (past_of (take k journal));
     })

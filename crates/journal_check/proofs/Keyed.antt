@@ -1,6 +1,6 @@
 -- A map of std as the list of its values, where a test of the values tells a key.
-use Rattle.std.proofs.Common.{◌≡◌, Bool, true, false, not, ◌||◌, List, [], ◌∷◌, refl, sym, ap, ◌∙◌, subst, cond, Option, Some, None, is_some, ⊎_elim}
-use Rattle.std.proofs.lemmas.Bool.{false≢true, cases_Bool, cond-true, cond-false, or_cases, or_left, or_right, or_parts, or_from}
+use Rattle.std.proofs.Common.{◌<◌, length, arith, ◌≡◌, Bool, true, false, not, ◌||◌, List, [], ◌∷◌, refl, sym, ap, ◌∙◌, subst, cond, Option, Some, None, is_some, ⊎_elim}
+use Rattle.std.proofs.lemmas.Bool.{false≢true, both_ways, cases_Bool, cond-true, cond-false, or_cases, or_left, or_right, or_parts, or_from}
 use Rattle.std.specs.BTreeMap.{insert_entry}
 use Rattle.std.specs.List.{filter, find, list_any}
 use Rattle.std.specs.Map.{values_of, lookup, remove_entry}
@@ -165,3 +165,30 @@ if_some (Some a) h f = f a h
 pub any_none : {A : Type 0} (p : A → Bool) (xs : List A) → ((a : A) → p a ≡ false) → list_any p xs ≡ false
 any_none p [] h = refl
 any_none p (x ∷ xs) h = or_from (p x) (list_any p xs) (h x) (any_none p xs h)
+
+pub find_none : {A : Type 0} (p : A → Bool) (xs : List A) → list_any p xs ≡ false → find p xs ≡ None
+find_none p [] h = refl
+find_none p (x ∷ xs) h =
+    let both : (p x ≡ false) × (list_any p xs ≡ false) = or_parts (p x) (list_any p xs) h in
+    cond-false (p x) (Some x) (find p xs) both.0 ∙ find_none p xs both.1
+
+pub find_some : {A : Type 0} (p : A → Bool) (xs : List A) → list_any p xs ≡ true → (a : A) × (find p xs ≡ Some a)
+find_some p [] h = absurd (false≢true h)
+find_some {A} p (x ∷ xs) h =
+    ⊎_elim
+    (λ (t : p x ≡ true). (x, cond-true (p x) (Some x) (find p xs) t))
+    (λ (f : p x ≡ false).
+    let r : (a : A) × (find p xs ≡ Some a) = find_some p xs (⊎_elim (λ (t : p x ≡ true). absurd (both_ways (p x) f t)) (λ (t : list_any p xs ≡ true). t) (or_cases (p x) (list_any p xs) h)) in
+    (r.0, cond-false (p x) (Some x) (find p xs) f ∙ r.1))
+    (cases_Bool (p x))
+
+-- no element passes a test
+pub each_none : {A : Type 0} (p : A → Bool) (xs : List A) → list_any p xs ≡ false → Each (λ a. p a ≡ false) xs
+each_none p [] h = tt
+each_none p (x ∷ xs) h =
+    let both : (p x ≡ false) × (list_any p xs ≡ false) = or_parts (p x) (list_any p xs) h in
+    (both.0, each_none p xs both.1)
+
+pub empty_none : {A : Type 0} (p : A → Bool) (xs : List A) → (0 < length xs → ⊥) → list_any p xs ≡ false
+empty_none p [] h = refl
+empty_none p (x ∷ xs) h = absurd (h (omega arith))

@@ -4,5 +4,7 @@ pub mod Keyed
 pub mod Timed
 pub mod Queue
 pub mod Best
+pub mod Fronts
+pub mod Upkeep
 pub mod Picked
 pub mod Checking

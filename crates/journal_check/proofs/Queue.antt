@@ -188,7 +188,7 @@ pub record Before (m e n j : ℕ) : Type 0 where
   pub first : m ≤ n
   pub second : m ≡ n → e ≤ j
 
-pair_before : (m e n j : ℕ) → is_gt (pair_cmp (m, e) (n, j)) ≡ false → Before m e n j
+pub pair_before : (m e n j : ℕ) → is_gt (pair_cmp (m, e) (n, j)) ≡ false → Before m e n j
 pair_before m e n j h = record { first = first; second = second }
   where
     first : m ≤ n
@@ -227,7 +227,7 @@ IsOwn e = e.0 ≡ e.1.event
 pub own_agrees : (i : ℕ) (es : List (ℕ × WaitingEvent)) → Each IsOwn es → Agrees (is_at (nat_cmp i)) (λ (w : WaitingEvent). i == w.event) es
 own_agrees i es h = each_same IsOwn (λ (e : ℕ × WaitingEvent). (i == e.1.event) ≡ is_at (nat_cmp i) e.0) es (λ e q. num_test i e.1.event ∙ ap (λ (n : ℕ). is_eq (nat_cmp i n)) (sym q)) h
 
-own_agrees_back : (i : ℕ) (es : List (ℕ × WaitingEvent)) → Each IsOwn es → Agrees (is_at (nat_cmp i)) (λ (w : WaitingEvent). w.event == i) es
+pub own_agrees_back : (i : ℕ) (es : List (ℕ × WaitingEvent)) → Each IsOwn es → Agrees (is_at (nat_cmp i)) (λ (w : WaitingEvent). w.event == i) es
 own_agrees_back i es h = each_same IsOwn (λ (e : ℕ × WaitingEvent). (e.1.event == i) ≡ is_at (nat_cmp i) e.0) es (λ e q. num_back i e.1.event ∙ ap (λ (n : ℕ). is_eq (nat_cmp i n)) (sym q)) h
 
 sorted_none : (k : ℕ) (es : List (ℕ × WaitingEvent)) → AllByRecursion (λ y. nat_cmp k y ≡ Less) (keys_of es) → NonePasses (is_at (nat_cmp k)) es

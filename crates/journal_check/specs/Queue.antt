@@ -6,7 +6,7 @@ use Rattle.std.specs.Map.{keys_of, values_of}
 use Rattle.std.specs.Ordering.{nat_cmp, is_eq, is_gt}
 use Rattle.ev_types.specs.declared.upcall.Upcall.{Upcall}
 use Rattle.ev_types.specs.declared.upcall.Upcall.TheVariants.{Timeout}
-use Rattle.reactor_journal.specs.Past.{class_of}
+use Rattle.reactor_journal.specs.Past.{class_of, is_timeout_of}
 use Rattle.reactor_summary.specs.declared.parts.WaitingEvent.{WaitingEvent}
 use Rattle.reactor_summary.specs.Tells.{Each}
 use Rattle.journal_check.specs.Index.{pair_cmp}
@@ -79,3 +79,8 @@ Gains (Some n) i has later = (q : ℕ × ℕ) → later q ≡ (if is_eq (pair_cm
 abbrev pub Loses : Option ℕ → ℕ → (ℕ × ℕ → Bool) → (ℕ × ℕ → Bool) → Type 0
 Loses None i has later = (q : ℕ × ℕ) → later q ≡ has q
 Loses (Some n) i has later = (q : ℕ × ℕ) → later q ≡ (if is_eq (pair_cmp (n, i) q) then false else has q)
+
+-- the timeouts of a timer are of one handle
+pub record IsOwned (timer : ℕ) (xs : List WaitingEvent) : Type 0 where
+  pub owner : ℕ
+  pub mine : Each (λ w. is_timeout_of timer w.upcall ≡ true → w.handle.0 ≡ owner) xs

@@ -1,12 +1,11 @@
-//! The events that wait or are open.
+//! The open events.
 
-ghost use Rattle.std.specs.Prelude.{◌≡◌, ◌==◌, ◌&&◌, ◌||◌, nat_lt, nat_le, not, filter};
+ghost use Rattle.std.specs.Prelude.{◌≡◌, ◌==◌, not, filter, option_map};
 ghost use Rattle.std.specs.List.{list_any, find};
-ghost use Rattle.journal_check.specs.Queue as Q;
-ghost use Rattle.journal_check.specs.Sound as L;
+ghost use Rattle.journal_check.specs.Fronts as K;
 
-use crate::words::class_of;
-use reactor_summary::{OpenEvent, WaitingEvent};
+use ev_types::Handle;
+use reactor_summary::OpenEvent;
 
 /// Whether the event is open.
 pub fn is_open(opens: &[OpenEvent], event: u64) -> bool
@@ -35,20 +34,12 @@ pub fn settle(opens: &mut Vec<OpenEvent>, event: u64)
     opens.retain(|o| event != o.event);
 }
 
-/// The one of two events that goes first: by class, and in one class by number.
-pub fn first_of(a: Option<WaitingEvent>, b: Option<WaitingEvent>) -> Option<WaitingEvent>
-    ensures { result ≡ L.first_of a b }
+/// The handle of the event, if it is open.
+pub fn handle_of(opens: &[OpenEvent], event: u64) -> Option<Handle>
+    ensures { result ≡ option_map K.open_handle (find (λ o. o.event == event) opens.now) }
 {
-    match (a, b) {
-        (None, other) => other,
-        (Some(a), None) => Some(a),
-        (Some(a), Some(b)) => { if goes_first(&a, &b) { Some(a) } else { Some(b) } }
+    match find_open(opens, event) {
+        None => None,
+        Some(o) => Some(o.handle),
     }
-}
-
-fn goes_first(a: &WaitingEvent, b: &WaitingEvent) -> bool
-    ensures { result ≡ Q.goes_first a.now b.now }
-{
-    class_of(a.upcall) < class_of(b.upcall)
-        || (class_of(a.upcall) == class_of(b.upcall) && a.event <= b.event)
 }

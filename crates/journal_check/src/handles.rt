@@ -55,15 +55,6 @@ pub fn is_over(handles: &[LiveHandle], handle: Handle) -> bool
     handles.iter().any(|h| h.handle.0 == handle.0 && !h.alive)
 }
 
-/// Whether some handle waits for its close.
-pub fn some_wait(handles: &[LiveHandle], opens: &[OpenEvent]) -> bool
-    ensures { result ≡ list_any (λ h. not h.alive && not (list_any (λ o. o.handle.0 == h.handle.0) opens.now)) handles.now }
-{
-    handles
-        .iter()
-        .any(|h| !h.alive && !is_busy(opens, h.handle))
-}
-
 fn with_mask(h: LiveHandle, handle: Handle, mask: Mask) -> LiveHandle
     ensures { result ≡ S.with_mask handle.0 mask h }
 {

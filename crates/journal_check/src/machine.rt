@@ -8,20 +8,20 @@ ghost use Rattle.reactor_summary.specs.Rules as R;
 ghost use Rattle.reactor_journal.specs.Follow as F;
 ghost use Rattle.journal_check.specs.Small.{IsSmall};
 ghost use Rattle.journal_check.specs.Index.{is_idle};
+ghost use Rattle.journal_check.specs.Fronts as K;
 ghost use Rattle.journal_check.specs.Sound as L;
 ghost use Rattle.journal_check.specs.Sound.{IsSound, after};
 ghost use Rattle.reactor_summary.specs.Tells.{Each};
 ghost use Rattle.journal_check.specs.Next.{IsNext, IsNew};
 
-use crate::events::{find_open, is_open, settle};
+use crate::events::{find_open, handle_of, is_open, settle};
 use crate::handles::{
     close, end_life, is_alive, is_busy, is_over, is_resumed, is_suspended, is_wanted, set_mask,
-    set_suspended, some_wait,
+    set_suspended,
 };
-use crate::picks::pick;
 use crate::timers::Timers;
 use crate::waiting::Waiting;
-use crate::words::{upcall_of, winds_up};
+use crate::words::{class_of, is_number, upcall_of, winds_up};
 use ev_types::{Answer, Handle, Kind, Mask, NoMemory, Upcall};
 use reactor_journal::Entry;
 use reactor_summary::{ArmedTimer, DueTimer, LiveHandle, OpenEvent, WaitingEvent};
@@ -81,32 +81,10 @@ impl Machine {
         self.opened.saturating_sub(self.closed)
     }
 
-    /// The event to be started next.
-    fn pick(&self) -> Option<WaitingEvent>
-        ensures { IsSound self.now → result ≡ S.pick self.now }
+    fn may_begin(&self, picked: bool, waits: bool) -> bool
+        ensures { result ≡ (picked && (not (S.is_overdue self.now) && not waits)) }
     {
-        pick(&self.handles, &self.opens, &self.waiting)
-    }
-
-    fn some_wait(&self) -> bool
-        ensures { result ≡ S.some_wait self.now }
-    {
-        some_wait(&self.handles, &self.opens)
-    }
-
-    fn is_pick(&self, event: u64) -> bool
-        ensures { IsSound self.now → result ≡ S.is_pick self.now event }
-    {
-        match self.pick() {
-            Some(w) => w.event == event,
-            None => false,
-        }
-    }
-
-    fn may_begin(&self, picked: bool) -> bool
-        ensures { result ≡ (picked && (not (S.is_overdue self.now) && not (S.some_wait self.now))) }
-    {
-        picked && (!self.armed.is_reached(self.moment) && !self.some_wait())
+        picked && (!self.armed.is_reached(self.moment) && !waits)
     }
 
     fn may_cancel(&self, timer: u64) -> bool
@@ -122,7 +100,7 @@ impl Machine {
             && (self.live() == most || (self.opened == MOST_HANDLES || (fault || self.ended)))
     }
 
-    /// The case of each kind of entry but one.
+    /// The case of each kind of entry but three.
     fn fits_alone<N>(&self, due: bool, ready: bool, entry: &Entry<N>, most: u64) -> bool
         ensures { L.is_alone entry.now ≡ true → result ≡ R.fits most due ready self.now entry.now }
     {
@@ -140,7 +118,7 @@ impl Machine {
                     && (is_alive(&self.handles, *handle) && self.moment < *first)
             }
             Entry::Cancelled { timer } => self.may_cancel(*timer),
-            Entry::Polled { now } => self.moment <= *now && !self.some_wait(),
+            Entry::Polled { .. } => false,
             Entry::Due { timer } => due && self.armed.is_first(self.moment, *timer),
             Entry::Ready { handle, kind } => {
                 ready
@@ -156,29 +134,92 @@ impl Machine {
             Entry::Resumed { handle } => is_suspended(&self.handles, *handle),
             Entry::Refused { live, fault, .. } => self.may_refuse(*live, *fault, most),
             Entry::Removed { handle } => is_alive(&self.handles, *handle),
-            Entry::Closed { handle, .. } => {
-                is_over(&self.handles, *handle) && !is_busy(&self.opens, *handle)
-            }
-            Entry::Ended => !self.some_wait(),
+            Entry::Closed { handle, .. } => self.waits(*handle),
+            Entry::Ended => false,
         }
     }
 
-    /// The case of each kind of entry. `due` says whether a timer may come due now, and `ready` whether a report
-    /// may come now.
-    fn fits<N>(&self, due: bool, ready: bool, entry: &Entry<N>, most: u64) -> bool
-        ensures { IsSound self.now → result ≡ R.fits most due ready self.now entry.now }
+    /// The case of each kind of entry.
+    fn fits<N>(
+        &self,
+        due: bool,
+        ready: bool,
+        pick: Option<u64>,
+        waits: bool,
+        entry: &Entry<N>,
+        most: u64,
+    ) -> bool
+        ensures { pick ≡ K.pick_number self.now → waits ≡ S.some_wait self.now → result ≡ R.fits most due ready self.now entry.now }
     {
         match entry {
-            Entry::Started { event } => self.may_begin(self.is_pick(*event)),
+            Entry::Started { event } => self.may_begin(is_number(pick, *event), waits),
+            Entry::Polled { now } => self.moment <= *now && !waits,
+            Entry::Ended => !waits,
             _ => self.fits_alone(due, ready, entry, most),
         }
     }
 
-    /// Whether the entry may follow.
-    pub fn may_follow<N>(&self, due: bool, ready: bool, entry: &Entry<N>, most: u64) -> bool
-        ensures { IsSound self.now → result ≡ R.may_follow most due ready self.now entry.now }
+    /// Whether the entry may follow. `due` says whether a timer may come due now, and `ready` whether a report may
+    /// come now; `pick` is the event to be started next, and `waits` says whether some handle waits for its close.
+    pub fn may_follow<N>(
+        &self,
+        due: bool,
+        ready: bool,
+        pick: Option<u64>,
+        waits: bool,
+        entry: &Entry<N>,
+        most: u64,
+    ) -> bool
+        ensures { pick ≡ K.pick_number self.now → waits ≡ S.some_wait self.now → result ≡ R.may_follow most due ready self.now entry.now }
     {
-        (winds_up(entry) || !self.ended) && self.fits(due, ready, entry, most)
+        (winds_up(entry) || !self.ended) && self.fits(due, ready, pick, waits, entry, most)
+    }
+
+    /// Whether the handle waits for its close.
+    pub fn waits(&self, handle: Handle) -> bool
+        ensures { result ≡ S.waits_for_closed self.now handle.0 }
+    {
+        is_over(&self.handles, handle) && !is_busy(&self.opens, handle)
+    }
+
+    fn is_free(&self, handle: Handle) -> bool
+        ensures { result ≡ S.is_free self.now handle.0 }
+    {
+        is_resumed(&self.handles, handle) && !is_busy(&self.opens, handle)
+    }
+
+    /// The class and number of the event of the handle that goes first, where one may be started.
+    pub fn front_key(&self, handle: Handle) -> Option<(u128, u64)>
+        ensures { IsSound self.now → result ≡ K.front_key self.now handle.0 }
+    {
+        if !self.is_free(handle) {
+            return None;
+        }
+        match self.waiting.front_of(handle) {
+            None => None,
+            Some(w) => Some((class_of(w.upcall) as u128, w.event)),
+        }
+    }
+
+    /// The handle that the entry is about.
+    pub fn about<N>(&self, entry: &Entry<N>) -> Option<Handle>
+        ensures { IsSound self.now → K.IsAbout self.now entry.now result }
+    {
+        match entry {
+            Entry::Opened { handle, .. } => Some(*handle),
+            Entry::Cancelled { timer } => self.waiting.timeout_handle(*timer),
+            Entry::Due { timer } => self.armed.handle_of(*timer),
+            Entry::Ready { handle, .. } => Some(*handle),
+            Entry::Posted { handle, .. } => Some(*handle),
+            Entry::Started { event } => self.waiting.handle_of(*event),
+            Entry::Returned { event, .. } => handle_of(&self.opens, *event),
+            Entry::Masked { handle, .. } => Some(*handle),
+            Entry::Suspended { handle } => Some(*handle),
+            Entry::Resumed { handle } => Some(*handle),
+            Entry::Removed { handle } => Some(*handle),
+            Entry::Closed { handle, .. } => Some(*handle),
+            _ => None,
+        }
     }
 
     /// Adds an event, whose number is that of the entry.
@@ -274,9 +315,9 @@ impl Machine {
     }
 
     fn start(&mut self, event: u64) -> Result<(), NoMemory>
-        ensures { IsSound self.old → S.is_pick self.old event ≡ true → OnOk result (self.new ≡ after {N = ℕ} self.old (Entry.Started event)) }
+        ensures { IsSound self.old → OnOk result (self.new ≡ after {N = ℕ} self.old (Entry.Started event)) }
     {
-        match self.pick() {
+        match self.waiting.find(event) {
             None => Ok(()),
             Some(w) => self.begin(w),
         }

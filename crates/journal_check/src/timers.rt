@@ -1,6 +1,6 @@
 //! The armed timers, in the order in which they come due.
 
-ghost use Rattle.std.specs.Prelude.{◌≡◌, ◌<◌, ◌≤◌, ◌==◌, ◌&&◌, not, filter, true, false, [], OnOk, ℕ, List, Some, None, IfSome, Bool, slice_get};
+ghost use Rattle.std.specs.Prelude.{◌≡◌, ◌<◌, ◌≤◌, ◌==◌, ◌&&◌, not, filter, true, false, [], OnOk, ℕ, List, Some, None, IfSome, Bool, slice_get, option_map};
 ghost use Rattle.std.specs.List.{list_any, find};
 ghost use Rattle.std.specs.BTreeMap.{get};
 ghost use Rattle.std.specs.BTreeSet.{contains};
@@ -9,6 +9,7 @@ ghost use Rattle.std.specs.Ordering.{nat_cmp};
 ghost use Rattle.reactor_journal.specs.Past as P;
 ghost use Rattle.reactor_summary.specs.Summary as S;
 ghost use Rattle.reactor_summary.specs.declared.parts.ArmedTimer.{ArmedTimer};
+ghost use Rattle.journal_check.specs.Fronts as K;
 ghost use Rattle.journal_check.specs.Index.{pair_cmp, IsIndexed, is_idle};
 
 use ev_types::{Handle, NoMemory};
@@ -194,6 +195,19 @@ impl Timers {
                     None
                 }
             }
+        }
+    }
+
+    /// The handle of an armed timer.
+    pub fn handle_of(&self, timer: u64) -> Option<Handle>
+        ensures { result ≡ option_map K.timer_handle (find (λ a. a.timer == timer) self.now) }
+    {
+        match self.numbered.get(&timer).copied() {
+            None => None,
+            Some(a) => match self.order.get(&(a.deadline, timer)) {
+                None => None,
+                Some(b) => Some(b.handle),
+            },
         }
     }
 

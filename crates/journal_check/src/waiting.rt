@@ -1,6 +1,6 @@
 //! The waiting events, by number, by handle and class, and by timer.
 
-ghost use Rattle.std.specs.Prelude.{◌≡◌, ◌<◌, ◌≤◌, ◌+◌, ◌*◌, ◌^◌, ◌==◌, ◌&&◌, ◌++◌, ◌∷◌, [], not, filter, length, true, false, OnOk, ℕ, List, Some, None, IfSome, MatchOption};
+ghost use Rattle.std.specs.Prelude.{◌≡◌, ◌<◌, ◌≤◌, ◌+◌, ◌*◌, ◌^◌, ◌==◌, ◌&&◌, ◌++◌, ◌∷◌, [], not, filter, length, true, false, OnOk, ℕ, List, Some, None, IfSome, MatchOption, option_map};
 ghost use Rattle.std.specs.List.{list_any, find};
 ghost use Rattle.std.specs.BTreeSet.{contains};
 ghost use Rattle.std.specs.Map.{values_of};
@@ -8,8 +8,9 @@ ghost use Rattle.reactor_journal.specs.Past as P;
 ghost use Rattle.reactor_summary.specs.Tells.{Each};
 ghost use Rattle.reactor_summary.specs.declared.parts.WaitingEvent.{WaitingEvent};
 ghost use Rattle.journal_check.specs.Index.{pair_cmp};
+ghost use Rattle.journal_check.specs.Fronts as K;
 ghost use Rattle.journal_check.specs.Queue as Q;
-ghost use Rattle.journal_check.specs.Queue.{IsQueued, IsLeast, IsOne, IsFront, is_within};
+ghost use Rattle.journal_check.specs.Queue.{IsQueued, IsLeast, IsOne, IsFront, IsOwned, is_within};
 
 use crate::words::{lane_of, timer_of};
 use ev_types::{Handle, Mask, NoMemory};
@@ -139,6 +140,33 @@ impl Waiting {
         ensures { result ≡ list_any (λ w. P.is_timeout_of timer w.upcall) self.now }
     {
         self.first_timeout(timer).is_some()
+    }
+
+    /// The event, if it waits.
+    pub fn find(&self, event: u64) -> Option<WaitingEvent>
+        ensures { result ≡ find (λ w. w.event == event) self.now }
+    {
+        self.events.get(&event).copied()
+    }
+
+    /// Its handle.
+    pub fn handle_of(&self, event: u64) -> Option<Handle>
+        ensures { result ≡ option_map K.waiting_handle (find (λ w. w.event == event) self.now) }
+    {
+        match self.find(event) {
+            None => None,
+            Some(w) => Some(w.handle),
+        }
+    }
+
+    /// The handle of a timeout of the timer, if one waits.
+    pub fn timeout_handle(&self, timer: u64) -> Option<Handle>
+        ensures { IsOwned timer self.now → Each (λ w. P.is_timeout_of timer w.upcall ≡ true → result ≡ Some w.handle) self.now }
+    {
+        match self.first_timeout(timer) {
+            None => None,
+            Some(event) => self.handle_of(event),
+        }
     }
 
     /// The event of the handle that goes first.

@@ -61,6 +61,16 @@ pub fn timer_of(upcall: Upcall) -> Option<u64>
     }
 }
 
+/// Whether it is that number.
+pub fn is_number(number: Option<u64>, event: u64) -> bool
+    ensures { result ≡ Q.is_num event number }
+{
+    match number {
+        Some(number) => number == event,
+        None => false,
+    }
+}
+
 /// Whether the entry may stand behind `Ended`.
 pub fn winds_up<N>(entry: &Entry<N>) -> bool
     ensures { result ≡ F.winds_up entry.now }

@@ -1,13 +1,13 @@
 use Rattle.std.proofs.Common.{◌≡◌, Some, sym, ap, ◌∙◌}
-use Rattle.std.proofs.lemmas.Bool.{eqb-true}
 use Rattle.reactor_summary.specs.Summary as S
 use Rattle.journal_check.proofs.Keyed.{on_ok}
-use Rattle.journal_check.proofs.Picked.{picked_idle, picked_started}
+use Rattle.journal_check.proofs.Picked.{found_idle, found_started, unfound_started}
 use Rattle.journal_check.proofs.machine.Machine.start.Goals as goal
 
 pub returns-in-Some : goal.returns-in-Some
-returns-in-Some c sound picks =
-    let picked : S.pick c.args.self.now ≡ Some c.in-Some.w = sym (c.in-Some.ensures sound) in
-    let number : c.in-Some.w.event ≡ c.args.event = eqb-true _ _ (sym (ap (S.is_number c.args.event) picked) ∙ picks) in
-    on_ok c.begin.result (c.begin.ensures (picked_idle c.args.self.now sound c.in-Some.w picked))
-    (λ new. new ∙ picked_started c.args.self.now sound c.in-Some.w c.args.event picked number)
+returns-in-Some c sound =
+    let is : S.waiting_event c.args.self.now c.args.event ≡ Some c.in-Some.w = sym (ap (λ (s : S.Summary). S.waiting_event s c.args.event) c.self.view_is) ∙ sym c.in-Some.ensures in
+    on_ok c.begin.result (c.begin.ensures (found_idle c.args.self.now sound c.args.event c.in-Some.w is)) (λ new. new ∙ found_started c.args.self.now c.args.event c.in-Some.w is)
+
+pub returns-in-None : goal.returns-in-None
+returns-in-None c sound = unfound_started c.args.self.now c.args.event (sym (ap (λ (s : S.Summary). S.waiting_event s c.args.event) c.self.view_is) ∙ sym c.in-None.ensures)
