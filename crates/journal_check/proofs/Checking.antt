@@ -15,6 +15,7 @@ use Rattle.reactor_journal.proofs.Basics.{may_fits}
 use Rattle.reactor_journal.proofs.Armed.{armed_known, due_timers}
 use Rattle.reactor_journal.proofs.Timers.{timeout_owned}
 use Rattle.reactor_journal.proofs.Turning.{past_more, Legal-front}
+use Rattle.reactor_summary.specs.declared.parts.LiveHandle.{LiveHandle}
 use Rattle.reactor_summary.specs.declared.parts.WaitingEvent.{WaitingEvent}
 use Rattle.reactor_summary.specs.Summary as S
 use Rattle.reactor_summary.specs.Summary.{Summary, summary}
@@ -22,7 +23,7 @@ use Rattle.reactor_summary.specs.Tells as T
 use Rattle.reactor_summary.specs.Tells.{Tells, Each, listed}
 use Rattle.reactor_summary.specs.Rules as R
 use Rattle.reactor_summary.proofs.Told.{told}
-use Rattle.reactor_summary.proofs.Reading.{first_due_is, armed_is, waiting_some}
+use Rattle.reactor_summary.proofs.Reading.{first_due_is, armed_is, live_some, waiting_some}
 use Rattle.reactor_summary.proofs.Picks.{pick_is}
 use Rattle.reactor_summary.proofs.Follows.{may_follow_is}
 use Rattle.journal_check.specs.declared.reading.CheckRefused.{CheckRefused}
@@ -116,6 +117,9 @@ sound most past legal =
         mine = subst (Each (λ (w : WaitingEvent). P.is_timeout_of n w.upcall ≡ true → w.handle.0 ≡ T.owner (P.timer_of past n))) (sym t.waiting)
             (each_listed (λ (w : WaitingEvent). P.is_timeout_of n w.upcall ≡ true → w.handle.0 ≡ T.owner (P.timer_of past n)) (T.waiting_event past) (length past) (λ k w lt is. timeout_handle most past n k w legal is));
       };
+      numbered = subst (Each (λ (h : LiveHandle). h.handle.0 < (summary past).opened)) (sym t.handles)
+          (each_listed (λ (h : LiveHandle). h.handle.0 < (summary past).opened) (T.live_handle past) (P.opened past)
+          (λ k h lt is. subst (λ (a : LiveHandle). a.handle.0 < (summary past).opened) (live_some past k h is).1 (subst (λ (n : ℕ). k < n) (sym t.opened) lt)));
       opened = T.open_event past;
       opens = t.opens;
     }

@@ -3,6 +3,7 @@ pub mod Ended
 pub mod Keyed
 pub mod Timed
 pub mod Queue
+pub mod Numbered
 pub mod Best
 pub mod Fronts
 pub mod Upkeep

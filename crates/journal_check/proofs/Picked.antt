@@ -1,9 +1,10 @@
 -- The event that is started, and the numbers of an entry that may follow.
-use Rattle.std.proofs.Common.{ℕ, ◌≡◌, ◌==◌, true, false, not, List, [], ◌∷◌, ◌++◌, refl, sym, ap, ◌∙◌, arith, Option, Some, None}
+use Rattle.std.proofs.Common.{subst, ℕ, ◌≡◌, ◌<◌, ◌==◌, true, false, not, List, [], ◌∷◌, ◌++◌, refl, sym, ap, ◌∙◌, arith, Option, Some, None}
 use Rattle.std.proofs.lemmas.Bool.{eqb-true, eq-eqb, ne_eqb, both_ways, or_from}
 use Rattle.std.specs.List.{filter, list_any}
 use Rattle.reactor_journal.specs.declared.entry.Entry.{Entry}
 use Rattle.reactor_journal.specs.declared.entry.Entry.TheVariants.{Polled, Started, Ended}
+use Rattle.reactor_summary.specs.declared.parts.LiveHandle.{LiveHandle}
 use Rattle.reactor_summary.specs.declared.parts.OpenEvent.{OpenEvent}
 use Rattle.reactor_summary.specs.declared.parts.WaitingEvent.{WaitingEvent}
 use Rattle.reactor_summary.specs.Summary as S
@@ -47,6 +48,7 @@ next_new s e sound next =
     record {
       events = sound.past;
       timer = λ timer handle first every is. let number : timer ≡ s.scheduled = next.scheduled timer handle first every is in sound.fresh timer (omega arith);
+      handle = λ handle mask is. subst (λ (n : ℕ). Each (λ (h : LiveHandle). h.handle.0 < n) s.handles) (sym (next.opened handle mask is)) sound.numbered;
     }
 
 pub alone_from : {N : Type 0} (e : Entry N) → ((i : ℕ) → e ≡ Started i → ⊥) → ((moment : ℕ) → e ≡ Polled moment → ⊥) → (e ≡ Ended → ⊥) → is_alone e ≡ true

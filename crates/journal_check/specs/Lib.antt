@@ -1,5 +1,6 @@
 pub mod Small
 pub mod Index
+pub mod Numbered
 pub mod Queue
 pub mod Fronts
 pub mod Sound

@@ -13,7 +13,9 @@ pub record IsNext {N : Type 0} (s : Summary) (e : Entry N) : Type 0 where
   pub scheduled : (timer : ℕ) (handle : Handle) (first every : ℕ) → e ≡ Scheduled timer handle first every → timer ≡ s.scheduled
   pub started : (event : ℕ) → e ≡ Started event → is_pick s event ≡ true
 
--- the timer that it sets is not armed, and no waiting event has the number of the entry
+-- the timer that it sets is not armed, the handle that it opens is beyond each live one, and no waiting event has the
+-- number of the entry
 pub record IsNew {N : Type 0} (s : Summary) (e : Entry N) : Type 0 where
   pub events : Each (λ w. w.event < s.entries) s.waiting
   pub timer : (timer : ℕ) (handle : Handle) (first every : ℕ) → e ≡ Scheduled timer handle first every → is_armed s timer ≡ false
+  pub handle : (handle : Handle) (mask : Mask) → e ≡ Opened handle mask → Each (λ h. h.handle.0 < handle.0) s.handles

@@ -11,7 +11,7 @@ use Rattle.journal_check.specs.Index.{is_idle}
 use Rattle.journal_check.specs.Queue.{IsOwned}
 
 -- the numbers of its waiting events rise and are those of entries, their timers are not armed, and no timer is armed
--- that was not set; the timeouts of a timer are of one handle, and no two open events have one number
+-- that was not set; its handles were opened, the timeouts of a timer are of one handle, and no two open events have one number
 pub record IsSound (s : Summary) : Type 0 where
   pub event : ℕ → Option WaitingEvent
   pub bound : ℕ
@@ -21,6 +21,7 @@ pub record IsSound (s : Summary) : Type 0 where
   pub idle : Each (λ w. is_idle w.due s.armed ≡ true) s.waiting
   pub fresh : (t : ℕ) → s.scheduled ≤ t → S.is_armed s t ≡ false
   pub owned : (t : ℕ) → IsOwned t s.waiting
+  pub numbered : Each (λ h. h.handle.0 < s.opened) s.handles
   pub opened : ℕ → Option OpenEvent
   pub opens : Each (λ o. opened o.event ≡ Some o) s.opens
 

@@ -43,3 +43,10 @@ pub fn handle_of(opens: &[OpenEvent], event: u64) -> Option<Handle>
         Some(o) => Some(o.handle),
     }
 }
+
+/// Whether one of the events of the handle is open.
+pub fn is_busy(opens: &[OpenEvent], handle: Handle) -> bool
+    ensures { result ≡ list_any (λ o. o.handle.0 == handle.0) opens.now }
+{
+    opens.iter().any(|o| o.handle.0 == handle.0)
+}

@@ -14,11 +14,8 @@ ghost use Rattle.journal_check.specs.Sound.{IsSound, after};
 ghost use Rattle.reactor_summary.specs.Tells.{Each};
 ghost use Rattle.journal_check.specs.Next.{IsNext, IsNew};
 
-use crate::events::{find_open, handle_of, is_open, settle};
-use crate::handles::{
-    close, end_life, is_alive, is_busy, is_over, is_resumed, is_suspended, is_wanted, set_mask,
-    set_suspended,
-};
+use crate::events::{find_open, handle_of, is_busy, is_open, settle};
+use crate::handles::Handles;
 use crate::timers::Timers;
 use crate::waiting::Waiting;
 use crate::words::{class_of, is_number, upcall_of, winds_up};
@@ -41,7 +38,7 @@ pub struct Machine {
     scheduled: u64,
     refused: u64,
     ended: bool,
-    handles: Vec<LiveHandle>,
+    handles: Handles,
     opens: Vec<OpenEvent>,
     waiting: Waiting,
     armed: Timers,
@@ -52,7 +49,7 @@ impl Model for Machine {
 
     ghost Value = { Summary };
 
-    ghost view = { λ m. record { entries = m.entries; moment = m.moment; opened = m.opened; closed = m.closed; scheduled = m.scheduled; refused = m.refused; ended = m.ended; handles = m.handles.items; waiting = m.waiting; opens = m.opens.items; armed = m.armed } };
+    ghost view = { λ m. record { entries = m.entries; moment = m.moment; opened = m.opened; closed = m.closed; scheduled = m.scheduled; refused = m.refused; ended = m.ended; handles = m.handles; waiting = m.waiting; opens = m.opens.items; armed = m.armed } };
 }
 
 impl Machine {
@@ -68,7 +65,7 @@ impl Machine {
             scheduled: 0,
             refused: 0,
             ended: false,
-            handles: Vec::new(alloc),
+            handles: Handles::new(alloc),
             opens: Vec::new(alloc),
             waiting: Waiting::new(alloc),
             armed: Timers::new(alloc),
@@ -114,8 +111,7 @@ impl Machine {
                 first,
                 ..
             } => {
-                *timer == self.scheduled
-                    && (is_alive(&self.handles, *handle) && self.moment < *first)
+                *timer == self.scheduled && (self.handles.is_alive(*handle) && self.moment < *first)
             }
             Entry::Cancelled { timer } => self.may_cancel(*timer),
             Entry::Polled { .. } => false,
@@ -123,17 +119,17 @@ impl Machine {
             Entry::Ready { handle, kind } => {
                 ready
                     && (!self.armed.is_reached(self.moment)
-                        && is_wanted(&self.handles, *handle, *kind))
+                        && self.handles.is_wanted(*handle, *kind))
             }
-            Entry::Posted { handle, .. } => is_alive(&self.handles, *handle),
-            Entry::Stale { handle, .. } => !is_alive(&self.handles, *handle),
+            Entry::Posted { handle, .. } => self.handles.is_alive(*handle),
+            Entry::Stale { handle, .. } => !self.handles.is_alive(*handle),
             Entry::Started { .. } => false,
             Entry::Returned { event, .. } => is_open(&self.opens, *event),
-            Entry::Masked { handle, .. } => is_alive(&self.handles, *handle),
-            Entry::Suspended { handle } => is_resumed(&self.handles, *handle),
-            Entry::Resumed { handle } => is_suspended(&self.handles, *handle),
+            Entry::Masked { handle, .. } => self.handles.is_alive(*handle),
+            Entry::Suspended { handle } => self.handles.is_resumed(*handle),
+            Entry::Resumed { handle } => self.handles.is_suspended(*handle),
             Entry::Refused { live, fault, .. } => self.may_refuse(*live, *fault, most),
-            Entry::Removed { handle } => is_alive(&self.handles, *handle),
+            Entry::Removed { handle } => self.handles.is_alive(*handle),
             Entry::Closed { handle, .. } => self.waits(*handle),
             Entry::Ended => false,
         }
@@ -179,13 +175,13 @@ impl Machine {
     pub fn waits(&self, handle: Handle) -> bool
         ensures { result ≡ S.waits_for_closed self.now handle.0 }
     {
-        is_over(&self.handles, handle) && !is_busy(&self.opens, handle)
+        self.handles.is_over(handle) && !is_busy(&self.opens, handle)
     }
 
     fn is_free(&self, handle: Handle) -> bool
         ensures { result ≡ S.is_free self.now handle.0 }
     {
-        is_resumed(&self.handles, handle) && !is_busy(&self.opens, handle)
+        self.handles.is_resumed(handle) && !is_busy(&self.opens, handle)
     }
 
     /// The class and number of the event of the handle that goes first, where one may be started.
@@ -242,7 +238,7 @@ impl Machine {
 
     fn open(&mut self, handle: Handle, mask: Mask) -> Result<(), NoMemory>
         requires { self.old.opened + 1 < 2 ^ 64 }
-        ensures { OnOk result (self.new ≡ after {N = ℕ} self.old (Entry.Opened handle mask)) }
+        ensures { Each (λ h. h.handle.0 < handle.0) self.old.handles → OnOk result (self.new ≡ after {N = ℕ} self.old (Entry.Opened handle mask)) }
     {
         self.handles.push(LiveHandle {
             handle,
@@ -326,14 +322,14 @@ impl Machine {
     fn mask(&mut self, handle: Handle, mask: Mask)
         ensures { self.new ≡ after {N = ℕ} self.old (Entry.Masked handle mask) }
     {
-        set_mask(&mut self.handles, handle, mask);
+        self.handles.set_mask(handle, mask);
         self.waiting.clear_masked(handle, mask);
     }
 
     fn end(&mut self, handle: Handle)
         ensures { self.new ≡ after {N = ℕ} self.old (Entry.Removed handle) }
     {
-        end_life(&mut self.handles, handle);
+        self.handles.end_life(handle);
         self.waiting.clear_all(handle);
         self.armed.disarm_all(handle);
     }
@@ -342,7 +338,7 @@ impl Machine {
     fn once_more(&mut self, o: OpenEvent) -> Result<(), NoMemory>
         ensures { Each (λ w. w.event < self.old.entries) self.old.waiting → OnOk result (self.new ≡ record self.old { waiting = self.old.waiting ++ S.waiting_again self.old (Some o) }) }
     {
-        if is_alive(&self.handles, o.handle) {
+        if self.handles.is_alive(o.handle) {
             self.report(o.handle, o.upcall, None)
         } else {
             Ok(())
@@ -427,11 +423,11 @@ impl Machine {
                 Ok(())
             }
             Entry::Suspended { handle } => {
-                set_suspended(&mut self.handles, *handle, true);
+                self.handles.set_suspended(*handle, true);
                 Ok(())
             }
             Entry::Resumed { handle } => {
-                set_suspended(&mut self.handles, *handle, false);
+                self.handles.set_suspended(*handle, false);
                 Ok(())
             }
             Entry::Refused { .. } => {
@@ -443,7 +439,7 @@ impl Machine {
                 Ok(())
             }
             Entry::Closed { handle, .. } => {
-                close(&mut self.handles, *handle);
+                self.handles.close(*handle);
                 self.closed += 1;
                 Ok(())
             }
