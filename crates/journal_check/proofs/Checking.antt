@@ -1,7 +1,8 @@
 -- Steps of the check.
-use Rattle.std.proofs.Common.{ℕ, suc, ◌≡◌, ◌+◌, ◌^◌, ◌<◌, ◌≤◌, Bool, true, false, not, option_map, List, [], ◌∷◌, ◌++◌, length, take, drop, take-append-drop, get_or, refl, sym, ap, ◌∙◌, subst, arith, cond, Option, Some, None, ⊎_elim, inl, inr}
-use Rattle.std.proofs.lemmas.Bool.{false≢true, eq-eqb, false_from_ne_true, and_parts, and_from, eqb-true, both_ways, cases_Bool, cases_order, cond-true, cond-false}
+use Rattle.std.proofs.Common.{◌==◌, ℕ, suc, ◌≡◌, ◌+◌, ◌^◌, ◌<◌, ◌≤◌, Bool, true, false, not, option_map, List, [], ◌∷◌, ◌++◌, length, take, drop, take-append-drop, get_or, refl, sym, ap, ◌∙◌, subst, arith, cond, Option, Some, None, ⊎_elim, inl, inr}
+use Rattle.std.proofs.lemmas.Bool.{and_from, and_left, and_parts, both_ways, cases_Bool, cases_order, cond-false, cond-true, eq-eqb, eqb-true, false_from_ne_true, false≢true, ne_eqb, not-true, or_from, or_parts}
 use Rattle.std.proofs.lemmas.List.{take-take, length-reverse, length-take-le}
+use Rattle.std.specs.List.{list_any}
 use Rattle.std.specs.Prelude.{Ok, Err, OnOk}
 use Rattle.std.specs.declared.result.Result.{Result}
 use Rattle.reactor_journal.specs.Event.{Event, Timer}
@@ -16,6 +17,7 @@ use Rattle.reactor_journal.proofs.Armed.{armed_known, due_timers}
 use Rattle.reactor_journal.proofs.Timers.{timeout_owned}
 use Rattle.reactor_journal.proofs.Turning.{past_more, Legal-front}
 use Rattle.reactor_summary.specs.declared.parts.LiveHandle.{LiveHandle}
+use Rattle.reactor_summary.specs.declared.parts.OpenEvent.{OpenEvent}
 use Rattle.reactor_summary.specs.declared.parts.WaitingEvent.{WaitingEvent}
 use Rattle.reactor_summary.specs.Summary as S
 use Rattle.reactor_summary.specs.Summary.{Summary, summary}
@@ -23,7 +25,7 @@ use Rattle.reactor_summary.specs.Tells as T
 use Rattle.reactor_summary.specs.Tells.{Tells, Each, listed}
 use Rattle.reactor_summary.specs.Rules as R
 use Rattle.reactor_summary.proofs.Told.{told}
-use Rattle.reactor_summary.proofs.Reading.{first_due_is, armed_is, live_some, waiting_some}
+use Rattle.reactor_summary.proofs.Reading.{open_is, first_due_is, armed_is, live_some, waiting_some}
 use Rattle.reactor_summary.proofs.Picks.{pick_is}
 use Rattle.reactor_summary.proofs.Follows.{may_follow_is}
 use Rattle.journal_check.specs.declared.reading.CheckRefused.{CheckRefused}
@@ -77,6 +79,21 @@ waiting_idle {N} most past k w legal is =
     by_due waits None q = refl
     by_due waits (Some t) q = ap not (armed_is past (summary past) t (told most past legal) ∙ (due_timers most past legal).idle k t waits q)
 
+-- no waiting event is open
+waiting_closed : {N : Type 0} (past : List (Entry N)) (s : Summary) (k : ℕ) (w : WaitingEvent) → Tells past s → T.waiting_event past k ≡ Some w → list_any (λ (o : OpenEvent). w.event == o.event) s.opens ≡ false
+waiting_closed past s k w t is =
+    let v : (ev : Event) × (P.is_waiting past k ≡ true) × (P.event_at past k ≡ Some ev) × (T.as_waiting past k ev ≡ w) = waiting_some past k w is in
+    let idle : (not (P.was_started past k) ≡ true) × (not (P.was_taken past k) ≡ true) = and_parts _ _ (and_parts (P.is_event past k) _ v.1).1 in
+    let closed : P.is_open past k ≡ false = and_left (P.was_started past k) _ (not-true _ idle.0) in
+    let number : k ≡ w.event = ap (λ (a : WaitingEvent). a.event) v.3 in
+    turned w.event s.opens (ap (λ (n : ℕ). S.is_open s n) (sym number) ∙ (open_is past s k t ∙ closed))
+  where
+    turned : (i : ℕ) (os : List OpenEvent) → list_any (λ (o : OpenEvent). o.event == i) os ≡ false → list_any (λ (o : OpenEvent). i == o.event) os ≡ false
+    turned i [] h = refl
+    turned i (o ∷ os) h =
+        let both : ((o.event == i) ≡ false) × (list_any (λ (o : OpenEvent). o.event == i) os ≡ false) = or_parts (o.event == i) _ h in
+        or_from (i == o.event) _ (ne_eqb i o.event (λ q. both_ways _ both.0 (eq-eqb o.event i (sym q)))) (turned i os both.1)
+
 -- a timeout is of the handle of its timer
 timeout_handle : {N : Type 0} (most : ℕ) (past : List (Entry N)) (n k : ℕ) (w : WaitingEvent) → is_legal most past ≡ true → T.waiting_event past k ≡ Some w → P.is_timeout_of n w.upcall ≡ true → w.handle.0 ≡ T.owner (P.timer_of past n)
 timeout_handle most past n k w legal is h =
@@ -120,6 +137,8 @@ sound most past legal =
       numbered = subst (Each (λ (h : LiveHandle). h.handle.0 < (summary past).opened)) (sym t.handles)
           (each_listed (λ (h : LiveHandle). h.handle.0 < (summary past).opened) (T.live_handle past) (P.opened past)
           (λ k h lt is. subst (λ (a : LiveHandle). a.handle.0 < (summary past).opened) (live_some past k h is).1 (subst (λ (n : ℕ). k < n) (sym t.opened) lt)));
+      settled = subst (Each (λ (w : WaitingEvent). list_any (λ (o : OpenEvent). w.event == o.event) (summary past).opens ≡ false)) (sym t.waiting)
+          (each_listed (λ (w : WaitingEvent). list_any (λ (o : OpenEvent). w.event == o.event) (summary past).opens ≡ false) (T.waiting_event past) (length past) (λ k w lt is. waiting_closed past (summary past) k w t is));
       opened = T.open_event past;
       opens = t.opens;
     }

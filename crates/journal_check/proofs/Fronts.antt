@@ -232,7 +232,7 @@ own_closed y xs (Some e) n =
     (each_member (λ (w : WaitingEvent). not (e.handle == w.handle.0) ≡ false → (y == w.handle.0) ≡ false) xs
     (λ w member f. ne_eqb y w.handle.0 (λ q. n e refl (q ∙ sym (eqb-true e.handle w.handle.0 (not_back (e.handle == w.handle.0) f))))))
 
-listed_own : (s : Summary) (sound : IsSound s) → Each (λ (w : WaitingEvent). sound.event w.event ≡ Some w) s.waiting
+pub listed_own : (s : Summary) (sound : IsSound s) → Each (λ (w : WaitingEvent). sound.event w.event ≡ Some w) s.waiting
 listed_own s sound =
     subst (Each (λ (w : WaitingEvent). sound.event w.event ≡ Some w)) (sym sound.listed)
     (each_listed (λ (w : WaitingEvent). sound.event w.event ≡ Some w) sound.event sound.bound (λ k w lt is. ap sound.event (sound.own k w is) ∙ is))

@@ -4,6 +4,7 @@ pub mod Keyed
 pub mod Timed
 pub mod Queue
 pub mod Numbered
+pub mod Opened
 pub mod Best
 pub mod Fronts
 pub mod Upkeep

@@ -130,10 +130,10 @@ more_owned owns also k h q o = h q ∙ either (is_at (pair_cmp k) q)
     either true = refl
     either false = o
 
-equal_if_at : (o : Ordering) → is_eq o ≡ true → o ≡ Equal
-equal_if_at Less h = absurd cc
-equal_if_at Equal h = refl
-equal_if_at Greater h = absurd cc
+pub is_equal : (o : Ordering) → is_eq o ≡ true → o ≡ Equal
+is_equal Less h = absurd cc
+is_equal Equal h = refl
+is_equal Greater h = absurd cc
 
 -- ---- the timers of a handle
 
@@ -228,7 +228,7 @@ indexed_less lead owns fewer x t (e ∷ es) less n h =
   where
     apart : of_both x t e.1 ≡ false → is_at (pair_cmp (x, t)) (e.1.handle.0, e.1.timer) ≡ false
     apart f = false_from_ne_true _ (λ at.
-        let same : ◌≡◌ {A = ℕ × ℕ} (x, t) (e.1.handle.0, e.1.timer) = pair_exact (x, t) (e.1.handle.0, e.1.timer) (equal_if_at _ at) in
+        let same : ◌≡◌ {A = ℕ × ℕ} (x, t) (e.1.handle.0, e.1.timer) = pair_exact (x, t) (e.1.handle.0, e.1.timer) (is_equal _ at) in
         both_ways _ f (and_from (e.1.handle.0 == x) (e.1.timer == t) (eq-eqb e.1.handle.0 x (sym (ap (λ (k : ℕ × ℕ). k.0) same))) (eq-eqb e.1.timer t (sym (ap (λ (k : ℕ × ℕ). k.1) same)))))
 
 -- where the set has no number of the handle, none of its timers is armed

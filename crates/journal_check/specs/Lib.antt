@@ -1,6 +1,7 @@
 pub mod Small
 pub mod Index
 pub mod Numbered
+pub mod Opened
 pub mod Queue
 pub mod Fronts
 pub mod Sound

@@ -1,4 +1,5 @@
 -- What holds of the summary of each legal journal, and what one more entry makes of it but for the number of entries.
+use Rattle.std.specs.List.{list_any}
 use Rattle.std.specs.Prelude.{ℕ, ◌≡◌, ◌<◌, ◌≤◌, ◌==◌, Bool, true, false, not, ◌++◌, filter, Option, Some}
 use Rattle.reactor_journal.specs.declared.entry.Entry.{Entry}
 use Rattle.reactor_journal.specs.declared.entry.Entry.TheVariants.{Polled, Started, Ended}
@@ -11,7 +12,8 @@ use Rattle.journal_check.specs.Index.{is_idle}
 use Rattle.journal_check.specs.Queue.{IsOwned}
 
 -- the numbers of its waiting events rise and are those of entries, their timers are not armed, and no timer is armed
--- that was not set; its handles were opened, the timeouts of a timer are of one handle, and no two open events have one number
+-- that was not set; its handles were opened, the timeouts of a timer are of one handle, no waiting event is open, and
+-- no two open events have one number
 pub record IsSound (s : Summary) : Type 0 where
   pub event : ℕ → Option WaitingEvent
   pub bound : ℕ
@@ -22,6 +24,7 @@ pub record IsSound (s : Summary) : Type 0 where
   pub fresh : (t : ℕ) → s.scheduled ≤ t → S.is_armed s t ≡ false
   pub owned : (t : ℕ) → IsOwned t s.waiting
   pub numbered : Each (λ h. h.handle.0 < s.opened) s.handles
+  pub settled : Each (λ w. list_any (λ o. w.event == o.event) s.opens ≡ false) s.waiting
   pub opened : ℕ → Option OpenEvent
   pub opens : Each (λ o. opened o.event ≡ Some o) s.opens
 

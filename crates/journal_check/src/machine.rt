@@ -12,10 +12,11 @@ ghost use Rattle.journal_check.specs.Fronts as K;
 ghost use Rattle.journal_check.specs.Sound as L;
 ghost use Rattle.journal_check.specs.Sound.{IsSound, after};
 ghost use Rattle.reactor_summary.specs.Tells.{Each};
+ghost use Rattle.std.specs.List.{list_any};
 ghost use Rattle.journal_check.specs.Next.{IsNext, IsNew};
 
-use crate::events::{find_open, handle_of, is_busy, is_open, settle};
 use crate::handles::Handles;
+use crate::opens::Opens;
 use crate::timers::Timers;
 use crate::waiting::Waiting;
 use crate::words::{class_of, is_number, upcall_of, winds_up};
@@ -39,7 +40,7 @@ pub struct Machine {
     refused: u64,
     ended: bool,
     handles: Handles,
-    opens: Vec<OpenEvent>,
+    opens: Opens,
     waiting: Waiting,
     armed: Timers,
 }
@@ -49,7 +50,7 @@ impl Model for Machine {
 
     ghost Value = { Summary };
 
-    ghost view = { λ m. record { entries = m.entries; moment = m.moment; opened = m.opened; closed = m.closed; scheduled = m.scheduled; refused = m.refused; ended = m.ended; handles = m.handles; waiting = m.waiting; opens = m.opens.items; armed = m.armed } };
+    ghost view = { λ m. record { entries = m.entries; moment = m.moment; opened = m.opened; closed = m.closed; scheduled = m.scheduled; refused = m.refused; ended = m.ended; handles = m.handles; waiting = m.waiting; opens = m.opens; armed = m.armed } };
 }
 
 impl Machine {
@@ -66,7 +67,7 @@ impl Machine {
             refused: 0,
             ended: false,
             handles: Handles::new(alloc),
-            opens: Vec::new(alloc),
+            opens: Opens::new(alloc),
             waiting: Waiting::new(alloc),
             armed: Timers::new(alloc),
         }
@@ -124,7 +125,7 @@ impl Machine {
             Entry::Posted { handle, .. } => self.handles.is_alive(*handle),
             Entry::Stale { handle, .. } => !self.handles.is_alive(*handle),
             Entry::Started { .. } => false,
-            Entry::Returned { event, .. } => is_open(&self.opens, *event),
+            Entry::Returned { event, .. } => self.opens.is_open(*event),
             Entry::Masked { handle, .. } => self.handles.is_alive(*handle),
             Entry::Suspended { handle } => self.handles.is_resumed(*handle),
             Entry::Resumed { handle } => self.handles.is_suspended(*handle),
@@ -175,13 +176,13 @@ impl Machine {
     pub fn waits(&self, handle: Handle) -> bool
         ensures { result ≡ S.waits_for_closed self.now handle.0 }
     {
-        self.handles.is_over(handle) && !is_busy(&self.opens, handle)
+        self.handles.is_over(handle) && !self.opens.is_busy(handle)
     }
 
     fn is_free(&self, handle: Handle) -> bool
         ensures { result ≡ S.is_free self.now handle.0 }
     {
-        self.handles.is_resumed(handle) && !is_busy(&self.opens, handle)
+        self.handles.is_resumed(handle) && !self.opens.is_busy(handle)
     }
 
     /// The class and number of the event of the handle that goes first, where one may be started.
@@ -208,7 +209,7 @@ impl Machine {
             Entry::Ready { handle, .. } => Some(*handle),
             Entry::Posted { handle, .. } => Some(*handle),
             Entry::Started { event } => self.waiting.handle_of(*event),
-            Entry::Returned { event, .. } => handle_of(&self.opens, *event),
+            Entry::Returned { event, .. } => self.opens.handle_of(*event),
             Entry::Masked { handle, .. } => Some(*handle),
             Entry::Suspended { handle } => Some(*handle),
             Entry::Resumed { handle } => Some(*handle),
@@ -297,7 +298,7 @@ impl Machine {
     }
 
     fn begin(&mut self, w: WaitingEvent) -> Result<(), NoMemory>
-        ensures { is_idle w.due self.old.armed ≡ true → OnOk result (self.new ≡ L.started self.old w) }
+        ensures { is_idle w.due self.old.armed ≡ true → list_any (λ o. w.event == o.event) self.old.opens ≡ false → S.is_busy self.old w.handle.0 ≡ false → OnOk result (self.new ≡ L.started self.old w) }
     {
         self.waiting.take(w.event);
         self.armed.arm_again(self.moment, w.handle, w.due)?;
@@ -311,7 +312,7 @@ impl Machine {
     }
 
     fn start(&mut self, event: u64) -> Result<(), NoMemory>
-        ensures { IsSound self.old → OnOk result (self.new ≡ after {N = ℕ} self.old (Entry.Started event)) }
+        ensures { IsSound self.old → S.is_pick self.old event ≡ true → OnOk result (self.new ≡ after {N = ℕ} self.old (Entry.Started event)) }
     {
         match self.waiting.find(event) {
             None => Ok(()),
@@ -348,8 +349,8 @@ impl Machine {
     fn settle_again(&mut self, event: u64) -> Result<(), NoMemory>
         ensures { Each (λ w. w.event < self.old.entries) self.old.waiting → OnOk result (self.new ≡ after {N = ℕ} self.old (Entry.Returned event Answer.Again 0)) }
     {
-        let found = find_open(&self.opens, event);
-        settle(&mut self.opens, event);
+        let found = self.opens.find(event);
+        self.opens.settle(event);
         match found {
             None => Ok(()),
             Some(o) => self.once_more(o),
@@ -360,8 +361,8 @@ impl Machine {
     fn settle_close(&mut self, event: u64)
         ensures { self.new ≡ after {N = ℕ} self.old (Entry.Returned event Answer.Close 0) }
     {
-        let found = find_open(&self.opens, event);
-        settle(&mut self.opens, event);
+        let found = self.opens.find(event);
+        self.opens.settle(event);
         match found {
             None => {}
             Some(o) => self.end(o.handle),
@@ -373,7 +374,7 @@ impl Machine {
     {
         match answer {
             Answer::Keep => {
-                settle(&mut self.opens, event);
+                self.opens.settle(event);
                 Ok(())
             }
             Answer::Again => self.settle_again(event),

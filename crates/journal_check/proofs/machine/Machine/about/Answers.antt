@@ -1,7 +1,5 @@
-use Rattle.std.proofs.Common.{◌==◌, List, option_map, sym, ap, ◌∙◌, subst}
+use Rattle.std.proofs.Common.{option_map, sym, ap, ◌∙◌, subst}
 use Rattle.reactor_journal.specs.declared.entry.Entry.{Entry}
-use Rattle.std.specs.List.{find}
-use Rattle.reactor_summary.specs.declared.parts.OpenEvent.{OpenEvent}
 use Rattle.reactor_summary.specs.Summary as S
 use Rattle.journal_check.specs.Fronts as K
 use Rattle.journal_check.proofs.machine.Machine.about.Goals as goal
@@ -18,6 +16,4 @@ returns-in-Started g c sound =
 pub returns-in-Returned : goal.returns-in-Returned
 returns-in-Returned g c sound =
     subst (λ (e : Entry g.row.N.Denot). K.IsAbout c.args.self.now e c.handle_of-in-Returned.result) (sym c.in-Returned.is)
-    (c.handle_of-in-Returned.ensures
-    ∙ (ap (λ (os : List OpenEvent). option_map K.open_handle (find (λ o. o.event == c.in-Returned.event) os)) c.deref.ensures.value
-    ∙ ap (λ (s : S.Summary). option_map K.open_handle (S.open_event s c.in-Returned.event)) c.self.view_is))
+    (c.handle_of-in-Returned.ensures ∙ ap (λ (s : S.Summary). option_map K.open_handle (S.open_event s c.in-Returned.event)) c.self.view_is)
