@@ -1,6 +1,12 @@
 pub mod Clock
 pub mod Ended
-pub mod Lanes
+pub mod Keyed
+pub mod Timed
+pub mod Queue
+pub mod Numbered
+pub mod Opened
 pub mod Best
-pub mod Kept
+pub mod Fronts
+pub mod Upkeep
+pub mod Picked
 pub mod Checking

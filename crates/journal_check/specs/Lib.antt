@@ -1,4 +1,10 @@
 pub mod Small
-pub mod Lanes
+pub mod Index
+pub mod Numbered
+pub mod Opened
+pub mod Queue
+pub mod Fronts
+pub mod Sound
+pub mod Next
 pub mod Refusal
 pub mod Laws

@@ -1,129 +1,150 @@
-//! The live handles.
+//! The live handles, by number.
 
-ghost use Rattle.std.specs.Prelude.{◌≡◌, ◌==◌, ◌&&◌, not, map, filter};
+ghost use Rattle.std.specs.Prelude.{◌≡◌, ◌<◌, ◌==◌, ◌&&◌, ◌++◌, ◌∷◌, [], not, map, filter, true, false, OnOk, ℕ, List, Bool, None, IfSome, if◌then◌else◌};
 ghost use Rattle.std.specs.List.{list_any};
+ghost use Rattle.std.specs.Map.{values_of};
 ghost use Rattle.reactor_journal.specs.Past as P;
 ghost use Rattle.reactor_summary.specs.Summary as S;
+ghost use Rattle.reactor_summary.specs.Tells.{Each};
+ghost use Rattle.reactor_summary.specs.declared.parts.LiveHandle.{LiveHandle};
+ghost use Rattle.journal_check.specs.Numbered.{handle_number, IsNumbered, IsTheOne, passes};
 
 use crate::words::has_kind;
-use ev_types::{Handle, Kind, Mask};
-use reactor_summary::{LiveHandle, OpenEvent};
+use ev_types::{Handle, Kind, Mask, NoMemory};
+use reactor_summary::LiveHandle;
+use std::alloc::Global;
+use std::collections::BTreeMap;
+use std::marker::Model;
 
-/// Whether the handle is alive.
-pub fn is_alive(handles: &[LiveHandle], handle: Handle) -> bool
-    ensures { result ≡ list_any (λ h. h.handle.0 == handle.0 && h.alive) handles.now }
-{
-    handles.iter().any(|h| h.handle.0 == handle.0 && h.alive)
+/// The live handles, each at its number.
+#[derive(Drop)]
+pub struct Handles {
+    live: BTreeMap<u64, LiveHandle>,
 }
 
-/// Whether it is alive and suspended.
-pub fn is_suspended(handles: &[LiveHandle], handle: Handle) -> bool
-    ensures { result ≡ list_any (λ h. h.handle.0 == handle.0 && (h.alive && h.suspended)) handles.now }
-{
-    handles
-        .iter()
-        .any(|h| h.handle.0 == handle.0 && (h.alive && h.suspended))
+impl Model for Handles {
+    ghost Value = { List LiveHandle };
+
+    ghost view = { λ t. values_of t.live.entries };
+
+    ghost invariant = { λ t. IsNumbered handle_number t.live.entries };
 }
 
-/// Whether it is alive and not suspended.
-pub fn is_resumed(handles: &[LiveHandle], handle: Handle) -> bool
-    ensures { result ≡ list_any (λ h. h.handle.0 == handle.0 && (h.alive && not h.suspended)) handles.now }
-{
-    handles
-        .iter()
-        .any(|h| h.handle.0 == handle.0 && (h.alive && !h.suspended))
-}
-
-/// Whether it is alive and wants reports of the kind.
-pub fn is_wanted(handles: &[LiveHandle], handle: Handle, kind: Kind) -> bool
-    ensures { result ≡ list_any (λ h. h.handle.0 == handle.0 && (h.alive && P.has_kind h.mask kind)) handles.now }
-{
-    handles.iter().any(|h| h.handle.0 == handle.0 && (h.alive && has_kind(h.mask, kind)))
-}
-
-/// Whether one of its events is open.
-pub fn is_busy(opens: &[OpenEvent], handle: Handle) -> bool
-    ensures { result ≡ list_any (λ o. o.handle.0 == handle.0) opens.now }
-{
-    opens.iter().any(|o| o.handle.0 == handle.0)
-}
-
-/// Whether it is live and not alive.
-pub fn is_over(handles: &[LiveHandle], handle: Handle) -> bool
-    ensures { result ≡ list_any (λ h. h.handle.0 == handle.0 && not h.alive) handles.now }
-{
-    handles.iter().any(|h| h.handle.0 == handle.0 && !h.alive)
-}
-
-/// Whether some handle waits for its close.
-pub fn some_wait(handles: &[LiveHandle], opens: &[OpenEvent]) -> bool
-    ensures { result ≡ list_any (λ h. not h.alive && not (list_any (λ o. o.handle.0 == h.handle.0) opens.now)) handles.now }
-{
-    handles
-        .iter()
-        .any(|h| !h.alive && !is_busy(opens, h.handle))
-}
-
-fn with_mask(h: LiveHandle, handle: Handle, mask: Mask) -> LiveHandle
-    ensures { result ≡ S.with_mask handle.0 mask h }
-{
-    if handle.0 == h.handle.0 {
-        LiveHandle { mask, ..h }
-    } else {
-        h
+impl Handles {
+    /// None.
+    pub fn new(alloc: Global) -> Handles
+        ensures { result ≡ [] }
+    {
+        Handles {
+            live: BTreeMap::new(alloc),
+        }
     }
-}
 
-/// Sets the mask of the handle.
-pub fn set_mask(handles: &mut Vec<LiveHandle>, handle: Handle, mask: Mask)
-    ensures { handles.new.items ≡ map (S.with_mask handle.0 mask) handles.old.items }
-{
-    for h in handles.iter_mut() {
-        *h = with_mask(*h, handle, mask);
+    fn get(&self, handle: Handle) -> Option<LiveHandle>
+        ensures asked { (q : LiveHandle → Bool) → list_any (λ h. h.handle.0 == handle.0 && q h) self.now ≡ passes q result }
+        ensures found { IfSome result (IsTheOne handle.0 self.now) }
+        ensures none { result ≡ None → list_any (λ h. handle.0 == h.handle.0) self.now ≡ false }
+    {
+        self.live.get(&handle.0).copied()
     }
-}
 
-fn with_suspended(h: LiveHandle, handle: Handle, suspended: bool) -> LiveHandle
-    ensures { result ≡ S.with_suspended handle.0 suspended h }
-{
-    if handle.0 == h.handle.0 {
-        LiveHandle { suspended, ..h }
-    } else {
-        h
+    /// Whether the handle is alive.
+    pub fn is_alive(&self, handle: Handle) -> bool
+        ensures { result ≡ list_any (λ h. h.handle.0 == handle.0 && h.alive) self.now }
+    {
+        match self.get(handle) {
+            Some(h) => h.alive,
+            None => false,
+        }
     }
-}
 
-/// Suspends the handle, or resumes it.
-pub fn set_suspended(handles: &mut Vec<LiveHandle>, handle: Handle, suspended: bool)
-    ensures { handles.new.items ≡ map (S.with_suspended handle.0 suspended) handles.old.items }
-{
-    for h in handles.iter_mut() {
-        *h = with_suspended(*h, handle, suspended);
+    /// Whether it is alive and suspended.
+    pub fn is_suspended(&self, handle: Handle) -> bool
+        ensures { result ≡ list_any (λ h. h.handle.0 == handle.0 && (h.alive && h.suspended)) self.now }
+    {
+        match self.get(handle) {
+            Some(h) => h.alive && h.suspended,
+            None => false,
+        }
     }
-}
 
-fn with_end(h: LiveHandle, handle: Handle) -> LiveHandle
-    ensures { result ≡ S.with_end (S.of_handle handle) h }
-{
-    if handle.0 == h.handle.0 {
-        LiveHandle { alive: false, ..h }
-    } else {
-        h
+    /// Whether it is alive and not suspended.
+    pub fn is_resumed(&self, handle: Handle) -> bool
+        ensures { result ≡ list_any (λ h. h.handle.0 == handle.0 && (h.alive && not h.suspended)) self.now }
+    {
+        match self.get(handle) {
+            Some(h) => h.alive && !h.suspended,
+            None => false,
+        }
     }
-}
 
-/// Ends the life of the handle.
-pub fn end_life(handles: &mut Vec<LiveHandle>, handle: Handle)
-    ensures { handles.new.items ≡ map (S.with_end (S.of_handle handle)) handles.old.items }
-{
-    for h in handles.iter_mut() {
-        *h = with_end(*h, handle);
+    /// Whether it is alive and wants reports of the kind.
+    pub fn is_wanted(&self, handle: Handle, kind: Kind) -> bool
+        ensures { result ≡ list_any (λ h. h.handle.0 == handle.0 && (h.alive && P.has_kind h.mask kind)) self.now }
+    {
+        match self.get(handle) {
+            Some(h) => h.alive && has_kind(h.mask, kind),
+            None => false,
+        }
     }
-}
 
-/// Takes the handle away.
-pub fn close(handles: &mut Vec<LiveHandle>, handle: Handle)
-    ensures { handles.new.items ≡ filter (λ h. not (handle.0 == h.handle.0)) handles.old.items }
-{
-    handles.retain(|h| handle.0 != h.handle.0);
+    /// Whether it is live and not alive.
+    pub fn is_over(&self, handle: Handle) -> bool
+        ensures { result ≡ list_any (λ h. h.handle.0 == handle.0 && not h.alive) self.now }
+    {
+        match self.get(handle) {
+            Some(h) => !h.alive,
+            None => false,
+        }
+    }
+
+    /// Adds a handle. After an Err nothing changed.
+    pub fn push(&mut self, h: LiveHandle) -> Result<(), NoMemory>
+        ensures { Each (λ g. g.handle.0 < h.handle.0) self.old → OnOk result (self.new ≡ self.old ++ h ∷ []) }
+    {
+        self.live.insert(h.handle.0, h)?;
+        Ok(())
+    }
+
+    /// Puts a handle in the place of the one of its number.
+    fn put(&mut self, h: LiveHandle)
+        requires { list_any (λ g. h.handle.0 == g.handle.0) self.old ≡ true }
+        ensures { self.new ≡ map (λ g. if h.handle.0 == g.handle.0 then h else g) self.old }
+    {
+        let _ = self.live.insert(h.handle.0, h);
+    }
+
+    /// Sets the mask of the handle.
+    pub fn set_mask(&mut self, handle: Handle, mask: Mask)
+        ensures { self.new ≡ map (S.with_mask handle.0 mask) self.old }
+    {
+        if let Some(h) = self.get(handle) {
+            self.put(LiveHandle { mask, ..h });
+        }
+    }
+
+    /// Suspends the handle, or resumes it.
+    pub fn set_suspended(&mut self, handle: Handle, suspended: bool)
+        ensures { self.new ≡ map (S.with_suspended handle.0 suspended) self.old }
+    {
+        if let Some(h) = self.get(handle) {
+            self.put(LiveHandle { suspended, ..h });
+        }
+    }
+
+    /// Ends the life of the handle.
+    pub fn end_life(&mut self, handle: Handle)
+        ensures { self.new ≡ map (S.with_end (S.of_handle handle)) self.old }
+    {
+        if let Some(h) = self.get(handle) {
+            self.put(LiveHandle { alive: false, ..h });
+        }
+    }
+
+    /// Takes the handle away.
+    pub fn close(&mut self, handle: Handle)
+        ensures { self.new ≡ filter (λ h. not (handle.0 == h.handle.0)) self.old }
+    {
+        let _ = self.live.remove(&handle.0);
+    }
 }

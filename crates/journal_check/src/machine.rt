@@ -1,40 +1,35 @@
 //! The summary of the entries that were read, and what it says of the next one.
 
-ghost use Rattle.std.specs.Prelude.{◌≡◌, ◌==◌, not, if◌then◌else◌, ◌&&◌, ◌||◌, ◌<◌, ◌+◌, ◌^◌, ◌++◌, ◌∷◌, [], true, None, Some, OnOk, ℕ, List};
+ghost use Rattle.std.specs.Prelude.{◌≡◌, ◌==◌, not, if◌then◌else◌, ◌&&◌, ◌||◌, ◌<◌, ◌+◌, ◌^◌, ◌++◌, ◌∷◌, [], true, false, None, Some, OnOk, ℕ, List};
 ghost use Rattle.reactor_journal.specs.declared.entry.Entry.{Entry};
 ghost use Rattle.reactor_summary.specs.Summary as S;
 ghost use Rattle.reactor_summary.specs.Summary.{Summary};
 ghost use Rattle.reactor_summary.specs.Rules as R;
 ghost use Rattle.reactor_journal.specs.Follow as F;
-ghost use Rattle.std.specs.Option.{option_to_list};
 ghost use Rattle.journal_check.specs.Small.{IsSmall};
-ghost use Rattle.journal_check.specs.Lanes as L;
-ghost use Rattle.journal_check.specs.Lanes.{Shows, IsSound};
+ghost use Rattle.journal_check.specs.Index.{is_idle};
+ghost use Rattle.journal_check.specs.Fronts as K;
+ghost use Rattle.journal_check.specs.Sound as L;
+ghost use Rattle.journal_check.specs.Sound.{IsSound, after};
+ghost use Rattle.reactor_summary.specs.Tells.{Each};
+ghost use Rattle.std.specs.List.{list_any};
+ghost use Rattle.journal_check.specs.Next.{IsNext, IsNew};
 
-use crate::events::{find_open, is_open, settle};
-use crate::handles::{
-    close, end_life, is_alive, is_busy, is_over, is_resumed, is_suspended, is_wanted, set_mask,
-    set_suspended, some_wait,
-};
-use crate::queues::{
-    add_five, cancel, clear_all, clear_masked, pick, pop_from, push_to, timeout_waits,
-};
-use crate::timers::{
-    arm, arm_again, disarm, disarm_all, due_event, is_armed, is_first, is_reached,
-};
-use crate::words::{lane_of, upcall_of, winds_up};
+use crate::handles::Handles;
+use crate::opens::Opens;
+use crate::timers::Timers;
+use crate::waiting::Waiting;
+use crate::words::{class_of, is_number, upcall_of, winds_up};
 use ev_types::{Answer, Handle, Kind, Mask, NoMemory, Upcall};
 use reactor_journal::Entry;
 use reactor_summary::{ArmedTimer, DueTimer, LiveHandle, OpenEvent, WaitingEvent};
 use std::alloc::Global;
-use std::collections::VecDeque;
 use std::marker::Model;
 
 /// The most handles that a journal may open.
 const MOST_HANDLES: u64 = 4_294_967_295;
 
-/// The summary of the entries that were read. The waiting events stand in a queue for each handle that was opened
-/// and each class, so that an entry costs no look at events that wait behind others.
+/// The summary of the entries that were read.
 #[derive(Drop)]
 pub struct Machine {
     entries: u64,
@@ -44,27 +39,24 @@ pub struct Machine {
     scheduled: u64,
     refused: u64,
     ended: bool,
-    handles: Vec<LiveHandle>,
-    opens: Vec<OpenEvent>,
-    armed: Vec<ArmedTimer>,
-    queues: Vec<VecDeque<WaitingEvent>>,
+    handles: Handles,
+    opens: Opens,
+    waiting: Waiting,
+    armed: Timers,
 }
 
 impl Model for Machine {
-    ghost use Rattle.std.specs.Prelude.{[], map};
-    ghost use Rattle.std.specs.VecDeque.{deque_items};
-    ghost use Rattle.journal_check.specs.Lanes.{Kept};
+    ghost use Rattle.reactor_summary.specs.Summary.{Summary};
 
-    ghost Value = { Kept };
+    ghost Value = { Summary };
 
-    ghost view = { λ m. record { base = record { entries = m.entries; moment = m.moment; opened = m.opened; closed = m.closed; scheduled = m.scheduled; refused = m.refused; ended = m.ended; handles = m.handles.items; waiting = []; opens = m.opens.items; armed = m.armed.items }; queues = map deque_items m.queues.items } };
+    ghost view = { λ m. record { entries = m.entries; moment = m.moment; opened = m.opened; closed = m.closed; scheduled = m.scheduled; refused = m.refused; ended = m.ended; handles = m.handles; waiting = m.waiting; opens = m.opens; armed = m.armed } };
 }
 
 impl Machine {
     /// That of no entries.
     pub fn new(alloc: Global) -> Machine
-        ensures base { result.base ≡ S.nothing }
-        ensures queues { result.queues ≡ [] }
+        ensures { result ≡ S.nothing }
     {
         Machine {
             entries: 0,
@@ -74,69 +66,41 @@ impl Machine {
             scheduled: 0,
             refused: 0,
             ended: false,
-            handles: Vec::new(alloc),
-            opens: Vec::new(alloc),
-            armed: Vec::new(alloc),
-            queues: Vec::new(alloc),
+            handles: Handles::new(alloc),
+            opens: Opens::new(alloc),
+            waiting: Waiting::new(alloc),
+            armed: Timers::new(alloc),
         }
     }
 
     fn live(&self) -> u64
-        ensures { result ≡ R.live self.now.base }
+        ensures { result ≡ R.live self.now }
     {
         self.opened.saturating_sub(self.closed)
     }
 
-    /// The event to be started next.
-    fn pick(&self) -> Option<WaitingEvent>
-        ensures { (s : Summary) → Shows self.now s → IsSound s → result ≡ S.pick s }
+    fn may_begin(&self, picked: bool, waits: bool) -> bool
+        ensures { result ≡ (picked && (not (S.is_overdue self.now) && not waits)) }
     {
-        pick(&self.handles, &self.opens, &self.queues)
-    }
-
-    fn some_wait(&self) -> bool
-        ensures { result ≡ S.some_wait self.now.base }
-    {
-        some_wait(&self.handles, &self.opens)
-    }
-
-    fn is_pick(&self, event: u64) -> bool
-        ensures { (s : Summary) → Shows self.now s → IsSound s → result ≡ S.is_pick s event }
-    {
-        match self.pick() {
-            Some(w) => w.event == event,
-            None => false,
-        }
-    }
-
-    fn may_begin(&self, picked: bool) -> bool
-        ensures { result ≡ (picked && (not (S.is_overdue self.now.base) && not (S.some_wait self.now.base))) }
-    {
-        picked && (!is_reached(self.moment, &self.armed) && !self.some_wait())
-    }
-
-    fn timeout_waits(&self, timer: u64) -> bool
-        ensures { result ≡ L.has_timeout self.now timer }
-    {
-        timeout_waits(&self.queues, &self.handles, timer)
+        picked && (!self.armed.is_reached(self.moment) && !waits)
     }
 
     fn may_cancel(&self, timer: u64) -> bool
-        ensures { result ≡ (S.is_armed self.now.base timer || L.has_timeout self.now timer) }
+        ensures { result ≡ (S.is_armed self.now timer || S.timeout_waits self.now timer) }
     {
-        is_armed(&self.armed, timer) || self.timeout_waits(timer)
+        self.armed.is_armed(timer) || self.waiting.has_timeout(timer)
     }
 
     fn may_refuse(&self, live: u64, fault: bool, most: u64) -> bool
-        ensures { result ≡ (live == R.live self.now.base && (R.live self.now.base == most || (self.now.base.opened == F.most_handles || (fault || self.now.base.ended)))) }
+        ensures { result ≡ (live == R.live self.now && (R.live self.now == most || (self.now.opened == F.most_handles || (fault || self.now.ended)))) }
     {
         live == self.live()
             && (self.live() == most || (self.opened == MOST_HANDLES || (fault || self.ended)))
     }
 
-    /// The case of each kind of entry but two.
+    /// The case of each kind of entry but three.
     fn fits_alone<N>(&self, due: bool, ready: bool, entry: &Entry<N>, most: u64) -> bool
-        ensures { L.is_alone entry.now ≡ true → result ≡ R.fits most due ready self.now.base entry.now }
+        ensures { L.is_alone entry.now ≡ true → result ≡ R.fits most due ready self.now entry.now }
     {
         match entry {
             Entry::Opened { handle, .. } => {
@@ -148,80 +112,135 @@ impl Machine {
                 first,
                 ..
             } => {
-                *timer == self.scheduled
-                    && (is_alive(&self.handles, *handle) && self.moment < *first)
+                *timer == self.scheduled && (self.handles.is_alive(*handle) && self.moment < *first)
             }
-            Entry::Cancelled { .. } => false,
-            Entry::Polled { now } => self.moment <= *now && !self.some_wait(),
-            Entry::Due { timer } => due && is_first(self.moment, *timer, &self.armed),
+            Entry::Cancelled { timer } => self.may_cancel(*timer),
+            Entry::Polled { .. } => false,
+            Entry::Due { timer } => due && self.armed.is_first(self.moment, *timer),
             Entry::Ready { handle, kind } => {
                 ready
-                    && (!is_reached(self.moment, &self.armed)
-                        && is_wanted(&self.handles, *handle, *kind))
+                    && (!self.armed.is_reached(self.moment)
+                        && self.handles.is_wanted(*handle, *kind))
             }
-            Entry::Posted { handle, .. } => is_alive(&self.handles, *handle),
-            Entry::Stale { handle, .. } => !is_alive(&self.handles, *handle),
+            Entry::Posted { handle, .. } => self.handles.is_alive(*handle),
+            Entry::Stale { handle, .. } => !self.handles.is_alive(*handle),
             Entry::Started { .. } => false,
-            Entry::Returned { event, .. } => is_open(&self.opens, *event),
-            Entry::Masked { handle, .. } => is_alive(&self.handles, *handle),
-            Entry::Suspended { handle } => is_resumed(&self.handles, *handle),
-            Entry::Resumed { handle } => is_suspended(&self.handles, *handle),
+            Entry::Returned { event, .. } => self.opens.is_open(*event),
+            Entry::Masked { handle, .. } => self.handles.is_alive(*handle),
+            Entry::Suspended { handle } => self.handles.is_resumed(*handle),
+            Entry::Resumed { handle } => self.handles.is_suspended(*handle),
             Entry::Refused { live, fault, .. } => self.may_refuse(*live, *fault, most),
-            Entry::Removed { handle } => is_alive(&self.handles, *handle),
-            Entry::Closed { handle, .. } => {
-                is_over(&self.handles, *handle) && !is_busy(&self.opens, *handle)
-            }
-            Entry::Ended => !self.some_wait(),
+            Entry::Removed { handle } => self.handles.is_alive(*handle),
+            Entry::Closed { handle, .. } => self.waits(*handle),
+            Entry::Ended => false,
         }
     }
 
-    /// The case of each kind of entry. `due` says whether a timer may come due now, and `ready` whether a report
-    /// may come now.
-    fn fits<N>(&self, due: bool, ready: bool, entry: &Entry<N>, most: u64) -> bool
-        ensures { (s : Summary) → Shows self.now s → IsSound s → result ≡ R.fits most due ready s entry.now }
+    /// The case of each kind of entry.
+    fn fits<N>(
+        &self,
+        due: bool,
+        ready: bool,
+        pick: Option<u64>,
+        waits: bool,
+        entry: &Entry<N>,
+        most: u64,
+    ) -> bool
+        ensures { pick ≡ K.pick_number self.now → waits ≡ S.some_wait self.now → result ≡ R.fits most due ready self.now entry.now }
     {
         match entry {
-            Entry::Started { event } => self.may_begin(self.is_pick(*event)),
-            Entry::Cancelled { timer } => self.may_cancel(*timer),
+            Entry::Started { event } => self.may_begin(is_number(pick, *event), waits),
+            Entry::Polled { now } => self.moment <= *now && !waits,
+            Entry::Ended => !waits,
             _ => self.fits_alone(due, ready, entry, most),
         }
     }
 
-    /// Whether the entry may follow.
-    pub fn may_follow<N>(&self, due: bool, ready: bool, entry: &Entry<N>, most: u64) -> bool
-        ensures { (s : Summary) → Shows self.now s → IsSound s → result ≡ R.may_follow most due ready s entry.now }
+    /// Whether the entry may follow. `due` says whether a timer may come due now, and `ready` whether a report may
+    /// come now; `pick` is the event to be started next, and `waits` says whether some handle waits for its close.
+    pub fn may_follow<N>(
+        &self,
+        due: bool,
+        ready: bool,
+        pick: Option<u64>,
+        waits: bool,
+        entry: &Entry<N>,
+        most: u64,
+    ) -> bool
+        ensures { pick ≡ K.pick_number self.now → waits ≡ S.some_wait self.now → result ≡ R.may_follow most due ready self.now entry.now }
     {
-        (winds_up(entry) || !self.ended) && self.fits(due, ready, entry, most)
+        (winds_up(entry) || !self.ended) && self.fits(due, ready, pick, waits, entry, most)
     }
 
-    /// Adds the event that an entry makes, if it makes one.
-    fn push(&mut self, made: Option<WaitingEvent>) -> Result<(), NoMemory>
-        ensures { OnOk result (self.new ≡ record self.old { queues = L.pushed self.old.queues (option_to_list made) }) }
+    /// Whether the handle waits for its close.
+    pub fn waits(&self, handle: Handle) -> bool
+        ensures { result ≡ S.waits_for_closed self.now handle.0 }
     {
-        match made {
-            None => Ok(()),
-            Some(w) => push_to(&mut self.queues, lane_of(&w), w),
+        self.handles.is_over(handle) && !self.opens.is_busy(handle)
+    }
+
+    fn is_free(&self, handle: Handle) -> bool
+        ensures { result ≡ S.is_free self.now handle.0 }
+    {
+        self.handles.is_resumed(handle) && !self.opens.is_busy(handle)
+    }
+
+    /// The class and number of the event of the handle that goes first, where one may be started.
+    pub fn front_key(&self, handle: Handle) -> Option<(u128, u64)>
+        ensures { IsSound self.now → result ≡ K.front_key self.now handle.0 }
+    {
+        if !self.is_free(handle) {
+            return None;
+        }
+        match self.waiting.front_of(handle) {
+            None => None,
+            Some(w) => Some((class_of(w.upcall) as u128, w.event)),
         }
     }
 
-    /// Adds the event of a report or of a notification.
-    fn report(&mut self, handle: Handle, upcall: Upcall) -> Result<(), NoMemory>
-        ensures { OnOk result (self.new ≡ record self.old { queues = L.pushed self.old.queues (record { event = self.old.base.entries; handle = handle; upcall = upcall; due = None } ∷ []) }) }
+    /// The handle that the entry is about.
+    pub fn about<N>(&self, entry: &Entry<N>) -> Option<Handle>
+        ensures { IsSound self.now → K.IsAbout self.now entry.now result }
+    {
+        match entry {
+            Entry::Opened { handle, .. } => Some(*handle),
+            Entry::Cancelled { timer } => self.waiting.timeout_handle(*timer),
+            Entry::Due { timer } => self.armed.handle_of(*timer),
+            Entry::Ready { handle, .. } => Some(*handle),
+            Entry::Posted { handle, .. } => Some(*handle),
+            Entry::Started { event } => self.waiting.handle_of(*event),
+            Entry::Returned { event, .. } => self.opens.handle_of(*event),
+            Entry::Masked { handle, .. } => Some(*handle),
+            Entry::Suspended { handle } => Some(*handle),
+            Entry::Resumed { handle } => Some(*handle),
+            Entry::Removed { handle } => Some(*handle),
+            Entry::Closed { handle, .. } => Some(*handle),
+            _ => None,
+        }
+    }
+
+    /// Adds an event, whose number is that of the entry.
+    fn report(
+        &mut self,
+        handle: Handle,
+        upcall: Upcall,
+        due: Option<DueTimer>,
+    ) -> Result<(), NoMemory>
+        ensures { Each (λ w. w.event < self.old.entries) self.old.waiting → OnOk result (self.new ≡ record self.old { waiting = self.old.waiting ++ record { event = self.old.entries; handle = handle; upcall = upcall; due = due } ∷ [] }) }
     {
         let event = self.entries;
-        self.push(Some(WaitingEvent {
+        self.waiting.push(WaitingEvent {
             event,
             handle,
             upcall,
-            due: None,
-        }))
+            due,
+        })
     }
 
-    fn open(&mut self, alloc: Global, handle: Handle, mask: Mask) -> Result<(), NoMemory>
-        requires { self.old.base.opened + 1 < 2 ^ 64 }
-        ensures { OnOk result (self.new ≡ L.kept_after {N = ℕ} self.old (Entry.Opened handle mask)) }
+    fn open(&mut self, handle: Handle, mask: Mask) -> Result<(), NoMemory>
+        requires { self.old.opened + 1 < 2 ^ 64 }
+        ensures { Each (λ h. h.handle.0 < handle.0) self.old.handles → OnOk result (self.new ≡ after {N = ℕ} self.old (Entry.Opened handle mask)) }
     {
-        add_five(alloc, &mut self.queues)?;
         self.handles.push(LiveHandle {
             handle,
             mask,
@@ -239,43 +258,50 @@ impl Machine {
         first: u64,
         every: u64,
     ) -> Result<(), NoMemory>
-        requires { self.old.base.scheduled + 1 < 2 ^ 64 }
-        ensures { OnOk result (self.new ≡ L.kept_after {N = ℕ} self.old (Entry.Scheduled timer handle first every)) }
+        requires { self.old.scheduled + 1 < 2 ^ 64 }
+        ensures { S.is_armed self.old timer ≡ false → OnOk result (self.new ≡ after {N = ℕ} self.old (Entry.Scheduled timer handle first every)) }
     {
-        arm(
-            &mut self.armed,
-            ArmedTimer {
-                deadline: first as u128,
-                timer,
-                handle,
-                every,
-            },
-        )?;
+        self.armed.arm(ArmedTimer {
+            deadline: first as u128,
+            timer,
+            handle,
+            every,
+        })?;
         self.scheduled += 1;
         Ok(())
     }
 
     fn come_due(&mut self, timer: u64) -> Result<(), NoMemory>
-        requires { S.is_first_due self.old.base timer ≡ true }
-        ensures { OnOk result (self.new ≡ L.kept_after {N = ℕ} self.old (Entry.Due timer)) }
+        requires { S.is_first_due self.old timer ≡ true }
+        ensures { Each (λ w. w.event < self.old.entries) self.old.waiting → OnOk result (self.new ≡ after {N = ℕ} self.old (Entry.Due timer)) }
     {
-        let made = due_event(self.entries, self.moment, timer, &self.armed);
-        disarm(&mut self.armed, timer);
-        self.push(made)
+        let first = self.armed.first_due(self.moment, timer);
+        self.armed.disarm(timer);
+        match first {
+            None => Ok(()),
+            Some(a) => {
+                let due = DueTimer {
+                    timer: a.timer,
+                    deadline: a.deadline as u64,
+                    every: a.every,
+                };
+                self.report(a.handle, Upcall::Timeout { timer: a.timer }, Some(due))
+            }
+        }
     }
 
     fn cancel(&mut self, timer: u64)
-        ensures { self.new ≡ L.kept_after {N = ℕ} self.old (Entry.Cancelled timer) }
+        ensures { self.new ≡ after {N = ℕ} self.old (Entry.Cancelled timer) }
     {
-        disarm(&mut self.armed, timer);
-        cancel(&mut self.queues, &self.handles, timer);
+        self.armed.disarm(timer);
+        self.waiting.cancel(timer);
     }
 
     fn begin(&mut self, w: WaitingEvent) -> Result<(), NoMemory>
-        ensures { OnOk result (self.new ≡ L.kept_started self.old w) }
+        ensures { is_idle w.due self.old.armed ≡ true → list_any (λ o. w.event == o.event) self.old.opens ≡ false → S.is_busy self.old w.handle.0 ≡ false → OnOk result (self.new ≡ L.started self.old w) }
     {
-        pop_from(&mut self.queues, lane_of(&w));
-        arm_again(&mut self.armed, self.moment, w.handle, w.due)?;
+        self.waiting.take(w.event);
+        self.armed.arm_again(self.moment, w.handle, w.due)?;
         self.opens.push(OpenEvent {
             event: w.event,
             handle: w.handle,
@@ -286,68 +312,57 @@ impl Machine {
     }
 
     fn start(&mut self, event: u64) -> Result<(), NoMemory>
-        ensures { (s : Summary) → Shows self.old s → IsSound s → S.is_pick s event ≡ true → OnOk result (Shows self.new (record (S.step {N = ℕ} s (Entry.Started event)) { entries = s.entries })) }
+        ensures { IsSound self.old → S.is_pick self.old event ≡ true → OnOk result (self.new ≡ after {N = ℕ} self.old (Entry.Started event)) }
     {
-        match self.pick() {
+        match self.waiting.find(event) {
             None => Ok(()),
             Some(w) => self.begin(w),
         }
     }
 
     fn mask(&mut self, handle: Handle, mask: Mask)
-        ensures { self.new ≡ L.kept_after {N = ℕ} self.old (Entry.Masked handle mask) }
+        ensures { self.new ≡ after {N = ℕ} self.old (Entry.Masked handle mask) }
     {
-        set_mask(&mut self.handles, handle, mask);
-        clear_masked(&mut self.queues, handle, mask);
+        self.handles.set_mask(handle, mask);
+        self.waiting.clear_masked(handle, mask);
     }
 
     fn end(&mut self, handle: Handle)
-        ensures { self.new ≡ L.kept_after {N = ℕ} self.old (Entry.Removed handle) }
+        ensures { self.new ≡ after {N = ℕ} self.old (Entry.Removed handle) }
     {
-        end_life(&mut self.handles, handle);
-        clear_all(&mut self.queues, handle);
-        disarm_all(&mut self.armed, handle);
+        self.handles.end_life(handle);
+        self.waiting.clear_all(handle);
+        self.armed.disarm_all(handle);
     }
 
-    /// The event that asks for the same upcall once more, where the handle is alive.
-    fn once_more(&self, o: OpenEvent) -> Option<WaitingEvent>
-        ensures { option_to_list result ≡ S.waiting_again self.now.base (Some o) }
+    /// Adds an event that asks for the same upcall once more, where the handle is alive.
+    fn once_more(&mut self, o: OpenEvent) -> Result<(), NoMemory>
+        ensures { Each (λ w. w.event < self.old.entries) self.old.waiting → OnOk result (self.new ≡ record self.old { waiting = self.old.waiting ++ S.waiting_again self.old (Some o) }) }
     {
-        if is_alive(&self.handles, o.handle) {
-            Some(WaitingEvent {
-                event: self.entries,
-                handle: o.handle,
-                upcall: o.upcall,
-                due: None,
-            })
+        if self.handles.is_alive(o.handle) {
+            self.report(o.handle, o.upcall, None)
         } else {
-            None
-        }
-    }
-
-    fn again(&self, event: u64) -> Option<WaitingEvent>
-        ensures { option_to_list result ≡ S.waiting_again self.now.base (S.open_event self.now.base event) }
-    {
-        match find_open(&self.opens, event) {
-            None => None,
-            Some(o) => self.once_more(o),
+            Ok(())
         }
     }
 
     fn settle_again(&mut self, event: u64) -> Result<(), NoMemory>
-        ensures { OnOk result (self.new ≡ L.kept_after {N = ℕ} self.old (Entry.Returned event Answer.Again 0)) }
+        ensures { Each (λ w. w.event < self.old.entries) self.old.waiting → OnOk result (self.new ≡ after {N = ℕ} self.old (Entry.Returned event Answer.Again 0)) }
     {
-        let made = self.again(event);
-        settle(&mut self.opens, event);
-        self.push(made)
+        let found = self.opens.find(event);
+        self.opens.settle(event);
+        match found {
+            None => Ok(()),
+            Some(o) => self.once_more(o),
+        }
     }
 
     #[tactic(auto, using(crate::proofs::Ended::no_owner))]
     fn settle_close(&mut self, event: u64)
-        ensures { self.new ≡ L.kept_after {N = ℕ} self.old (Entry.Returned event Answer.Close 0) }
+        ensures { self.new ≡ after {N = ℕ} self.old (Entry.Returned event Answer.Close 0) }
     {
-        let found = find_open(&self.opens, event);
-        settle(&mut self.opens, event);
+        let found = self.opens.find(event);
+        self.opens.settle(event);
         match found {
             None => {}
             Some(o) => self.end(o.handle),
@@ -355,11 +370,11 @@ impl Machine {
     }
 
     fn settle(&mut self, event: u64, answer: Answer) -> Result<(), NoMemory>
-        ensures { OnOk result (self.new ≡ L.kept_after {N = ℕ} self.old (Entry.Returned event answer 0)) }
+        ensures { Each (λ w. w.event < self.old.entries) self.old.waiting → OnOk result (self.new ≡ after {N = ℕ} self.old (Entry.Returned event answer 0)) }
     {
         match answer {
             Answer::Keep => {
-                settle(&mut self.opens, event);
+                self.opens.settle(event);
                 Ok(())
             }
             Answer::Again => self.settle_again(event),
@@ -371,17 +386,17 @@ impl Machine {
     }
 
     /// What an entry that is no `Started` changes, but for the number of entries.
-    fn apply<N>(&mut self, alloc: Global, entry: &Entry<N>) -> Result<(), NoMemory>
-        requires opened { self.old.base.opened + 1 < 2 ^ 64 }
-        requires closed { self.old.base.closed + 1 < 2 ^ 64 }
-        requires scheduled { self.old.base.scheduled + 1 < 2 ^ 64 }
-        requires refused { self.old.base.refused + 1 < 2 ^ 64 }
-        requires due { (timer : ℕ) → entry.now ≡ Entry.Due timer → S.is_first_due self.old.base timer ≡ true }
+    fn apply<N>(&mut self, entry: &Entry<N>) -> Result<(), NoMemory>
+        requires opened { self.old.opened + 1 < 2 ^ 64 }
+        requires closed { self.old.closed + 1 < 2 ^ 64 }
+        requires scheduled { self.old.scheduled + 1 < 2 ^ 64 }
+        requires refused { self.old.refused + 1 < 2 ^ 64 }
+        requires due { (timer : ℕ) → entry.now ≡ Entry.Due timer → S.is_first_due self.old timer ≡ true }
         requires other { (event : ℕ) → entry.now ≡ Entry.Started event → ⊥ }
-        ensures { OnOk result (self.new ≡ L.kept_after self.old entry.now) }
+        ensures { IsNew self.old entry.now → OnOk result (self.new ≡ after self.old entry.now) }
     {
         match entry {
-            Entry::Opened { handle, mask } => self.open(alloc, *handle, *mask),
+            Entry::Opened { handle, mask } => self.open(*handle, *mask),
             Entry::Scheduled {
                 timer,
                 handle,
@@ -397,9 +412,9 @@ impl Machine {
                 Ok(())
             }
             Entry::Due { timer } => self.come_due(*timer),
-            Entry::Ready { handle, kind } => self.report(*handle, upcall_of(*kind)),
+            Entry::Ready { handle, kind } => self.report(*handle, upcall_of(*kind), None),
             Entry::Posted { handle, kind, .. } => {
-                self.report(*handle, Upcall::Notice { kind: *kind })
+                self.report(*handle, Upcall::Notice { kind: *kind }, None)
             }
             Entry::Stale { .. } => Ok(()),
             Entry::Started { .. } => Ok(()),
@@ -409,11 +424,11 @@ impl Machine {
                 Ok(())
             }
             Entry::Suspended { handle } => {
-                set_suspended(&mut self.handles, *handle, true);
+                self.handles.set_suspended(*handle, true);
                 Ok(())
             }
             Entry::Resumed { handle } => {
-                set_suspended(&mut self.handles, *handle, false);
+                self.handles.set_suspended(*handle, false);
                 Ok(())
             }
             Entry::Refused { .. } => {
@@ -425,7 +440,7 @@ impl Machine {
                 Ok(())
             }
             Entry::Closed { handle, .. } => {
-                close(&mut self.handles, *handle);
+                self.handles.close(*handle);
                 self.closed += 1;
                 Ok(())
             }
@@ -437,34 +452,34 @@ impl Machine {
     }
 
     /// What an entry changes, but for the number of entries.
-    fn change<N>(&mut self, alloc: Global, entry: &Entry<N>) -> Result<(), NoMemory>
-        requires opened { self.old.base.opened + 1 < 2 ^ 64 }
-        requires closed { self.old.base.closed + 1 < 2 ^ 64 }
-        requires scheduled { self.old.base.scheduled + 1 < 2 ^ 64 }
-        requires refused { self.old.base.refused + 1 < 2 ^ 64 }
-        requires due { (timer : ℕ) → entry.now ≡ Entry.Due timer → S.is_first_due self.old.base timer ≡ true }
-        ensures { (s : Summary) → Shows self.old s → IsSound s → IsSound (S.step s entry.now) → ((event : ℕ) → entry.now ≡ Entry.Started event → S.is_pick s event ≡ true) → OnOk result (Shows self.new (record (S.step s entry.now) { entries = s.entries })) }
+    fn change<N>(&mut self, entry: &Entry<N>) -> Result<(), NoMemory>
+        requires opened { self.old.opened + 1 < 2 ^ 64 }
+        requires closed { self.old.closed + 1 < 2 ^ 64 }
+        requires scheduled { self.old.scheduled + 1 < 2 ^ 64 }
+        requires refused { self.old.refused + 1 < 2 ^ 64 }
+        requires due { (timer : ℕ) → entry.now ≡ Entry.Due timer → S.is_first_due self.old timer ≡ true }
+        ensures { IsSound self.old → IsNext self.old entry.now → OnOk result (self.new ≡ after self.old entry.now) }
     {
         match entry {
             Entry::Started { event } => self.start(*event),
-            _ => self.apply(alloc, entry),
+            _ => self.apply(entry),
         }
     }
 
     fn count(&mut self, entries: u64)
-        ensures { self.new ≡ record self.old { base = record self.old.base { entries = entries } } }
+        ensures { self.new ≡ record self.old { entries = entries } }
     {
         self.entries = entries;
     }
 
     /// Reads one more entry, which may follow.
-    pub fn step<N>(&mut self, alloc: Global, entry: &Entry<N>) -> Result<(), NoMemory>
-        requires small { IsSmall self.old.base }
-        requires due { (timer : ℕ) → entry.now ≡ Entry.Due timer → S.is_first_due self.old.base timer ≡ true }
-        ensures { (s : Summary) → Shows self.old s → IsSound s → IsSound (S.step s entry.now) → ((event : ℕ) → entry.now ≡ Entry.Started event → S.is_pick s event ≡ true) → OnOk result (Shows self.new (S.step s entry.now)) }
+    pub fn step<N>(&mut self, entry: &Entry<N>) -> Result<(), NoMemory>
+        requires small { IsSmall self.old }
+        requires due { (timer : ℕ) → entry.now ≡ Entry.Due timer → S.is_first_due self.old timer ≡ true }
+        ensures { IsSound self.old → IsNext self.old entry.now → OnOk result (self.new ≡ S.step self.old entry.now) }
     {
         let entries = self.entries + 1;
-        self.change(alloc, entry)?;
+        self.change(entry)?;
         self.count(entries);
         Ok(())
     }

@@ -5,7 +5,7 @@ ghost use Rattle.reactor_journal.specs.declared.entry.Entry.{Entry};
 ghost use Rattle.reactor_journal.specs.Follow as F;
 ghost use Rattle.journal_check.specs.Refusal.{RefusesAt, IsUnlessNoMemory};
 
-use crate::machine::Machine;
+use crate::checker::Checker;
 use ev_types::NoMemory;
 use reactor_journal::Entry;
 use std::alloc::Global;
@@ -72,14 +72,14 @@ fn read<N>(alloc: Global, journal: &[Entry<N>], most: u64) -> Result<(), CheckRe
     ensures ok { OnOk result (F.Legal journal.now most) }
     ensures illegal { (at : ℕ) → result ≡ Err (CheckRefused.Illegal at) → RefusesAt journal.now most at }
 {
-    let mut machine = Machine::new(alloc);
+    let mut checker = Checker::new(alloc);
     let mut due = false;
     let mut ready = false;
     for (k, entry) in journal.iter().enumerate() {
-        if !machine.may_follow(due, ready, entry, most) {
+        if !checker.may_follow(due, ready, entry, most) {
             return Err(CheckRefused::Illegal { at: k as u64 });
         }
-        machine.step(alloc, entry)?;
+        checker.step(entry)?;
         due = admits_due(entry);
         ready = admits_ready(entry);
     }

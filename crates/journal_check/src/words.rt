@@ -3,7 +3,7 @@
 ghost use Rattle.std.specs.Prelude.{◌≡◌};
 ghost use Rattle.reactor_journal.specs.Past as P;
 ghost use Rattle.reactor_journal.specs.Follow as F;
-ghost use Rattle.journal_check.specs.Lanes as L;
+ghost use Rattle.journal_check.specs.Queue as Q;
 
 use ev_types::{Kind, Mask, Upcall};
 use reactor_journal::Entry;
@@ -44,20 +44,30 @@ pub fn class_of(upcall: Upcall) -> usize
     }
 }
 
-/// The queue of an event: five for each handle, one for each class.
+/// The lane of an event: five for each handle, one for each class.
 pub fn lane_of(event: &WaitingEvent) -> u128
-    ensures { result ≡ L.lane_of event.now }
+    ensures { result ≡ Q.lane_of event.now }
 {
     event.handle.0 as u128 * 5 + class_of(event.upcall) as u128
 }
 
-/// Whether the upcall is a timeout of the timer.
-pub fn is_timeout_of(timer: u64, upcall: Upcall) -> bool
-    ensures { result ≡ P.is_timeout_of timer upcall }
+/// The timer of a timeout.
+pub fn timer_of(upcall: Upcall) -> Option<u64>
+    ensures { result ≡ Q.timer_of upcall }
 {
     match upcall {
-        Upcall::Timeout { timer: other } => other == timer,
-        _ => false,
+        Upcall::Timeout { timer } => Some(timer),
+        _ => None,
+    }
+}
+
+/// Whether it is that number.
+pub fn is_number(number: Option<u64>, event: u64) -> bool
+    ensures { result ≡ Q.is_num event number }
+{
+    match number {
+        Some(number) => number == event,
+        None => false,
     }
 }
 

@@ -29,3 +29,4 @@ mod Polls
 pub mod Acted
 pub mod Refused
 pub mod ActsOf
+pub mod HandOver

@@ -16,3 +16,4 @@ pub mod Timers
 pub mod Polling
 pub mod Taking
 pub mod Acting
+pub mod HandingOver

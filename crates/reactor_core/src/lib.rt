@@ -15,6 +15,7 @@ mod room;
 mod settling;
 mod timers;
 mod upcalls;
+mod volumes;
 
 pub use acting::Settled;
 pub use job::{Done, Job};
@@ -26,3 +27,4 @@ pub use removing::NotLive;
 pub use requests::{LiveRefused, StateRefused};
 pub use timers::CancelRefused;
 pub use upcalls::StartRefused;
+pub use volumes::HandOverRefused;

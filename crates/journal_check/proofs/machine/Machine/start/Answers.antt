@@ -1,14 +1,13 @@
-use Rattle.std.proofs.Common.{◌≡◌, ℕ, Some, sym, ap, ◌∙◌, subst}
-use Rattle.std.proofs.lemmas.Bool.{eqb-true}
-use Rattle.reactor_journal.specs.declared.entry.Entry.TheVariants.{Started}
+use Rattle.std.proofs.Common.{◌≡◌, Some, sym, ap, ◌∙◌}
 use Rattle.reactor_summary.specs.Summary as S
-use Rattle.journal_check.specs.Lanes.{Kept, Shows}
-use Rattle.journal_check.proofs.Kept.{shows_started, on_ok}
+use Rattle.journal_check.proofs.Keyed.{on_ok}
+use Rattle.journal_check.proofs.Picked.{found_idle, found_closed, found_free, found_started, unfound_started}
 use Rattle.journal_check.proofs.machine.Machine.start.Goals as goal
 
 pub returns-in-Some : goal.returns-in-Some
-returns-in-Some c s shows sound picks =
-    let picked : S.pick s ≡ Some c.in-Some.w = sym (c.in-Some.ensures s shows sound) in
-    let number : c.in-Some.w.event ≡ c.args.event = eqb-true _ _ (sym (ap (S.is_number c.args.event) picked) ∙ picks) in
-    on_ok c.begin.result c.begin.ensures
-    (λ new. subst (λ (k : Kept). Shows k (record (S.step {N = ℕ} s (Started c.args.event)) { entries = s.entries })) (sym new) (shows_started c.args.self.now s sound c.args.event c.in-Some.w shows picked number))
+returns-in-Some c sound picks =
+    let is : S.waiting_event c.args.self.now c.args.event ≡ Some c.in-Some.w = sym (ap (λ (s : S.Summary). S.waiting_event s c.args.event) c.self.view_is) ∙ sym c.in-Some.ensures in
+    on_ok c.begin.result (c.begin.ensures (found_idle c.args.self.now sound c.args.event c.in-Some.w is) (found_closed c.args.self.now sound c.args.event c.in-Some.w is) (found_free c.args.self.now sound c.args.event c.in-Some.w is picks)) (λ new. new ∙ found_started c.args.self.now c.args.event c.in-Some.w is)
+
+pub returns-in-None : goal.returns-in-None
+returns-in-None c sound picks = unfound_started c.args.self.now c.args.event (sym (ap (λ (s : S.Summary). S.waiting_event s c.args.event) c.self.view_is) ∙ sym c.in-None.ensures)

@@ -1,12 +1,11 @@
-use Rattle.std.proofs.Common.{◌≡◌, ◌+◌, suc, sym, ap, ◌∙◌, subst, arith}
+use Rattle.std.proofs.Common.{ℕ, ◌≡◌, ◌+◌, suc, ap, ◌∙◌, arith}
 use Rattle.reactor_summary.specs.Summary as S
-use Rattle.journal_check.specs.Lanes.{Kept, Shows}
-use Rattle.journal_check.proofs.Kept.{shows_counted}
 use Rattle.journal_check.proofs.machine.Machine.step.Goals as goal
 
 pub returns : goal.returns
-returns g c s shows sound later picks =
-    let before : c.self.inside.entries ≡ s.entries = ap (λ (k : Kept). k.base.entries) c.self.view_is ∙ ap (λ (b : S.Summary). b.entries) shows.base in
-    let number : c.self.inside.entries + 1 ≡ suc s.entries = omega arith in
-    subst (λ (k : Kept). Shows k (S.step s c.args.entry.now)) (sym c.count.ensures)
-    (shows_counted c.change.new.self s (S.step s c.args.entry.now) (c.self.inside.entries + 1) (c.in_ok-change.ensures s shows sound later picks) number)
+returns g c sound next =
+    let before : c.self.inside.entries ≡ c.args.self.now.entries = ap (λ (s : S.Summary). s.entries) c.self.view_is in
+    let number : c.self.inside.entries + 1 ≡ suc c.args.self.now.entries = omega arith in
+    c.count.ensures
+    ∙ (ap (λ (s : S.Summary). record s { entries = c.self.inside.entries + 1 }) (c.in_ok-change.ensures sound next)
+    ∙ ap (λ (n : ℕ). record (S.step c.args.self.now c.args.entry.now) { entries = n }) number)
