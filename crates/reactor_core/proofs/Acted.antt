@@ -1,5 +1,5 @@
 -- What the act of a turn leaves.
-use Rattle.std.proofs.Common.{ℕ, suc, ◌≡◌, ◌≤◌, ◌<◌, ◌+◌, ◌-◌, ◌^◌, ◌==◌, Bool, true, false, not, ◌&&◌, ◌||◌, ◌⊎◌, inl, inr, List, [], ◌∷◌, ◌++◌, length, min, refl, sym, ap, ◌∙◌, subst, arith, Option, Some, None, is_some, option_map, append-nil, append_assoc, ⊎_elim}
+use Rattle.std.proofs.Common.{ℕ, ◌≡◌, Bool, true, false, List, [], ◌∷◌, ◌++◌, length, refl, sym, ◌∙◌, subst, arith, Option, Some, None, is_some, option_map, append-nil, ⊎_elim}
 use Rattle.std.proofs.lemmas.Bool.{false≢true, or_left, or_right, or_cases}
 use Rattle.std.specs.List.{find}
 use Rattle.ev_types.specs.declared.upcall.Handle.{Handle}
@@ -11,7 +11,7 @@ use Rattle.reactor_journal.specs.Past as P
 use Rattle.reactor_journal.specs.Past.{past_of}
 use Rattle.reactor_summary.specs.declared.parts.ArmedTimer.{ArmedTimer}
 use Rattle.reactor_summary.specs.declared.parts.WaitingEvent.{WaitingEvent}
-use Rattle.reactor_summary.specs.Summary.{Summary, summary, armed_timer, is_armed, timeout_waits}
+use Rattle.reactor_summary.specs.Summary.{Summary, armed_timer, is_armed, timeout_waits}
 use Rattle.reactor_state.specs.State.{no_places}
 use Rattle.reactor_core.specs.Stands.{Meaning, HasRoom, Stands, places_for}
 use Rattle.reactor_core.specs.Settling.{act_places}

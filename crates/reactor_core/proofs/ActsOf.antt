@@ -1,5 +1,5 @@
 -- What a turn that is settled leaves, by its act.
-use Rattle.std.proofs.Common.{ℕ, ◌≡◌, ◌+◌, Bool, true, false, not, List, [], ◌∷◌, ◌++◌, length, refl, sym, ap, ◌∙◌, subst, Option, Some, None, append-nil, append_assoc}
+use Rattle.std.proofs.Common.{ℕ, ◌≡◌, ◌+◌, Bool, true, false, not, List, [], ◌∷◌, ◌++◌, refl, sym, ap, ◌∙◌, subst, Option, Some, None, append-nil, append_assoc}
 use Rattle.std.proofs.lemmas.List.{length-reverse}
 use Rattle.ev_types.specs.declared.upcall.Handle.{Handle}
 use Rattle.ev_types.specs.declared.upcall.Mask.{Mask}
@@ -7,7 +7,7 @@ use Rattle.ev_types.specs.declared.upcall.Upcall.{Upcall}
 use Rattle.ev_base.specs.Terms.{Terms}
 use Rattle.reactor_journal.specs.Event.{Origin}
 use Rattle.reactor_journal.specs.declared.entry.Entry.{Entry}
-use Rattle.reactor_journal.specs.declared.entry.Entry.TheVariants.{Closed, Ended, Returned}
+use Rattle.reactor_journal.specs.declared.entry.Entry.TheVariants.{Closed, Ended}
 use Rattle.reactor_journal.specs.Past.{past_of, offered_here, started_at}
 use Rattle.reactor_journal.specs.Follow.{is_legal}
 use Rattle.reactor_journal.proofs.Turning.{past_of-more}

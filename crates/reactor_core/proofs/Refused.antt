@@ -1,5 +1,5 @@
 -- A handler that is offered and not registered.
-use Rattle.std.proofs.Common.{ℕ, suc, ◌≡◌, ◌≤◌, ◌<◌, ◌+◌, ◌-◌, ◌^◌, ◌==◌, Bool, true, false, not, ◌&&◌, ◌||◌, ◌⊎◌, List, [], ◌∷◌, ◌++◌, length, refl, sym, ap, ◌∙◌, subst, arith, min, inl, inr, Option, None, ⊎_elim}
+use Rattle.std.proofs.Common.{ℕ, ◌≡◌, ◌≤◌, ◌<◌, ◌+◌, ◌^◌, ◌==◌, Bool, true, false, ◌||◌, List, [], ◌∷◌, ◌++◌, length, refl, sym, ap, subst, arith, inl, inr, Option, None, ⊎_elim}
 use Rattle.std.proofs.lemmas.Bool.{and_from, or_left, or_right, eq-eqb}
 use Rattle.ev_types.specs.declared.upcall.Why.TheVariants.{Refused as ByRefusal}
 use Rattle.ev_types.specs.declared.upcall.Handle.{Handle}
@@ -10,7 +10,7 @@ use Rattle.ev_base.specs.Net.{TurnsAwayEnd}
 use Rattle.reactor_journal.specs.declared.entry.Entry.{Entry}
 use Rattle.reactor_journal.specs.declared.entry.Entry.TheVariants.{Refused}
 use Rattle.reactor_journal.specs.Past.{past_of, offered_here, count}
-use Rattle.reactor_journal.specs.Follow.{may_follow, follows_due, follows_ready, most_handles}
+use Rattle.reactor_journal.specs.Follow.{follows_due, follows_ready, most_handles}
 use Rattle.reactor_journal.proofs.Turning.{past_of-more}
 use Rattle.reactor_summary.specs.Summary.{Summary, summary, step}
 use Rattle.reactor_summary.specs.Rules as R

@@ -5,7 +5,7 @@ use Rattle.ev_types.specs.declared.upcall.Mask.{Mask}
 use Rattle.ev_base.specs.Counts.{Rose}
 use Rattle.ev_base.specs.Terms.{Terms}
 use Rattle.reactor_journal.specs.declared.entry.Entry.{Entry}
-use Rattle.reactor_journal.specs.declared.entry.Entry.TheVariants.{Returned, Masked, Cancelled, Refused, Ended}
+use Rattle.reactor_journal.specs.declared.entry.Entry.TheVariants.{Masked, Cancelled, Refused, Ended}
 use Rattle.reactor_journal.specs.Past as P
 use Rattle.reactor_journal.specs.Past.{past_of, count}
 use Rattle.reactor_summary.specs.Summary.{Summary, summary, is_alive, is_busy, armed_timer}
@@ -15,7 +15,7 @@ use Rattle.reactor_model.specs.Turns.{IsTimer}
 use Rattle.reactor_model.specs.declared.handler.Act.{Act}
 use Rattle.reactor_model.specs.declared.handler.Act.TheVariants.{Install, MaskMine, CancelMine, Stop}
 use Rattle.reactor_core.specs.Ends.{is_fault}
-use Rattle.reactor_core.specs.Stands.{Meaning, Stands, StandsWithRoom}
+use Rattle.reactor_core.specs.Stands.{Meaning, Stands}
 use Rattle.reactor_core.specs.Registering.{HasPlaceFor, IsFull, IsOffered, registered}
 use Rattle.reactor_core.specs.Removing.{AreRemovals, alive_handles}
 use Rattle.reactor_core.specs.Settling.{IsClosing, returned}

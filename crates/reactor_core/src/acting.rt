@@ -43,9 +43,13 @@ fn is_of(handle: Handle, owner: Option<Handle>) -> bool
     }
 }
 
-impl<H: EventHandler, M: Net<End = H::End>, Q: TimerQueue, W: Watch<H::Note>, V: Volumes<H::Note>>
-    Core<H, M, Q, W, V>
-{
+impl<
+    H: EventHandler,
+    M: Net<End = H::End>,
+    Q: TimerQueue,
+    W: Watch<H::Note>,
+    V: Volumes<H::Note>,
+> Core<H, M, Q, W, V> {
     /// Settles an upcall that was made. The journal has `Returned`; where the handle is not alive any more its handler is closed, for
     /// itself where its own answer ended its life and else as it was removed, and `Closed` follows; else the handler goes home. Then
     /// the act of the turn is done. It takes no memory and cannot fail.
@@ -54,9 +58,26 @@ impl<H: EventHandler, M: Net<End = H::End>, Q: TimerQueue, W: Watch<H::Note>, V:
         ensures { (t : Terms) (F : ℕ) (h : List (Entry H.Note)) → Stands (meaning H.means M.facts M.keeps (Shows Q.timers) (HasPlaces Q.spare) IsPlaced W.stands V.facts) t self.old F h → DoneFits H.means t (past_of h) done
             → Settles (meaning H.means M.facts M.keeps (Shows Q.timers) (HasPlaces Q.spare) IsPlaced W.stands V.facts) t F h done self.old self.new result }
     {
-        let Done { event, handle, upcall, now, handler, turn } = done;
+        let Done {
+            event,
+            handle,
+            upcall,
+            now,
+            handler,
+            turn,
+        } = done;
         let Turn { answer, note, act } = turn;
-        self.settle_event(OpenEvent { event, handle, upcall, moment: now }, answer, note, handler);
+        self.settle_event(
+            OpenEvent {
+                event,
+                handle,
+                upcall,
+                moment: now,
+            },
+            answer,
+            note,
+            handler,
+        );
         self.act(handle, act);
         Settled {
             entries: self.state.entries(),
@@ -73,7 +94,13 @@ impl<H: EventHandler, M: Net<End = H::End>, Q: TimerQueue, W: Watch<H::Note>, V:
     {
         match act {
             None => {}
-            Some(Act::Install { handler, mask, timer }) => self.install(handler, mask, timer),
+            Some(
+                Act::Install {
+                    handler,
+                    mask,
+                    timer,
+                },
+            ) => self.install(handler, mask, timer),
             Some(Act::MaskMine(mask)) => self.mask_mine(handle, mask),
             Some(Act::CancelMine { timer }) => self.cancel_mine(handle, timer),
             Some(Act::Stop) => self.stop(),
@@ -116,7 +143,11 @@ impl<H: EventHandler, M: Net<End = H::End>, Q: TimerQueue, W: Watch<H::Note>, V:
         let (end, note) = handler.handle_close(Why::Refused);
         self.net.turn_away(end);
         self.state.refuse::<H::Note>();
-        append(&mut self.journal, &mut self.watch, Entry::Refused { live, fault, note });
+        append(
+            &mut self.journal,
+            &mut self.watch,
+            Entry::Refused { live, fault, note },
+        );
     }
 
     /// Changes the mask of a handle where it is alive.
@@ -130,7 +161,11 @@ impl<H: EventHandler, M: Net<End = H::End>, Q: TimerQueue, W: Watch<H::Note>, V:
         }
         self.net.set_mask(handle, mask);
         self.state.set_mask(handle, mask);
-        append(&mut self.journal, &mut self.watch, Entry::Masked { handle, mask });
+        append(
+            &mut self.journal,
+            &mut self.watch,
+            Entry::Masked { handle, mask },
+        );
     }
 
     /// Takes a timer away where it is one of the handle.
@@ -143,13 +178,18 @@ impl<H: EventHandler, M: Net<End = H::End>, Q: TimerQueue, W: Watch<H::Note>, V:
             return;
         }
         self.state.cancel(timer);
-        append(&mut self.journal, &mut self.watch, Entry::Cancelled { timer });
+        append(
+            &mut self.journal,
+            &mut self.watch,
+            Entry::Cancelled { timer },
+        );
     }
 
     /// Whether a timer is one of the handle, and is armed or has an event that waits to be started.
     fn is_mine(&self, handle: Handle, timer: u64) -> bool
         ensures { (t : Terms) (F : ℕ) (h : List (Entry H.Note)) → Stands (meaning H.means M.facts M.keeps (Shows Q.timers) (HasPlaces Q.spare) IsPlaced W.stands V.facts) t self.now F h → result ≡ is_mine (summary (past_of h)) handle.0 timer }
     {
-        is_of(handle, self.state.armed_handle(timer)) || is_of(handle, self.state.timeout_handle(timer))
+        is_of(handle, self.state.armed_handle(timer))
+            || is_of(handle, self.state.timeout_handle(timer))
     }
 }

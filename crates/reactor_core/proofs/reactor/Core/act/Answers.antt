@@ -1,6 +1,5 @@
 use Rattle.std.proofs.Common.{subst, ap, ◌∙◌, Some}
 use Rattle.reactor_journal.specs.Past.{past_of}
-use Rattle.reactor_model.specs.Turns.{IsTimer}
 use Rattle.reactor_state.proofs.Fewer.{has_fewer}
 use Rattle.reactor_core.specs.Settling.{act_places}
 use Rattle.reactor_core.specs.Acting.{FitsAct}

@@ -1,5 +1,4 @@
-use Rattle.std.proofs.Common.{sym, subst, ◌∙◌, inl, inr, true, false}
-use Rattle.ev_base.specs.Counts.{Rose}
+use Rattle.std.proofs.Common.{sym, ◌∙◌, inl, inr, true, false}
 use Rattle.reactor_journal.specs.Past.{past_of}
 use Rattle.reactor_summary.specs.Summary.{summary}
 use Rattle.reactor_core.proofs.Registered.{full_now, place_by}

@@ -1,5 +1,4 @@
 use Rattle.reactor_journal.specs.Past.{past_of}
-use Rattle.reactor_summary.specs.Summary.{summary}
 use Rattle.reactor_core.proofs.ActsOf.{settling_of, act_fits, settles}
 use Rattle.reactor_core.proofs.reactor.Core.settle.Goals as goal
 
