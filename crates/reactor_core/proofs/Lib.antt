@@ -16,3 +16,4 @@ pub mod Stopped
 pub mod Opened
 pub mod Registered
 pub mod Begun
+pub mod HandOver

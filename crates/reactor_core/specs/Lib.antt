@@ -10,3 +10,4 @@ pub mod Removing
 pub mod Registering
 pub mod Offering
 pub mod Beginning
+pub mod HandingOver

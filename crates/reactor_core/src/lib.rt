@@ -10,9 +10,11 @@ mod removing;
 mod room;
 mod settling;
 mod upcalls;
+mod volumes;
 
 pub use job::{Done, Job};
 pub use reactor::{Core, Parts};
 pub use registering::RegisterRefused;
 pub use removing::NotLive;
 pub use upcalls::StartRefused;
+pub use volumes::HandOverRefused;

@@ -15,7 +15,7 @@ use reactor_state::Places;
 use timer_queue::TimerQueue;
 
 /// How many entries a history has at most.
-const MOST_ENTRIES: u64 = 1 << 62;
+pub(crate) const MOST_ENTRIES: u64 = 1 << 62;
 
 /// Places for so many more beside those for the open events, or None where there are too many.
 fn places_for(opened: usize, more: Places) -> Option<Places>

@@ -1,0 +1,91 @@
+//! How the entries that a reactor holds are handed over: a long run cannot keep its whole journal.
+ghost use Rattle.std.specs.Prelude.{◌≡◌, ℕ, true, List, IfOk, IfErr, OnErr};
+ghost use Rattle.ev_base.specs.Terms.{Terms};
+ghost use Rattle.reactor_journal.specs.declared.entry.Entry.{Entry};
+ghost use Rattle.reactor_core.specs.Stands.{meaning, Stands, IsStanding, StandsAsBefore};
+ghost use Rattle.reactor_core.specs.HandingOver.{is_due, HandsOver, HandsNothing, HasCause, refusal_of};
+ghost use Rattle.reactor_state.specs.State.{Shows, HasPlaces, IsPlaced};
+
+use crate::Core;
+use crate::room::MOST_ENTRIES;
+use ev_base::Net;
+use reactor_journal::Journal;
+use reactor_model::{EventHandler, TakeRefused, Volumes, Watch};
+use std::mem;
+use timer_queue::TimerQueue;
+
+/// Why no volume was handed over.
+#[derive(Clone, Copy, PartialEq, Eq, Debug)]
+pub enum HandOverRefused {
+    /// The volumes failed, and their count of faults rose.
+    Failed,
+    /// There was no memory for what is owed, or for the volume.
+    NoMemory,
+}
+
+impl<
+    H: EventHandler,
+    M: Net<End = H::End>,
+    Q: TimerQueue,
+    W: Watch<H::Note>,
+    V: Volumes<H::Note>,
+> Core<H, M, Q, W, V> {
+    /// Hands the entries that are held over to the volumes, whether upcalls are open or not, and gives their number. That is done
+    /// exactly where they are at least as many as a volume has, and the whole journal has fewer than 2^62 entries; else the number
+    /// is 0 and nothing has changed. A refusal comes only where it is due, and changes nothing but, with `Failed`, the volumes'
+    /// count of faults.
+    pub fn hand_over(&mut self) -> Result<u64, HandOverRefused>
+        requires { IsStanding (meaning H.means M.facts M.keeps (Shows Q.timers) (HasPlaces Q.spare) IsPlaced W.stands V.facts) self.old }
+        ensures ok { IfOk result (λ n. (t : Terms) (F : ℕ) (h : List (Entry H.Note)) → Stands (meaning H.means M.facts M.keeps (Shows Q.timers) (HasPlaces Q.spare) IsPlaced W.stands V.facts) t self.old F h
+            → HandsOver (meaning H.means M.facts M.keeps (Shows Q.timers) (HasPlaces Q.spare) IsPlaced W.stands V.facts) t F h n self.old self.new) }
+        ensures due { OnErr result ((t : Terms) (F : ℕ) (h : List (Entry H.Note)) → Stands (meaning H.means M.facts M.keeps (Shows Q.timers) (HasPlaces Q.spare) IsPlaced W.stands V.facts) t self.old F h
+            → is_due self.old.volume F h ≡ true) }
+        ensures err { OnErr result (StandsAsBefore (meaning H.means M.facts M.keeps (Shows Q.timers) (HasPlaces Q.spare) IsPlaced W.stands V.facts) self.old self.new) }
+        ensures same { OnErr result (HandsNothing (meaning H.means M.facts M.keeps (Shows Q.timers) (HasPlaces Q.spare) IsPlaced W.stands V.facts) self.old self.new) }
+        ensures cause { IfErr result (λ refused. HasCause refused (V.facts self.old.volumes).faults (V.facts self.new.volumes).faults) }
+    {
+        if !self.is_volume_due() {
+            return Ok(0);
+        }
+        let held = self.journal.len();
+        let mut fresh = Journal::new(self.alloc);
+        match fresh.reserve(self.state.owed()) {
+            Ok(()) => {}
+            Err(_) => {
+                fresh.into_vec().destroy_empty();
+                return Err(HandOverRefused::NoMemory);
+            }
+        }
+        let volume = mem::replace(&mut self.journal, fresh);
+        match self.volumes.take(self.first, volume) {
+            Ok(()) => {
+                self.first += held;
+                Ok(held)
+            }
+            Err((back, why)) => {
+                mem::replace(&mut self.journal, back)
+                    .into_vec()
+                    .destroy_empty();
+                Err(refusal_of(why))
+            }
+        }
+    }
+
+    // Whether as many entries are held as a volume has at least, and the whole journal has fewer than 2^62.
+    fn is_volume_due(&self) -> bool
+        ensures { (t : Terms) (F : ℕ) (h : List (Entry H.Note)) → Stands (meaning H.means M.facts M.keeps (Shows Q.timers) (HasPlaces Q.spare) IsPlaced W.stands V.facts) t self.now F h
+            → result ≡ is_due self.now.volume F h }
+    {
+        self.journal.len() >= self.volume && self.state.entries() < MOST_ENTRIES
+    }
+}
+
+// The refusal, by what the volumes answered.
+fn refusal_of(why: TakeRefused) -> HandOverRefused
+    ensures { result ≡ refusal_of why }
+{
+    match why {
+        TakeRefused::Failed => HandOverRefused::Failed,
+        TakeRefused::NoMemory => HandOverRefused::NoMemory,
+    }
+}
