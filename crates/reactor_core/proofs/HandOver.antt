@@ -1,27 +1,16 @@
 -- The handing over of a volume.
-<<<<<<< HEAD
 use Rattle.std.proofs.Common.{ℕ, ◌≡◌, ◌≤◌, ◌<◌, ◌+◌, ◌-◌, ◌^◌, ◌&&◌, true, false, List, [], ◌++◌, length, take, drop, refl, sym, ap, ◌∙◌, subst, arith, Option, Some, None, Err}
-=======
-use Rattle.std.proofs.Common.{ℕ, ◌≡◌, ◌≤◌, ◌<◌, ◌+◌, ◌-◌, ◌^◌, ◌&&◌, true, List, [], ◌++◌, length, take, drop, refl, sym, ap, ◌∙◌, subst, arith, Option, Some, None, Err}
->>>>>>> 9bf4ce1d039fcb2a68fe138e4cf2785db2418871
 use Rattle.std.specs.Prelude.{nat_le, nat_lt}
 use Rattle.std.proofs.Math.Seq.{drop-length, take-length}
 use Rattle.std.proofs.lemmas.Bool.{and_parts, ltb-true}
 use Rattle.std.proofs.lemmas.List.{length-drop, length-reverse, take-append-drop, append_assoc}
 use Rattle.ev_base.specs.Terms.{Terms}
-<<<<<<< HEAD
-=======
-use Rattle.reactor_journal.specs.Held.{Held}
->>>>>>> 9bf4ce1d039fcb2a68fe138e4cf2785db2418871
 use Rattle.reactor_journal.specs.declared.entry.Entry.{Entry}
 use Rattle.reactor_journal.specs.Past.{past_of}
 use Rattle.reactor_journal.specs.Follow.{Legal}
 use Rattle.reactor_summary.specs.Summary.{Summary, summary}
 use Rattle.reactor_summary.proofs.Told.{told}
-<<<<<<< HEAD
 use Rattle.reactor_journal.specs.Held.{Held}
-=======
->>>>>>> 9bf4ce1d039fcb2a68fe138e4cf2785db2418871
 use Rattle.reactor_model.specs.Volumes.{VolumesFacts, AddsEntries, TakesVolume}
 use Rattle.reactor_model.specs.declared.volumes.TakeRefused.{TakeRefused}
 use Rattle.reactor_model.specs.declared.volumes.TakeRefused.TheVariants.{Failed, NoMemory}
@@ -131,7 +120,6 @@ module _ {H M Q W V N E : Type 0} (m : Meaning H M Q W V N E) (t : Terms) (old n
         );
       }
 
-<<<<<<< HEAD
 -- where no volume is due nothing changes
 pub hands_none : {H M Q W V N E : Type 0} (m : Meaning H M Q W V N E) (t : Terms) (core : Core H M Q W V N E) (F : ℕ) (h : List (Entry N)) → is_due core.volume F h ≡ false → HandsOver m t F h 0 core core
 hands_none m t core F h due = record {
@@ -140,8 +128,6 @@ hands_none m t core F h due = record {
   handed = subst (λ b. HandsDue b m t F h 0 core core) (sym due) (refl, refl);
 }
 
-=======
->>>>>>> 9bf4ce1d039fcb2a68fe138e4cf2785db2418871
 -- what the volumes answer where they refuse
 pub take_refused : {N : Type 0} (old : VolumesFacts N) (volume back : Held (Entry N)) (why : TakeRefused) (new : VolumesFacts N) → TakesVolume old volume (Err (back, why)) new
     → (back ≡ volume) × (new.taken ≡ old.taken) × HasCause (refusal_of why) old.faults new.faults
