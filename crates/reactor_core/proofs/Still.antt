@@ -1,7 +1,6 @@
 -- An upcall on its way while the reactor goes on. A past is a journal read backwards, with more entries before it.
-use Rattle.std.proofs.Common.{ℕ, ◌≡◌, ◌==◌, Bool, true, false, not, ◌&&◌, ◌||◌, List, [], ◌∷◌, ◌++◌, refl, sym, ap, ◌∙◌, subst, Option, Some, None, option_map, ⊎_elim}
+use Rattle.std.proofs.Common.{ℕ, ◌≡◌, ◌==◌, true, false, List, [], ◌∷◌, ◌++◌, refl, sym, ap, ◌∙◌, subst, Option, Some, option_map, ⊎_elim}
 use Rattle.std.proofs.lemmas.Bool.{false≢true, and_parts, or_right, both_ways, cases_Bool, eqb-true, eq-eqb}
-use Rattle.ev_types.specs.declared.upcall.Handle.{Handle}
 use Rattle.ev_base.specs.Terms.{Terms}
 use Rattle.reactor_journal.specs.Event.{Event}
 use Rattle.reactor_journal.specs.declared.entry.Entry.{Entry}
@@ -15,7 +14,7 @@ use Rattle.reactor_summary.specs.declared.parts.OpenEvent.{OpenEvent}
 use Rattle.reactor_summary.specs.Summary as S
 use Rattle.reactor_summary.specs.Summary.{summary}
 use Rattle.reactor_summary.specs.Tells as T
-use Rattle.reactor_summary.proofs.Opened.{Bare, next_is_bare, open_opened}
+use Rattle.reactor_summary.proofs.Opened.{next_is_bare, open_opened}
 use Rattle.reactor_summary.proofs.Told.{told}
 use Rattle.reactor_model.specs.Handling.{Handling}
 use Rattle.reactor_core.specs.Upcalls.{DoneFits}

@@ -1,5 +1,5 @@
 -- What holds of an upcall on its way while the reactor goes on.
-use Rattle.std.specs.Prelude.{ℕ, ◌≡◌, true, List, ◌++◌}
+use Rattle.std.specs.Prelude.{◌≡◌, true, List, ◌++◌}
 use Rattle.ev_base.specs.Terms.{Terms}
 use Rattle.reactor_journal.specs.declared.entry.Entry.{Entry}
 use Rattle.reactor_journal.specs.Past.{past_of, is_open}
