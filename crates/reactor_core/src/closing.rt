@@ -32,6 +32,7 @@ impl<
             → (note : H.Note) × Tracks (meaning H.means M.facts M.keeps (Shows Q.timers) (HasPlaces Q.spare) IsPlaced W.stands V.facts) t self.new F (h ++ Entry.Closed handle note ∷ []) None [] }
         ensures room { SpendsRoom (meaning H.means M.facts M.keeps (Shows Q.timers) (HasPlaces Q.spare) IsPlaced W.stands V.facts) 1 self.old self.new }
         ensures faults { (M.facts self.new.net).failed_attaches ≡ (M.facts self.old.net).failed_attaches }
+        ensures volume { self.new.volume ≡ self.old.volume }
     {
         let (end, note) = handler.handle_close(why);
         self.net.retire(handle, end);

@@ -56,6 +56,7 @@ impl<
         ensures ok { OnOk result (GoesOnBy (meaning H.means M.facts M.keeps (Shows Q.timers) (HasPlaces Q.spare) IsPlaced W.stands V.facts) self.old (λ s. posting s handle kind from seq) self.new) }
         ensures err { OnErr result (StandsAsBefore (meaning H.means M.facts M.keeps (Shows Q.timers) (HasPlaces Q.spare) IsPlaced W.stands V.facts) self.old self.new) }
         ensures cause { WhereStanding (meaning H.means M.facts M.keeps (Shows Q.timers) (HasPlaces Q.spare) IsPlaced W.stands V.facts) self.old (λ s. IsPostAnswer s result) }
+        ensures volume { self.new.volume ≡ self.old.volume }
     {
         if self.state.is_ended() {
             return Err(PostRefused::Stopped);
@@ -75,6 +76,7 @@ impl<
         ensures stands { StandsAsBefore (meaning H.means M.facts M.keeps (Shows Q.timers) (HasPlaces Q.spare) IsPlaced W.stands V.facts) self.old self.new }
         ensures room { OnOk result (WhereStanding (meaning H.means M.facts M.keeps (Shows Q.timers) (HasPlaces Q.spare) IsPlaced W.stands V.facts) self.old
             (λ s. HasRoom (meaning H.means M.facts M.keeps (Shows Q.timers) (HasPlaces Q.spare) IsPlaced W.stands V.facts) 1 post_places self.new s)) }
+        ensures volume { self.new.volume ≡ self.old.volume }
     {
         self.make_room(1, POST_PLACES)
     }
@@ -84,9 +86,10 @@ impl<
     pub fn post_reserved(&mut self, handle: Handle, kind: Kind, from: u64, seq: u64)
         requires stands { StandsWith (meaning H.means M.facts M.keeps (Shows Q.timers) (HasPlaces Q.spare) IsPlaced W.stands V.facts)
             (λ t h. HasRoom (meaning H.means M.facts M.keeps (Shows Q.timers) (HasPlaces Q.spare) IsPlaced W.stands V.facts) 1 post_places self.old (summary (past_of h)) × ((summary (past_of h)).ended ≡ false)) self.old }
-        ensures { (t : Terms) (F : ℕ) (h : List (Entry H.Note)) → Stands (meaning H.means M.facts M.keeps (Shows Q.timers) (HasPlaces Q.spare) IsPlaced W.stands V.facts) t self.old F h
+        ensures stands { (t : Terms) (F : ℕ) (h : List (Entry H.Note)) → Stands (meaning H.means M.facts M.keeps (Shows Q.timers) (HasPlaces Q.spare) IsPlaced W.stands V.facts) t self.old F h
             → HasRoom (meaning H.means M.facts M.keeps (Shows Q.timers) (HasPlaces Q.spare) IsPlaced W.stands V.facts) 1 post_places self.old (summary (past_of h)) → (summary (past_of h)).ended ≡ false
             → Stands (meaning H.means M.facts M.keeps (Shows Q.timers) (HasPlaces Q.spare) IsPlaced W.stands V.facts) t self.new F (h ++ posting (summary (past_of h)) handle kind from seq ∷ []) }
+        ensures volume { self.new.volume ≡ self.old.volume }
     {
         if self.state.is_alive(handle) {
             self.state.post(handle, kind);

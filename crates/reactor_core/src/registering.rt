@@ -80,9 +80,10 @@ impl<
     ) -> Result<Handle, (H, RegisterRefused)>
         requires stands { StandsWith (meaning H.means M.facts M.keeps (Shows Q.timers) (HasPlaces Q.spare) IsPlaced W.stands V.facts) (λ t h. IsOffered H.means t (past_of h) handler) self.old }
         requires timer { IsTimer timer }
-        ensures { (t : Terms) (F : ℕ) (h : List (Entry H.Note)) → Stands (meaning H.means M.facts M.keeps (Shows Q.timers) (HasPlaces Q.spare) IsPlaced W.stands V.facts) t self.old F h
+        ensures stands { (t : Terms) (F : ℕ) (h : List (Entry H.Note)) → Stands (meaning H.means M.facts M.keeps (Shows Q.timers) (HasPlaces Q.spare) IsPlaced W.stands V.facts) t self.old F h
             → IsOffered H.means t (past_of h) handler
             → RegisterGives (meaning H.means M.facts M.keeps (Shows Q.timers) (HasPlaces Q.spare) IsPlaced W.stands V.facts) t F h mask timer self.old result self.new }
+        ensures volume { self.new.volume ≡ self.old.volume }
     {
         if self.state.is_ended() {
             return Err((handler, RegisterRefused::Stopped));
@@ -112,9 +113,10 @@ impl<
         requires stands { (t : Terms) × (F : ℕ) × (h : List (Entry H.Note)) × StandsWithRoom (meaning H.means M.facts M.keeps (Shows Q.timers) (HasPlaces Q.spare) IsPlaced W.stands V.facts) 4 act_places t self.old F h
             × HasPlaceFor t.most (summary (past_of h)) × IsOffered H.means t (past_of h) handler }
         requires timer { IsTimer timer }
-        ensures { (t : Terms) (F : ℕ) (h : List (Entry H.Note)) → StandsWithRoom (meaning H.means M.facts M.keeps (Shows Q.timers) (HasPlaces Q.spare) IsPlaced W.stands V.facts) 4 act_places t self.old F h
+        ensures stands { (t : Terms) (F : ℕ) (h : List (Entry H.Note)) → StandsWithRoom (meaning H.means M.facts M.keeps (Shows Q.timers) (HasPlaces Q.spare) IsPlaced W.stands V.facts) 4 act_places t self.old F h
             → HasPlaceFor t.most (summary (past_of h)) → IsOffered H.means t (past_of h) handler
             → AdmitGives (meaning H.means M.facts M.keeps (Shows Q.timers) (HasPlaces Q.spare) IsPlaced W.stands V.facts) t F h mask timer self.old result self.new }
+        ensures volume { self.new.volume ≡ self.old.volume }
     {
         match self.open_handler(handler, mask) {
             Ok(handle) => match timer {
@@ -146,6 +148,7 @@ impl<
         ensures err { IfErr result (λ back. (t : Terms) (F : ℕ) (h : List (Entry H.Note)) → IsOffered H.means t (past_of h) handler → HasNumber (summary (past_of h))
             → Tracks (meaning H.means M.facts M.keeps (Shows Q.timers) (HasPlaces Q.spare) IsPlaced W.stands V.facts) t self.old F h None []
             → ComesBack (meaning H.means M.facts M.keeps (Shows Q.timers) (HasPlaces Q.spare) IsPlaced W.stands V.facts) t F h back self.old self.new) }
+        ensures volume { self.new.volume ≡ self.old.volume }
     {
         let mut handler = handler;
         let handle = Handle(self.state.opened());
@@ -181,6 +184,7 @@ impl<
         ensures places { (p : Places) → HasPlaces Q.spare p self.old.state → HasPlaces Q.spare (record p { timers = p.timers - 1 }) self.new.state }
         ensures repo { self.new.repo ≡ self.old.repo }
         ensures net { self.new.net ≡ self.old.net }
+        ensures volume { self.new.volume ≡ self.old.volume }
     {
         let first = self.state.moment() + delay;
         let timer = self.state.schedule(handle, first, every);

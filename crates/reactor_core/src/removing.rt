@@ -36,6 +36,7 @@ impl<
         ensures ok { OnOk result ((t : Terms) (F : ℕ) (h : List (Entry H.Note)) → Stands (meaning H.means M.facts M.keeps (Shows Q.timers) (HasPlaces Q.spare) IsPlaced W.stands V.facts) t self.old F h
             → Removes (meaning H.means M.facts M.keeps (Shows Q.timers) (HasPlaces Q.spare) IsPlaced W.stands V.facts) t F h handle self.new) }
         ensures err { OnErr result (self.new ≡ self.old) }
+        ensures volume { self.new.volume ≡ self.old.volume }
     {
         if !self.state.is_alive(handle) {
             return Err(NotLive);
@@ -47,8 +48,9 @@ impl<
     /// Removes the handler of a handle that is alive.
     pub(crate) fn remove_alive(&mut self, handle: Handle)
         requires { QuietWith (meaning H.means M.facts M.keeps (Shows Q.timers) (HasPlaces Q.spare) IsPlaced W.stands V.facts) (λ t h. is_alive (summary (past_of h)) handle.0 ≡ true) self.old }
-        ensures { (t : Terms) (F : ℕ) (h : List (Entry H.Note)) → StandsQuiet (meaning H.means M.facts M.keeps (Shows Q.timers) (HasPlaces Q.spare) IsPlaced W.stands V.facts) t self.old F h
+        ensures stands { (t : Terms) (F : ℕ) (h : List (Entry H.Note)) → StandsQuiet (meaning H.means M.facts M.keeps (Shows Q.timers) (HasPlaces Q.spare) IsPlaced W.stands V.facts) t self.old F h
             → is_alive (summary (past_of h)) handle.0 ≡ true → RemovesQuietly (meaning H.means M.facts M.keeps (Shows Q.timers) (HasPlaces Q.spare) IsPlaced W.stands V.facts) t F h handle self.new }
+        ensures volume { self.new.volume ≡ self.old.volume }
     {
         self.state.remove(handle);
         append(
@@ -66,8 +68,9 @@ impl<
     /// memory, and does nothing where the reactor was stopped before.
     pub fn stop(&mut self)
         requires { IsStanding (meaning H.means M.facts M.keeps (Shows Q.timers) (HasPlaces Q.spare) IsPlaced W.stands V.facts) self.old }
-        ensures { (t : Terms) (F : ℕ) (h : List (Entry H.Note)) → Stands (meaning H.means M.facts M.keeps (Shows Q.timers) (HasPlaces Q.spare) IsPlaced W.stands V.facts) t self.old F h
+        ensures stands { (t : Terms) (F : ℕ) (h : List (Entry H.Note)) → Stands (meaning H.means M.facts M.keeps (Shows Q.timers) (HasPlaces Q.spare) IsPlaced W.stands V.facts) t self.old F h
             → StopsOnce (meaning H.means M.facts M.keeps (Shows Q.timers) (HasPlaces Q.spare) IsPlaced W.stands V.facts) t F h self.new (summary (past_of h)).ended }
+        ensures volume { self.new.volume ≡ self.old.volume }
     {
         if self.state.is_ended() {
             return;
@@ -80,8 +83,9 @@ impl<
     /// Removes all handlers whose handles are alive.
     fn remove_all(&mut self)
         requires { QuietWith (meaning H.means M.facts M.keeps (Shows Q.timers) (HasPlaces Q.spare) IsPlaced W.stands V.facts) (λ t h. Unit {0}) self.old }
-        ensures { (t : Terms) (F : ℕ) (h : List (Entry H.Note)) → StandsQuiet (meaning H.means M.facts M.keeps (Shows Q.timers) (HasPlaces Q.spare) IsPlaced W.stands V.facts) t self.old F h
+        ensures stands { (t : Terms) (F : ℕ) (h : List (Entry H.Note)) → StandsQuiet (meaning H.means M.facts M.keeps (Shows Q.timers) (HasPlaces Q.spare) IsPlaced W.stands V.facts) t self.old F h
             → RemovesAll (meaning H.means M.facts M.keeps (Shows Q.timers) (HasPlaces Q.spare) IsPlaced W.stands V.facts) t F h self.new }
+        ensures volume { self.new.volume ≡ self.old.volume }
     {
         for _removed in 0..self.state.alive_count() {
             if !self.remove_first() {
@@ -98,6 +102,7 @@ impl<
         ensures none { result ≡ false → (t : Terms) (F : ℕ) (h : List (Entry H.Note)) → StandsQuiet (meaning H.means M.facts M.keeps (Shows Q.timers) (HasPlaces Q.spare) IsPlaced W.stands V.facts) t self.old F h
             → alive_handles (summary (past_of h)) ≡ [] }
         ensures same { result ≡ false → self.new ≡ self.old }
+        ensures volume { self.new.volume ≡ self.old.volume }
     {
         let Some(handle) = self.state.next_alive(Handle(0)) else {
             return false;

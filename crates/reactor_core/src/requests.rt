@@ -60,6 +60,7 @@ impl<
         ensures ok { OnOk result (GoesOnBy (meaning H.means M.facts M.keeps (Shows Q.timers) (HasPlaces Q.spare) IsPlaced W.stands V.facts) self.old (λ s. Entry.Suspended handle) self.new) }
         ensures err { OnErr result (StandsAsBefore (meaning H.means M.facts M.keeps (Shows Q.timers) (HasPlaces Q.spare) IsPlaced W.stands V.facts) self.old self.new) }
         ensures cause { WhereStanding (meaning H.means M.facts M.keeps (Shows Q.timers) (HasPlaces Q.spare) IsPlaced W.stands V.facts) self.old (λ s. IsStateAnswer s handle.0 true result) }
+        ensures volume { self.new.volume ≡ self.old.volume }
     {
         match self.suspension(handle) {
             None => return Err(StateRefused::NotLive),
@@ -87,6 +88,7 @@ impl<
         ensures ok { OnOk result (GoesOnBy (meaning H.means M.facts M.keeps (Shows Q.timers) (HasPlaces Q.spare) IsPlaced W.stands V.facts) self.old (λ s. Entry.Resumed handle) self.new) }
         ensures err { OnErr result (StandsAsBefore (meaning H.means M.facts M.keeps (Shows Q.timers) (HasPlaces Q.spare) IsPlaced W.stands V.facts) self.old self.new) }
         ensures cause { WhereStanding (meaning H.means M.facts M.keeps (Shows Q.timers) (HasPlaces Q.spare) IsPlaced W.stands V.facts) self.old (λ s. IsStateAnswer s handle.0 false result) }
+        ensures volume { self.new.volume ≡ self.old.volume }
     {
         match self.suspension(handle) {
             None => return Err(StateRefused::NotLive),
@@ -128,6 +130,7 @@ impl<
         ensures ok { OnOk result (GoesOnBy (meaning H.means M.facts M.keeps (Shows Q.timers) (HasPlaces Q.spare) IsPlaced W.stands V.facts) self.old (λ s. Entry.Masked handle mask) self.new) }
         ensures err { OnErr result (StandsAsBefore (meaning H.means M.facts M.keeps (Shows Q.timers) (HasPlaces Q.spare) IsPlaced W.stands V.facts) self.old self.new) }
         ensures cause { WhereStanding (meaning H.means M.facts M.keeps (Shows Q.timers) (HasPlaces Q.spare) IsPlaced W.stands V.facts) self.old (λ s. IsLiveAnswer s handle.0 result) }
+        ensures volume { self.new.volume ≡ self.old.volume }
     {
         if !self.state.is_alive(handle) {
             return Err(LiveRefused::NotLive);

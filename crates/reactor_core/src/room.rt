@@ -56,6 +56,7 @@ impl<
         ensures kept { Keeps (meaning H.means M.facts M.keeps (Shows Q.timers) (HasPlaces Q.spare) IsPlaced W.stands V.facts) self.old self.new }
         ensures room { OnOk result ((t : Terms) (F : ℕ) (h : List (Entry H.Note)) → Stands (meaning H.means M.facts M.keeps (Shows Q.timers) (HasPlaces Q.spare) IsPlaced W.stands V.facts) t self.old F h
             → HasRoom (meaning H.means M.facts M.keeps (Shows Q.timers) (HasPlaces Q.spare) IsPlaced W.stands V.facts) entries more self.new (summary (past_of h))) }
+        ensures volume { self.new.volume ≡ self.old.volume }
     {
         let open = self.state.open_count();
         let Some(entries) = entries_for(self.state.owed(), entries, self.state.entries()) else {

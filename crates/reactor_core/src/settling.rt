@@ -46,6 +46,7 @@ impl<
             → IsSettling H.means t (past_of h) settled answer note handler
             → SettlesEvent (meaning H.means M.facts M.keeps (Shows Q.timers) (HasPlaces Q.spare) IsPlaced W.stands V.facts) t F h settled answer note self.new }
         ensures faults { (M.facts self.new.net).failed_attaches ≡ (M.facts self.old.net).failed_attaches }
+        ensures volume { self.new.volume ≡ self.old.volume }
     {
         let alive = self.state.is_alive(settled.handle);
         self.record_return(settled.event, answer, note);
@@ -64,6 +65,7 @@ impl<
         ensures places { (p : Places) → HasPlaces Q.spare p self.old.state → HasPlaces Q.spare (record p { timeouts = p.timeouts - 1; events = p.events - 1 }) self.new.state }
         ensures repo { self.new.repo ≡ self.old.repo }
         ensures net { self.new.net ≡ self.old.net }
+        ensures volume { self.new.volume ≡ self.old.volume }
     {
         self.state.settle::<H::Note>(event, answer);
         append(
@@ -87,6 +89,7 @@ impl<
             → TakesBack (meaning H.means M.facts M.keeps (Shows Q.timers) (HasPlaces Q.spare) IsPlaced W.stands V.facts) t F h handle self.old self.new }
         ensures room { SpendsRoom (meaning H.means M.facts M.keeps (Shows Q.timers) (HasPlaces Q.spare) IsPlaced W.stands V.facts) 1 self.old self.new }
         ensures faults { (M.facts self.new.net).failed_attaches ≡ (M.facts self.old.net).failed_attaches }
+        ensures volume { self.new.volume ≡ self.old.volume }
     {
         if self.state.is_alive(handle) {
             self.repo.give_back(handle, handler);

@@ -55,6 +55,7 @@ impl<
         ensures ok { IfOk result (λ timer. GoesOnBy (meaning H.means M.facts M.keeps (Shows Q.timers) (HasPlaces Q.spare) IsPlaced W.stands V.facts) self.old (λ s. Entry.Scheduled timer handle (s.moment + delay) every) self.new) }
         ensures err { OnErr result (StandsAsBefore (meaning H.means M.facts M.keeps (Shows Q.timers) (HasPlaces Q.spare) IsPlaced W.stands V.facts) self.old self.new) }
         ensures cause { WhereStanding (meaning H.means M.facts M.keeps (Shows Q.timers) (HasPlaces Q.spare) IsPlaced W.stands V.facts) self.old (λ s. IsLiveAnswer s handle.0 result) }
+        ensures volume { self.new.volume ≡ self.old.volume }
     {
         if !self.state.is_alive(handle) {
             return Err(LiveRefused::NotLive);
@@ -86,6 +87,7 @@ impl<
         ensures ok { OnOk result (GoesOnBy (meaning H.means M.facts M.keeps (Shows Q.timers) (HasPlaces Q.spare) IsPlaced W.stands V.facts) self.old (λ s. Entry.Cancelled timer) self.new) }
         ensures err { OnErr result (StandsAsBefore (meaning H.means M.facts M.keeps (Shows Q.timers) (HasPlaces Q.spare) IsPlaced W.stands V.facts) self.old self.new) }
         ensures cause { WhereStanding (meaning H.means M.facts M.keeps (Shows Q.timers) (HasPlaces Q.spare) IsPlaced W.stands V.facts) self.old (λ s. IsCancelAnswer s timer result) }
+        ensures volume { self.new.volume ≡ self.old.volume }
     {
         if !self.is_pending(timer) {
             return Err(CancelRefused::NotArmed);

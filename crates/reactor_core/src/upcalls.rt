@@ -49,6 +49,7 @@ impl<
         ensures ok { IfOk result (λ job. (t : Terms) (F : ℕ) (h : List (Entry H.Note)) → Stands (meaning H.means M.facts M.keeps (Shows Q.timers) (HasPlaces Q.spare) IsPlaced W.stands V.facts) t self.old F h
             → StartGives (meaning H.means M.facts M.keeps (Shows Q.timers) (HasPlaces Q.spare) IsPlaced W.stands V.facts) t F h job self.new) }
         ensures err { OnErr result (StandsAsBefore (meaning H.means M.facts M.keeps (Shows Q.timers) (HasPlaces Q.spare) IsPlaced W.stands V.facts) self.old self.new) }
+        ensures volume { self.new.volume ≡ self.old.volume }
     {
         let Some(pick) = self.state.find_pick() else {
             return Ok(None);
@@ -65,10 +66,11 @@ impl<
         requires stands { StandsWith (meaning H.means M.facts M.keeps (Shows Q.timers) (HasPlaces Q.spare) IsPlaced W.stands V.facts) (λ t h. (S.pick (summary (past_of h)) ≡ Some pick.event)
             × HasRoom (meaning H.means M.facts M.keeps (Shows Q.timers) (HasPlaces Q.spare) IsPlaced W.stands V.facts) upcall_entries upcall_places self.old (summary (past_of h))) self.old }
         requires placed { IsPlaced self.old.state pick }
-        ensures { (t : Terms) (F : ℕ) (h : List (Entry H.Note)) → Stands (meaning H.means M.facts M.keeps (Shows Q.timers) (HasPlaces Q.spare) IsPlaced W.stands V.facts) t self.old F h
+        ensures stands { (t : Terms) (F : ℕ) (h : List (Entry H.Note)) → Stands (meaning H.means M.facts M.keeps (Shows Q.timers) (HasPlaces Q.spare) IsPlaced W.stands V.facts) t self.old F h
             → S.pick (summary (past_of h)) ≡ Some pick.event
             → HasRoom (meaning H.means M.facts M.keeps (Shows Q.timers) (HasPlaces Q.spare) IsPlaced W.stands V.facts) upcall_entries upcall_places self.old (summary (past_of h))
             → StartGives (meaning H.means M.facts M.keeps (Shows Q.timers) (HasPlaces Q.spare) IsPlaced W.stands V.facts) t F h (Some result) self.new }
+        ensures volume { self.new.volume ≡ self.old.volume }
     {
         let event = pick.event;
         let moment = self.state.moment();

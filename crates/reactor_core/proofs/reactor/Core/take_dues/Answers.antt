@@ -4,7 +4,7 @@ use Rattle.reactor_core.proofs.PollDue.{dues_begin, dues_may, may_take, dues_go_
 use Rattle.reactor_core.proofs.reactor.Core.take_dues.Goals as goal
 
 pub loop-left-init : goal.loop-left-init
-loop-left-init g c = record { dues = λ t F h s events pending k. dues_begin _ t c.args.self.now F s c.args.most events h pending k; net = refl }
+loop-left-init g c = record { dues = λ t F h s events pending k. dues_begin _ t c.args.self.now F s c.args.most events h pending k; net = refl; volume = refl }
 
 pub due-requires-clause-can : goal.due-requires-clause-can
 due-requires-clause-can g c =
@@ -39,6 +39,7 @@ loop-left-preserved g c = record {
         places = c.in-Some.ensures.places;
       }) (may_take _ t c.loop-left.self F s c.loop-left.left events h pending (omega (arith, c.loop-left-test.true)) (c.loop-left.invariant.dues t F h s events pending k));
   net = c.loop-left.invariant.net;
+  volume = c.loop-left.invariant.volume;
 }
 
 pub returns-clause-dues : goal.returns-clause-dues

@@ -15,6 +15,7 @@ invariant-loop-left g l =
     record {
       dues : (t : Terms) (F : ℕ) (h : List (Entry g.row.H-Note.Denot)) (s : Summary) (events : ℕ) (pending : List Report) → IsTakingDues m s l.most events t l.fn.self F h pending → HasTakenDues m s l.left events t l.self F h pending;
       net : l.self.net ≡ l.fn.self.net;
+      volume : l.self.volume ≡ l.fn.self.volume;
     }
 
 abbrev pub decreases-loop-left : goal.decreases-loop-left

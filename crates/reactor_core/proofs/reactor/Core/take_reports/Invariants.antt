@@ -16,4 +16,5 @@ invariant-loop-at g l =
       stands : (t : Terms) (F : ℕ) (h : List (Entry g.row.H-Note.Denot)) (s : Summary) (left : ℕ)
           → IsTakingReports m s left t l.fn.self F h (filter (is_taken s) (g.M.Net.facts l.fn.self.net).reports) → l.count ≤ left → HasTakenReports m s (g.M.Net.facts l.fn.self.net).reports l.at t l.self F h;
       net : l.self.net ≡ l.fn.self.net;
+      volume : l.self.volume ≡ l.fn.self.volume;
     }
