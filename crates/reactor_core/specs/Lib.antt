@@ -18,3 +18,4 @@ pub mod Taking
 pub mod Acting
 pub mod HandingOver
 pub mod Laws
+pub mod Faults

@@ -7,6 +7,7 @@ ghost use Rattle.reactor_summary.specs.Summary.{summary, is_alive};
 ghost use Rattle.reactor_summary.specs.Rules.{live};
 ghost use Rattle.reactor_model.specs.Turns.{IsTimer};
 ghost use Rattle.reactor_state.specs.State.{Shows, HasPlaces, IsPlaced};
+ghost use Rattle.reactor_core.specs.Faults.{HasNotFallen};
 ghost use Rattle.reactor_core.specs.Stands.{meaning, Stands, StandsWith, StandsWithRoom};
 ghost use Rattle.reactor_core.specs.Registering.{IsOffered};
 ghost use Rattle.reactor_core.specs.Settling.{act_places};
@@ -58,6 +59,10 @@ impl<
         ensures stands { (t : Terms) (F : ℕ) (h : List (Entry H.Note)) → Stands (meaning H.means M.facts M.keeps (Shows Q.timers) (HasPlaces Q.spare) IsPlaced W.stands V.facts) t self.old F h → DoneFits H.means t (past_of h) done
             → Settles (meaning H.means M.facts M.keeps (Shows Q.timers) (HasPlaces Q.spare) IsPlaced W.stands V.facts) t F h done self.old self.new result }
         ensures volume { self.new.volume ≡ self.old.volume }
+        ensures volumes { self.new.volumes ≡ self.old.volumes }
+        ensures wait_faults { HasNotFallen (M.facts self.old.net).failed_waits (M.facts self.new.net).failed_waits }
+        ensures attach_faults { HasNotFallen (M.facts self.old.net).failed_attaches (M.facts self.new.net).failed_attaches }
+        ensures watch_faults { W.faults self.old.watch ≤ W.faults self.new.watch }
     {
         let Done {
             event,
@@ -93,6 +98,10 @@ impl<
         ensures stands { (t : Terms) (F : ℕ) (h : List (Entry H.Note)) → StandsWithRoom (meaning H.means M.facts M.keeps (Shows Q.timers) (HasPlaces Q.spare) IsPlaced W.stands V.facts) 4 act_places t self.old F h → FitsAct H.means t (past_of h) act
             → Acts (meaning H.means M.facts M.keeps (Shows Q.timers) (HasPlaces Q.spare) IsPlaced W.stands V.facts) t F h handle act self.old self.new }
         ensures volume { self.new.volume ≡ self.old.volume }
+        ensures volumes { self.new.volumes ≡ self.old.volumes }
+        ensures wait_faults { HasNotFallen (M.facts self.old.net).failed_waits (M.facts self.new.net).failed_waits }
+        ensures attach_faults { HasNotFallen (M.facts self.old.net).failed_attaches (M.facts self.new.net).failed_attaches }
+        ensures watch_faults { W.faults self.old.watch ≤ W.faults self.new.watch }
     {
         match act {
             None => {}
@@ -116,6 +125,10 @@ impl<
         ensures stands { (t : Terms) (F : ℕ) (h : List (Entry H.Note)) → StandsWithRoom (meaning H.means M.facts M.keeps (Shows Q.timers) (HasPlaces Q.spare) IsPlaced W.stands V.facts) 4 act_places t self.old F h → IsOffered H.means t (past_of h) handler
             → Installs (meaning H.means M.facts M.keeps (Shows Q.timers) (HasPlaces Q.spare) IsPlaced W.stands V.facts) t F h mask timer self.old self.new }
         ensures volume { self.new.volume ≡ self.old.volume }
+        ensures volumes { self.new.volumes ≡ self.old.volumes }
+        ensures wait_faults { HasNotFallen (M.facts self.old.net).failed_waits (M.facts self.new.net).failed_waits }
+        ensures attach_faults { HasNotFallen (M.facts self.old.net).failed_attaches (M.facts self.new.net).failed_attaches }
+        ensures watch_faults { W.faults self.old.watch ≤ W.faults self.new.watch }
     {
         if self.state.is_ended() {
             self.refuse(handler, false);
@@ -142,6 +155,10 @@ impl<
             → (note : H.Note) × Stands (meaning H.means M.facts M.keeps (Shows Q.timers) (HasPlaces Q.spare) IsPlaced W.stands V.facts) t self.new F (h ++ Entry.Refused (live (summary (past_of h))) fault note ∷ []) }
         ensures faults { (M.facts self.new.net).failed_attaches ≡ (M.facts self.old.net).failed_attaches }
         ensures volume { self.new.volume ≡ self.old.volume }
+        ensures volumes { self.new.volumes ≡ self.old.volumes }
+        ensures wait_faults { HasNotFallen (M.facts self.old.net).failed_waits (M.facts self.new.net).failed_waits }
+        ensures attach_faults { HasNotFallen (M.facts self.old.net).failed_attaches (M.facts self.new.net).failed_attaches }
+        ensures watch_faults { W.faults self.old.watch ≤ W.faults self.new.watch }
     {
         let live = self.state.live();
         let (end, note) = handler.handle_close(Why::Refused);
@@ -160,6 +177,10 @@ impl<
         ensures stands { (t : Terms) (F : ℕ) (h : List (Entry H.Note)) → StandsWithRoom (meaning H.means M.facts M.keeps (Shows Q.timers) (HasPlaces Q.spare) IsPlaced W.stands V.facts) 4 act_places t self.old F h
             → Stands (meaning H.means M.facts M.keeps (Shows Q.timers) (HasPlaces Q.spare) IsPlaced W.stands V.facts) t self.new F (h ++ mask_mine (is_alive (summary (past_of h)) handle.0) handle mask) }
         ensures volume { self.new.volume ≡ self.old.volume }
+        ensures volumes { self.new.volumes ≡ self.old.volumes }
+        ensures wait_faults { HasNotFallen (M.facts self.old.net).failed_waits (M.facts self.new.net).failed_waits }
+        ensures attach_faults { HasNotFallen (M.facts self.old.net).failed_attaches (M.facts self.new.net).failed_attaches }
+        ensures watch_faults { W.faults self.old.watch ≤ W.faults self.new.watch }
     {
         if !self.state.is_alive(handle) {
             return;
@@ -179,6 +200,10 @@ impl<
         ensures stands { (t : Terms) (F : ℕ) (h : List (Entry H.Note)) → StandsWithRoom (meaning H.means M.facts M.keeps (Shows Q.timers) (HasPlaces Q.spare) IsPlaced W.stands V.facts) 4 act_places t self.old F h
             → Stands (meaning H.means M.facts M.keeps (Shows Q.timers) (HasPlaces Q.spare) IsPlaced W.stands V.facts) t self.new F (h ++ cancel_mine (is_mine (summary (past_of h)) handle.0 timer) timer) }
         ensures volume { self.new.volume ≡ self.old.volume }
+        ensures volumes { self.new.volumes ≡ self.old.volumes }
+        ensures wait_faults { HasNotFallen (M.facts self.old.net).failed_waits (M.facts self.new.net).failed_waits }
+        ensures attach_faults { HasNotFallen (M.facts self.old.net).failed_attaches (M.facts self.new.net).failed_attaches }
+        ensures watch_faults { W.faults self.old.watch ≤ W.faults self.new.watch }
     {
         if !self.is_mine(handle, timer) {
             return;

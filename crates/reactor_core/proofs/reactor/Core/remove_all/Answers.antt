@@ -5,7 +5,7 @@ use Rattle.reactor_core.proofs.Stopped.{removes_none, removes_more, removes_all,
 use Rattle.reactor_core.proofs.reactor.Core.remove_all.Goals as goal
 
 pub loop-removed-init : goal.loop-removed-init
-loop-removed-init g c = record { stands = λ t F h st. removes_none _ t c.args.self.now F h st; volume = refl }
+loop-removed-init g c = record { stands = λ t F h st. removes_none _ t c.args.self.now F h st; volume = refl; volumes = refl; wait_faults = omega arith; attach_faults = omega arith; watch_faults = omega arith }
 
 pub remove_first-requires : goal.remove_first-requires
 remove_first-requires g c =
@@ -19,6 +19,10 @@ loop-removed-preserved g c = record {
       let r = c.loop-removed.invariant.stands t F h st in
       removes_more _ c.loop-removed._removed t c.loop-removed.self _ F h r (c.remove_first.ensures.some c.if-not-remove_first.false t F _ r.stands);
   volume = c.remove_first.ensures.volume ∙ c.loop-removed.invariant.volume;
+  volumes = c.remove_first.ensures.volumes ∙ c.loop-removed.invariant.volumes;
+  wait_faults = let a = c.remove_first.ensures.wait_faults in let i = c.loop-removed.invariant.wait_faults in omega (arith, a, i);
+  attach_faults = let a = c.remove_first.ensures.attach_faults in let i = c.loop-removed.invariant.attach_faults in omega (arith, a, i);
+  watch_faults = let a = c.remove_first.ensures.watch_faults in let i = c.loop-removed.invariant.watch_faults in omega (arith, a, i);
 }
 
 pub returns-then-not-remove_first-clause-stands : goal.returns-then-not-remove_first-clause-stands
