@@ -1,16 +1,16 @@
 -- The handing over of a volume.
-use Rattle.std.proofs.Common.{ℕ, ◌≡◌, ◌≤◌, ◌<◌, ◌+◌, ◌-◌, ◌^◌, ◌&&◌, true, false, List, [], ◌++◌, length, take, drop, refl, sym, ap, ◌∙◌, subst, arith, Option, Some, None, Err}
+use Rattle.std.proofs.Common.{ℕ, ◌≡◌, ◌≤◌, ◌<◌, ◌+◌, ◌-◌, ◌^◌, ◌&&◌, true, List, [], ◌++◌, length, take, drop, sym, ap, ◌∙◌, subst, arith, Option, Some, None, Err}
 use Rattle.std.specs.Prelude.{nat_le, nat_lt}
 use Rattle.std.proofs.Math.Seq.{drop-length, take-length}
 use Rattle.std.proofs.lemmas.Bool.{and_parts, ltb-true}
 use Rattle.std.proofs.lemmas.List.{length-drop, length-reverse, take-append-drop, append_assoc}
 use Rattle.ev_base.specs.Terms.{Terms}
+use Rattle.reactor_journal.specs.Held.{Held}
 use Rattle.reactor_journal.specs.declared.entry.Entry.{Entry}
 use Rattle.reactor_journal.specs.Past.{past_of}
 use Rattle.reactor_journal.specs.Follow.{Legal}
 use Rattle.reactor_summary.specs.Summary.{Summary, summary}
 use Rattle.reactor_summary.proofs.Told.{told}
-use Rattle.reactor_journal.specs.Held.{Held}
 use Rattle.reactor_model.specs.Volumes.{VolumesFacts, AddsEntries, TakesVolume}
 use Rattle.reactor_model.specs.declared.volumes.TakeRefused.{TakeRefused}
 use Rattle.reactor_model.specs.declared.volumes.TakeRefused.TheVariants.{Failed, NoMemory}
@@ -18,7 +18,7 @@ use Rattle.reactor_state.specs.State.{owed, no_places}
 use Rattle.reactor_core.specs.Handlers.{RepositoryStands}
 use Rattle.reactor_core.specs.Ends.{WhereTold}
 use Rattle.reactor_core.specs.Stands.{Meaning, JournalStands, NetStands, HasTaken, Stands, places_for}
-use Rattle.reactor_core.specs.HandingOver.{is_due, KeepsOthers, HandsDue, HandsOver, HandsNothing, HasCause, refusal_of}
+use Rattle.reactor_core.specs.HandingOver.{is_due, KeepsOthers, HandsDue, HandsOver, HandsNothing, IsCause, refusal_of}
 use Rattle.reactor_core.specs.declared.reactor.Core.{Core}
 use Rattle.reactor_core.proofs.Ends.{told_same}
 
@@ -39,12 +39,12 @@ taken_all t F h held (Some old) (Some new) q a o =
     (o.0, a ∙ (ap (λ x. old ++ x) q ∙ (ap (λ x. x ++ drop F h) o.1 ∙ (append_assoc o.0 (take F h) (drop F h) ∙ ap (λ x. o.0 ++ x) (take-append-drop F h ∙ sym (take-length h))))), o.2)
 
 -- where a volume is due there are few entries
-pub few_are : {N : Type 0} (volume F : ℕ) (h : List (Entry N)) → is_due volume F h ≡ true → length h < 2 ^ 62
-few_are volume F h due = ltb-true _ _ (and_parts _ _ due).1
+pub few_are : {H M Q W V N E : Type 0} (core : Core H M Q W V N E) (F : ℕ) (h : List (Entry N)) → is_due core F h ≡ true → length h < 2 ^ 62
+few_are core F h due = ltb-true _ _ (and_parts _ _ due).1
 
 module _ {H M Q W V N E : Type 0} (m : Meaning H M Q W V N E) (t : Terms) (old : Core H M Q W V N E) (F : ℕ) (h : List (Entry N)) where
   -- the test says whether a volume is due
-  pub due_is : (held entries : ℕ) → held ≡ length old.journal.entries → entries ≡ (summary (past_of h)).entries → Stands m t old F h → (nat_le old.volume held && nat_lt entries (2 ^ 62)) ≡ is_due old.volume F h
+  pub due_is : (held entries : ℕ) → held ≡ length old.journal.entries → entries ≡ (summary (past_of h)).entries → Stands m t old F h → (nat_le old.volume held && nat_lt entries (2 ^ 62)) ≡ is_due old F h
   due_is held entries q e o =
       ap (λ (n : ℕ). nat_le old.volume n && nat_lt entries (2 ^ 62)) (q ∙ held_are old F h o.tracks.journal)
       ∙ ap (λ (n : ℕ). nat_le old.volume (length h - F) && nat_lt n (2 ^ 62)) (e ∙ entries_are t.most h o.tracks.legal)
@@ -104,7 +104,7 @@ module _ {H M Q W V N E : Type 0} (m : Meaning H M Q W V N E) (t : Terms) (old n
     pub taken : AddsEntries (m.volumes old.volumes).taken old.journal.entries (m.volumes new.volumes).taken
     pub faults : (m.volumes new.volumes).faults ≡ (m.volumes old.volumes).faults
 
-  pub hands : (n : ℕ) → Hands n → is_due old.volume F h ≡ true → Stands m t old F h → HandsOver m t F h n old new
+  pub hands : (n : ℕ) → Hands n → is_due old F h ≡ true → Stands m t old F h → HandsOver m t F h n old new
   hands n d due o =
       let j = o.tracks.journal in
       record {
@@ -120,16 +120,8 @@ module _ {H M Q W V N E : Type 0} (m : Meaning H M Q W V N E) (t : Terms) (old n
         );
       }
 
--- where no volume is due nothing changes
-pub hands_none : {H M Q W V N E : Type 0} (m : Meaning H M Q W V N E) (t : Terms) (core : Core H M Q W V N E) (F : ℕ) (h : List (Entry N)) → is_due core.volume F h ≡ false → HandsOver m t F h 0 core core
-hands_none m t core F h due = record {
-  others = record { most = refl; volume = refl; state = refl; repo = refl; net = refl; watch = refl };
-  faults = refl;
-  handed = subst (λ b. HandsDue b m t F h 0 core core) (sym due) (refl, refl);
-}
-
 -- what the volumes answer where they refuse
 pub take_refused : {N : Type 0} (old : VolumesFacts N) (volume back : Held (Entry N)) (why : TakeRefused) (new : VolumesFacts N) → TakesVolume old volume (Err (back, why)) new
-    → (back ≡ volume) × (new.taken ≡ old.taken) × HasCause (refusal_of why) old.faults new.faults
+    → (back ≡ volume) × (new.taken ≡ old.taken) × IsCause (refusal_of why) old.faults new.faults
 take_refused old volume back Failed new r = r
 take_refused old volume back NoMemory new r = r

@@ -30,3 +30,4 @@ pub mod Acted
 pub mod Refused
 pub mod ActsOf
 pub mod HandOver
+pub mod Still

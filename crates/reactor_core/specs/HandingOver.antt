@@ -12,8 +12,8 @@ use Rattle.reactor_core.specs.declared.volumes.HandOverRefused.{HandOverRefused}
 use Rattle.reactor_core.specs.declared.volumes.HandOverRefused.TheVariants.{Failed, NoMemory}
 
 -- Whether a volume is due: as many entries are held as a volume has at least, and the history is shorter than it may grow.
-abbrev pub is_due : {N : Type 0} → ℕ → ℕ → List (Entry N) → Bool
-is_due volume F h = nat_le volume (length h - F) && nat_lt (length h) (2 ^ 62)
+abbrev pub is_due : {H M Q W V N E : Type 0} → Core H M Q W V N E → ℕ → List (Entry N) → Bool
+is_due core F h = nat_le core.volume (length h - F) && nat_lt (length h) (2 ^ 62)
 
 -- all is as it was but the entries that are held, the number of the first of them, and the volumes
 pub record KeepsOthers {H M Q W V N E : Type 0} (old new : Core H M Q W V N E) : Type 0 where
@@ -33,7 +33,7 @@ HandsDue false m t F h n old new = (n ≡ 0) × (new ≡ old)
 pub record HandsOver {H M Q W V N E : Type 0} (m : Meaning H M Q W V N E) (t : Terms) (F : ℕ) (h : List (Entry N)) (n : ℕ) (old new : Core H M Q W V N E) : Type 0 where
   pub others : KeepsOthers old new
   pub faults : (m.volumes new.volumes).faults ≡ (m.volumes old.volumes).faults
-  pub handed : HandsDue (is_due old.volume F h) m t F h n old new
+  pub handed : HandsDue (is_due old F h) m t F h n old new
 
 -- a refusal changes nothing but the volumes, which have taken nothing
 pub record HandsNothing {H M Q W V N E : Type 0} (m : Meaning H M Q W V N E) (old new : Core H M Q W V N E) : Type 0 where
@@ -43,9 +43,12 @@ pub record HandsNothing {H M Q W V N E : Type 0} (m : Meaning H M Q W V N E) (ol
   pub taken : (m.volumes new.volumes).taken ≡ (m.volumes old.volumes).taken
 
 -- the volumes' count of faults rose where they failed, and else stands
-abbrev pub HasCause : HandOverRefused → ℕ → ℕ → Type 0
-HasCause Failed before now = Rose before now
-HasCause NoMemory before now = now ≡ before
+abbrev pub IsCause : HandOverRefused → ℕ → ℕ → Type 0
+IsCause Failed before now = Rose before now
+IsCause NoMemory before now = now ≡ before
+
+abbrev pub HasCause : {H M Q W V N E : Type 0} → Meaning H M Q W V N E → HandOverRefused → Core H M Q W V N E → Core H M Q W V N E → Type 0
+HasCause m refused old new = IsCause refused (m.volumes old.volumes).faults (m.volumes new.volumes).faults
 
 -- the refusal, by what the volumes answered
 abbrev pub refusal_of : TakeRefused → HandOverRefused

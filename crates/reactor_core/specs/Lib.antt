@@ -17,3 +17,5 @@ pub mod Polling
 pub mod Taking
 pub mod Acting
 pub mod HandingOver
+pub mod Laws
+pub mod Faults

@@ -7,6 +7,7 @@ ghost use Rattle.reactor_summary.specs.Summary.{summary, is_alive};
 ghost use Rattle.reactor_summary.specs.Rules.{live};
 ghost use Rattle.reactor_model.specs.Turns.{IsTimer};
 ghost use Rattle.reactor_state.specs.State.{Shows, HasPlaces, IsPlaced};
+ghost use Rattle.reactor_core.specs.Faults.{HasNotFallen};
 ghost use Rattle.reactor_core.specs.Stands.{meaning, Stands, StandsWith, StandsWithRoom};
 ghost use Rattle.reactor_core.specs.Registering.{IsOffered};
 ghost use Rattle.reactor_core.specs.Settling.{act_places};
@@ -55,8 +56,13 @@ impl<
     /// the act of the turn is done. It takes no memory and cannot fail.
     pub fn settle(&mut self, done: Done<H>) -> Settled
         requires { StandsWith (meaning H.means M.facts M.keeps (Shows Q.timers) (HasPlaces Q.spare) IsPlaced W.stands V.facts) (λ t h. DoneFits H.means t (past_of h) done) self.old }
-        ensures { (t : Terms) (F : ℕ) (h : List (Entry H.Note)) → Stands (meaning H.means M.facts M.keeps (Shows Q.timers) (HasPlaces Q.spare) IsPlaced W.stands V.facts) t self.old F h → DoneFits H.means t (past_of h) done
+        ensures stands { (t : Terms) (F : ℕ) (h : List (Entry H.Note)) → Stands (meaning H.means M.facts M.keeps (Shows Q.timers) (HasPlaces Q.spare) IsPlaced W.stands V.facts) t self.old F h → DoneFits H.means t (past_of h) done
             → Settles (meaning H.means M.facts M.keeps (Shows Q.timers) (HasPlaces Q.spare) IsPlaced W.stands V.facts) t F h done self.old self.new result }
+        ensures volume { self.new.volume ≡ self.old.volume }
+        ensures volumes { self.new.volumes ≡ self.old.volumes }
+        ensures wait_faults { HasNotFallen (M.facts self.old.net).failed_waits (M.facts self.new.net).failed_waits }
+        ensures attach_faults { HasNotFallen (M.facts self.old.net).failed_attaches (M.facts self.new.net).failed_attaches }
+        ensures watch_faults { W.faults self.old.watch ≤ W.faults self.new.watch }
     {
         let Done {
             event,
@@ -89,8 +95,13 @@ impl<
     /// Does the act of a turn of the handle's handler.
     fn act(&mut self, handle: Handle, act: Option<Act<H>>)
         requires { (t : Terms) × (F : ℕ) × (h : List (Entry H.Note)) × StandsWithRoom (meaning H.means M.facts M.keeps (Shows Q.timers) (HasPlaces Q.spare) IsPlaced W.stands V.facts) 4 act_places t self.old F h × FitsAct H.means t (past_of h) act }
-        ensures { (t : Terms) (F : ℕ) (h : List (Entry H.Note)) → StandsWithRoom (meaning H.means M.facts M.keeps (Shows Q.timers) (HasPlaces Q.spare) IsPlaced W.stands V.facts) 4 act_places t self.old F h → FitsAct H.means t (past_of h) act
+        ensures stands { (t : Terms) (F : ℕ) (h : List (Entry H.Note)) → StandsWithRoom (meaning H.means M.facts M.keeps (Shows Q.timers) (HasPlaces Q.spare) IsPlaced W.stands V.facts) 4 act_places t self.old F h → FitsAct H.means t (past_of h) act
             → Acts (meaning H.means M.facts M.keeps (Shows Q.timers) (HasPlaces Q.spare) IsPlaced W.stands V.facts) t F h handle act self.old self.new }
+        ensures volume { self.new.volume ≡ self.old.volume }
+        ensures volumes { self.new.volumes ≡ self.old.volumes }
+        ensures wait_faults { HasNotFallen (M.facts self.old.net).failed_waits (M.facts self.new.net).failed_waits }
+        ensures attach_faults { HasNotFallen (M.facts self.old.net).failed_attaches (M.facts self.new.net).failed_attaches }
+        ensures watch_faults { W.faults self.old.watch ≤ W.faults self.new.watch }
     {
         match act {
             None => {}
@@ -111,8 +122,13 @@ impl<
     fn install(&mut self, handler: H, mask: Mask, timer: Option<(u64, u64)>)
         requires stands { (t : Terms) × (F : ℕ) × (h : List (Entry H.Note)) × StandsWithRoom (meaning H.means M.facts M.keeps (Shows Q.timers) (HasPlaces Q.spare) IsPlaced W.stands V.facts) 4 act_places t self.old F h × IsOffered H.means t (past_of h) handler }
         requires timer { IsTimer timer }
-        ensures { (t : Terms) (F : ℕ) (h : List (Entry H.Note)) → StandsWithRoom (meaning H.means M.facts M.keeps (Shows Q.timers) (HasPlaces Q.spare) IsPlaced W.stands V.facts) 4 act_places t self.old F h → IsOffered H.means t (past_of h) handler
+        ensures stands { (t : Terms) (F : ℕ) (h : List (Entry H.Note)) → StandsWithRoom (meaning H.means M.facts M.keeps (Shows Q.timers) (HasPlaces Q.spare) IsPlaced W.stands V.facts) 4 act_places t self.old F h → IsOffered H.means t (past_of h) handler
             → Installs (meaning H.means M.facts M.keeps (Shows Q.timers) (HasPlaces Q.spare) IsPlaced W.stands V.facts) t F h mask timer self.old self.new }
+        ensures volume { self.new.volume ≡ self.old.volume }
+        ensures volumes { self.new.volumes ≡ self.old.volumes }
+        ensures wait_faults { HasNotFallen (M.facts self.old.net).failed_waits (M.facts self.new.net).failed_waits }
+        ensures attach_faults { HasNotFallen (M.facts self.old.net).failed_attaches (M.facts self.new.net).failed_attaches }
+        ensures watch_faults { W.faults self.old.watch ≤ W.faults self.new.watch }
     {
         if self.state.is_ended() {
             self.refuse(handler, false);
@@ -138,6 +154,11 @@ impl<
             → MayRefuse (meaning H.means M.facts M.keeps (Shows Q.timers) (HasPlaces Q.spare) IsPlaced W.stands V.facts) t.most self.old (past_of h) fault
             → (note : H.Note) × Stands (meaning H.means M.facts M.keeps (Shows Q.timers) (HasPlaces Q.spare) IsPlaced W.stands V.facts) t self.new F (h ++ Entry.Refused (live (summary (past_of h))) fault note ∷ []) }
         ensures faults { (M.facts self.new.net).failed_attaches ≡ (M.facts self.old.net).failed_attaches }
+        ensures volume { self.new.volume ≡ self.old.volume }
+        ensures volumes { self.new.volumes ≡ self.old.volumes }
+        ensures wait_faults { HasNotFallen (M.facts self.old.net).failed_waits (M.facts self.new.net).failed_waits }
+        ensures attach_faults { HasNotFallen (M.facts self.old.net).failed_attaches (M.facts self.new.net).failed_attaches }
+        ensures watch_faults { W.faults self.old.watch ≤ W.faults self.new.watch }
     {
         let live = self.state.live();
         let (end, note) = handler.handle_close(Why::Refused);
@@ -153,8 +174,13 @@ impl<
     /// Changes the mask of a handle where it is alive.
     fn mask_mine(&mut self, handle: Handle, mask: Mask)
         requires { (t : Terms) × (F : ℕ) × (h : List (Entry H.Note)) × StandsWithRoom (meaning H.means M.facts M.keeps (Shows Q.timers) (HasPlaces Q.spare) IsPlaced W.stands V.facts) 4 act_places t self.old F h }
-        ensures { (t : Terms) (F : ℕ) (h : List (Entry H.Note)) → StandsWithRoom (meaning H.means M.facts M.keeps (Shows Q.timers) (HasPlaces Q.spare) IsPlaced W.stands V.facts) 4 act_places t self.old F h
+        ensures stands { (t : Terms) (F : ℕ) (h : List (Entry H.Note)) → StandsWithRoom (meaning H.means M.facts M.keeps (Shows Q.timers) (HasPlaces Q.spare) IsPlaced W.stands V.facts) 4 act_places t self.old F h
             → Stands (meaning H.means M.facts M.keeps (Shows Q.timers) (HasPlaces Q.spare) IsPlaced W.stands V.facts) t self.new F (h ++ mask_mine (is_alive (summary (past_of h)) handle.0) handle mask) }
+        ensures volume { self.new.volume ≡ self.old.volume }
+        ensures volumes { self.new.volumes ≡ self.old.volumes }
+        ensures wait_faults { HasNotFallen (M.facts self.old.net).failed_waits (M.facts self.new.net).failed_waits }
+        ensures attach_faults { HasNotFallen (M.facts self.old.net).failed_attaches (M.facts self.new.net).failed_attaches }
+        ensures watch_faults { W.faults self.old.watch ≤ W.faults self.new.watch }
     {
         if !self.state.is_alive(handle) {
             return;
@@ -171,8 +197,13 @@ impl<
     /// Takes a timer away where it is one of the handle.
     fn cancel_mine(&mut self, handle: Handle, timer: u64)
         requires { (t : Terms) × (F : ℕ) × (h : List (Entry H.Note)) × StandsWithRoom (meaning H.means M.facts M.keeps (Shows Q.timers) (HasPlaces Q.spare) IsPlaced W.stands V.facts) 4 act_places t self.old F h }
-        ensures { (t : Terms) (F : ℕ) (h : List (Entry H.Note)) → StandsWithRoom (meaning H.means M.facts M.keeps (Shows Q.timers) (HasPlaces Q.spare) IsPlaced W.stands V.facts) 4 act_places t self.old F h
+        ensures stands { (t : Terms) (F : ℕ) (h : List (Entry H.Note)) → StandsWithRoom (meaning H.means M.facts M.keeps (Shows Q.timers) (HasPlaces Q.spare) IsPlaced W.stands V.facts) 4 act_places t self.old F h
             → Stands (meaning H.means M.facts M.keeps (Shows Q.timers) (HasPlaces Q.spare) IsPlaced W.stands V.facts) t self.new F (h ++ cancel_mine (is_mine (summary (past_of h)) handle.0 timer) timer) }
+        ensures volume { self.new.volume ≡ self.old.volume }
+        ensures volumes { self.new.volumes ≡ self.old.volumes }
+        ensures wait_faults { HasNotFallen (M.facts self.old.net).failed_waits (M.facts self.new.net).failed_waits }
+        ensures attach_faults { HasNotFallen (M.facts self.old.net).failed_attaches (M.facts self.new.net).failed_attaches }
+        ensures watch_faults { W.faults self.old.watch ≤ W.faults self.new.watch }
     {
         if !self.is_mine(handle, timer) {
             return;

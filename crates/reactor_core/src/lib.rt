@@ -5,6 +5,7 @@ mod acting;
 mod append;
 mod closing;
 mod job;
+pub mod laws;
 mod polling;
 mod postings;
 mod reactor;

@@ -8,6 +8,7 @@ ghost use Rattle.reactor_journal.specs.declared.entry.Entry.{Entry};
 ghost use Rattle.reactor_journal.specs.Past.{past_of};
 ghost use Rattle.reactor_summary.specs.Summary.{Summary, summary};
 ghost use Rattle.reactor_core.specs.Calls.{least_limit, is_taken};
+ghost use Rattle.reactor_core.specs.Faults.{HasNotFallen};
 ghost use Rattle.reactor_core.specs.Stands.{meaning, Stands, StandsWith, StandsAsBefore, Keeps, HasRoom};
 ghost use Rattle.reactor_core.specs.Polling.{FitsLimit, name_of, ready_of, Polls, WaitsOnce};
 ghost use Rattle.reactor_core.specs.Taking.{moment_of, count_of, event_places, MayWait, WaitGives, IsTakingDues, TakesDues, IsTakingReports, HasTakenReports};
@@ -114,6 +115,11 @@ impl<
         ensures stopped { (t : Terms) (F : ℕ) (h : List (Entry H.Note)) → Stands (meaning H.means M.facts M.keeps (Shows Q.timers) (HasPlaces Q.spare) IsPlaced W.stands V.facts) t self.old F h
             → (result ≡ Err PollRefused.Stopped) ↔ ((summary (past_of h)).ended ≡ true) }
         ensures failed { result ≡ Err PollRefused.NetFailed → Rose (M.facts self.old.net).failed_waits (M.facts self.new.net).failed_waits }
+        ensures volume { self.new.volume ≡ self.old.volume }
+        ensures volumes { self.new.volumes ≡ self.old.volumes }
+        ensures wait_faults { HasNotFallen (M.facts self.old.net).failed_waits (M.facts self.new.net).failed_waits }
+        ensures attach_faults { HasNotFallen (M.facts self.old.net).failed_attaches (M.facts self.new.net).failed_attaches }
+        ensures watch_faults { W.faults self.old.watch ≤ W.faults self.new.watch }
     {
         if self.state.is_ended() {
             return Err(PollRefused::Stopped);
@@ -135,6 +141,11 @@ impl<
         ensures kept { Keeps (meaning H.means M.facts M.keeps (Shows Q.timers) (HasPlaces Q.spare) IsPlaced W.stands V.facts) self.old self.new }
         ensures room { OnOk result ((t : Terms) (F : ℕ) (h : List (Entry H.Note)) → Stands (meaning H.means M.facts M.keeps (Shows Q.timers) (HasPlaces Q.spare) IsPlaced W.stands V.facts) t self.old F h
             → HasRoom (meaning H.means M.facts M.keeps (Shows Q.timers) (HasPlaces Q.spare) IsPlaced W.stands V.facts) (armed + 257) (event_places armed 256) self.new (summary (past_of h))) }
+        ensures volume { self.new.volume ≡ self.old.volume }
+        ensures volumes { self.new.volumes ≡ self.old.volumes }
+        ensures wait_faults { HasNotFallen (M.facts self.old.net).failed_waits (M.facts self.new.net).failed_waits }
+        ensures attach_faults { HasNotFallen (M.facts self.old.net).failed_attaches (M.facts self.new.net).failed_attaches }
+        ensures watch_faults { W.faults self.old.watch ≤ W.faults self.new.watch }
     {
         let Some(entries) = armed.checked_add(MOST_REPORTS + 1) else {
             return Err(NoMemory);
@@ -158,6 +169,11 @@ impl<
             → WaitsOnce (meaning H.means M.facts M.keeps (Shows Q.timers) (HasPlaces Q.spare) IsPlaced W.stands V.facts) t F h limit polled (M.facts self.old.net) self.new) }
         ensures stands { IfNone result (StandsAsBefore (meaning H.means M.facts M.keeps (Shows Q.timers) (HasPlaces Q.spare) IsPlaced W.stands V.facts) self.old self.new) }
         ensures rose { IfNone result (Rose (M.facts self.old.net).failed_waits (M.facts self.new.net).failed_waits) }
+        ensures volume { self.new.volume ≡ self.old.volume }
+        ensures volumes { self.new.volumes ≡ self.old.volumes }
+        ensures wait_faults { HasNotFallen (M.facts self.old.net).failed_waits (M.facts self.new.net).failed_waits }
+        ensures attach_faults { HasNotFallen (M.facts self.old.net).failed_attaches (M.facts self.new.net).failed_attaches }
+        ensures watch_faults { W.faults self.old.watch ≤ W.faults self.new.watch }
     {
         let answer = self.wait_for(limit);
         let Some(polled) = name_of(answer) else {
@@ -175,6 +191,11 @@ impl<
         ensures gives { (t : Terms) (F : ℕ) (h : List (Entry H.Note)) (armed : ℕ) → MayWait (meaning H.means M.facts M.keeps (Shows Q.timers) (HasPlaces Q.spare) IsPlaced W.stands V.facts) armed limit t self.old F h
             → WaitGives (meaning H.means M.facts M.keeps (Shows Q.timers) (HasPlaces Q.spare) IsPlaced W.stands V.facts) armed t F h (moment_of result) self.new }
         ensures failed { moment_of result ≡ None → StandsAsBefore (meaning H.means M.facts M.keeps (Shows Q.timers) (HasPlaces Q.spare) IsPlaced W.stands V.facts) self.old self.new }
+        ensures volume { self.new.volume ≡ self.old.volume }
+        ensures volumes { self.new.volumes ≡ self.old.volumes }
+        ensures wait_faults { HasNotFallen (M.facts self.old.net).failed_waits (M.facts self.new.net).failed_waits }
+        ensures attach_faults { HasNotFallen (M.facts self.old.net).failed_attaches (M.facts self.new.net).failed_attaches }
+        ensures watch_faults { W.faults self.old.watch ≤ W.faults self.new.watch }
     {
         let answer = self.net.wait(limit);
         let Some(now) = moment_of(answer) else {
@@ -193,6 +214,11 @@ impl<
             → IsTakingDues (meaning H.means M.facts M.keeps (Shows Q.timers) (HasPlaces Q.spare) IsPlaced W.stands V.facts) s most events t self.old F h pending
             → TakesDues (meaning H.means M.facts M.keeps (Shows Q.timers) (HasPlaces Q.spare) IsPlaced W.stands V.facts) s events t self.new F h pending }
         ensures net { self.new.net ≡ self.old.net }
+        ensures volume { self.new.volume ≡ self.old.volume }
+        ensures volumes { self.new.volumes ≡ self.old.volumes }
+        ensures wait_faults { HasNotFallen (M.facts self.old.net).failed_waits (M.facts self.new.net).failed_waits }
+        ensures attach_faults { HasNotFallen (M.facts self.old.net).failed_attaches (M.facts self.new.net).failed_attaches }
+        ensures watch_faults { W.faults self.old.watch ≤ W.faults self.new.watch }
     {
         let mut left = most;
         while left > 0 {
@@ -215,6 +241,11 @@ impl<
             → count ≤ left
             → Stands (meaning H.means M.facts M.keeps (Shows Q.timers) (HasPlaces Q.spare) IsPlaced W.stands V.facts) t self.new F (h ++ map ready_of (filter (is_taken s) (M.facts self.old.net).reports)) }
         ensures net { self.new.net ≡ self.old.net }
+        ensures volume { self.new.volume ≡ self.old.volume }
+        ensures volumes { self.new.volumes ≡ self.old.volumes }
+        ensures wait_faults { HasNotFallen (M.facts self.old.net).failed_waits (M.facts self.new.net).failed_waits }
+        ensures attach_faults { HasNotFallen (M.facts self.old.net).failed_attaches (M.facts self.new.net).failed_attaches }
+        ensures watch_faults { W.faults self.old.watch ≤ W.faults self.new.watch }
     {
         for at in 0..count {
             self.take_report(at);
@@ -230,6 +261,11 @@ impl<
             → HasTakenReports (meaning H.means M.facts M.keeps (Shows Q.timers) (HasPlaces Q.spare) IsPlaced W.stands V.facts) s (M.facts self.old.net).reports at t self.old F h
             → HasTakenReports (meaning H.means M.facts M.keeps (Shows Q.timers) (HasPlaces Q.spare) IsPlaced W.stands V.facts) s (M.facts self.old.net).reports (at + 1) t self.new F h }
         ensures net { self.new.net ≡ self.old.net }
+        ensures volume { self.new.volume ≡ self.old.volume }
+        ensures volumes { self.new.volumes ≡ self.old.volumes }
+        ensures wait_faults { HasNotFallen (M.facts self.old.net).failed_waits (M.facts self.new.net).failed_waits }
+        ensures attach_faults { HasNotFallen (M.facts self.old.net).failed_attaches (M.facts self.new.net).failed_attaches }
+        ensures watch_faults { W.faults self.old.watch ≤ W.faults self.new.watch }
     {
         let report = self.net.report(at);
         if !self.state.is_wanted(report.handle, report.kind) {

@@ -83,6 +83,7 @@ impl<
         requires begins { (t : Terms) × CanBegin (M.facts net) (M.keeps t net) (Q.timers timers) (W.stands t watch []) (V.facts volumes) t most }
         ensures ok { IfOk result (λ core. (t : Terms) → CanBegin (M.facts net) (M.keeps t net) (Q.timers timers) (W.stands t watch []) (V.facts volumes) t most
             → Stands (meaning H.means M.facts M.keeps (Shows Q.timers) (HasPlaces Q.spare) IsPlaced W.stands V.facts) t core 0 []) }
+        ensures volume { IfOk result (λ core. core.volume ≡ volume) }
         ensures err { IfErr result (λ back. (back.0 ≡ net) × (back.1 ≡ timers) × (back.2 ≡ watch) × (back.3 ≡ volumes)) }
     {
         let mut journal = Journal::new(alloc);

@@ -4,6 +4,7 @@ ghost use Rattle.ev_base.specs.Terms.{Terms};
 ghost use Rattle.reactor_journal.specs.declared.entry.Entry.{Entry};
 ghost use Rattle.reactor_journal.specs.Past.{past_of};
 ghost use Rattle.reactor_summary.specs.Summary.{summary};
+ghost use Rattle.reactor_core.specs.Faults.{HasNotFallen};
 ghost use Rattle.reactor_core.specs.Stands.{meaning, IsStanding, StandsAsBefore};
 ghost use Rattle.reactor_core.specs.Requests.{GoesOnBy, WhereStanding, suspension, IsStateAnswer, IsLiveAnswer};
 ghost use Rattle.reactor_state.specs.State.{Shows, HasPlaces, IsPlaced};
@@ -60,6 +61,11 @@ impl<
         ensures ok { OnOk result (GoesOnBy (meaning H.means M.facts M.keeps (Shows Q.timers) (HasPlaces Q.spare) IsPlaced W.stands V.facts) self.old (λ s. Entry.Suspended handle) self.new) }
         ensures err { OnErr result (StandsAsBefore (meaning H.means M.facts M.keeps (Shows Q.timers) (HasPlaces Q.spare) IsPlaced W.stands V.facts) self.old self.new) }
         ensures cause { WhereStanding (meaning H.means M.facts M.keeps (Shows Q.timers) (HasPlaces Q.spare) IsPlaced W.stands V.facts) self.old (λ s. IsStateAnswer s handle.0 true result) }
+        ensures volume { self.new.volume ≡ self.old.volume }
+        ensures volumes { self.new.volumes ≡ self.old.volumes }
+        ensures wait_faults { HasNotFallen (M.facts self.old.net).failed_waits (M.facts self.new.net).failed_waits }
+        ensures attach_faults { HasNotFallen (M.facts self.old.net).failed_attaches (M.facts self.new.net).failed_attaches }
+        ensures watch_faults { W.faults self.old.watch ≤ W.faults self.new.watch }
     {
         match self.suspension(handle) {
             None => return Err(StateRefused::NotLive),
@@ -87,6 +93,11 @@ impl<
         ensures ok { OnOk result (GoesOnBy (meaning H.means M.facts M.keeps (Shows Q.timers) (HasPlaces Q.spare) IsPlaced W.stands V.facts) self.old (λ s. Entry.Resumed handle) self.new) }
         ensures err { OnErr result (StandsAsBefore (meaning H.means M.facts M.keeps (Shows Q.timers) (HasPlaces Q.spare) IsPlaced W.stands V.facts) self.old self.new) }
         ensures cause { WhereStanding (meaning H.means M.facts M.keeps (Shows Q.timers) (HasPlaces Q.spare) IsPlaced W.stands V.facts) self.old (λ s. IsStateAnswer s handle.0 false result) }
+        ensures volume { self.new.volume ≡ self.old.volume }
+        ensures volumes { self.new.volumes ≡ self.old.volumes }
+        ensures wait_faults { HasNotFallen (M.facts self.old.net).failed_waits (M.facts self.new.net).failed_waits }
+        ensures attach_faults { HasNotFallen (M.facts self.old.net).failed_attaches (M.facts self.new.net).failed_attaches }
+        ensures watch_faults { W.faults self.old.watch ≤ W.faults self.new.watch }
     {
         match self.suspension(handle) {
             None => return Err(StateRefused::NotLive),
@@ -128,6 +139,11 @@ impl<
         ensures ok { OnOk result (GoesOnBy (meaning H.means M.facts M.keeps (Shows Q.timers) (HasPlaces Q.spare) IsPlaced W.stands V.facts) self.old (λ s. Entry.Masked handle mask) self.new) }
         ensures err { OnErr result (StandsAsBefore (meaning H.means M.facts M.keeps (Shows Q.timers) (HasPlaces Q.spare) IsPlaced W.stands V.facts) self.old self.new) }
         ensures cause { WhereStanding (meaning H.means M.facts M.keeps (Shows Q.timers) (HasPlaces Q.spare) IsPlaced W.stands V.facts) self.old (λ s. IsLiveAnswer s handle.0 result) }
+        ensures volume { self.new.volume ≡ self.old.volume }
+        ensures volumes { self.new.volumes ≡ self.old.volumes }
+        ensures wait_faults { HasNotFallen (M.facts self.old.net).failed_waits (M.facts self.new.net).failed_waits }
+        ensures attach_faults { HasNotFallen (M.facts self.old.net).failed_attaches (M.facts self.new.net).failed_attaches }
+        ensures watch_faults { W.faults self.old.watch ≤ W.faults self.new.watch }
     {
         if !self.state.is_alive(handle) {
             return Err(LiveRefused::NotLive);

@@ -7,6 +7,7 @@ ghost use Rattle.reactor_summary.specs.declared.parts.OpenEvent.{OpenEvent};
 ghost use Rattle.reactor_summary.specs.Summary.{summary, open_event};
 ghost use Rattle.reactor_state.specs.State.{HasNumber, no_places, Shows, HasPlaces, IsPlaced};
 ghost use Rattle.reactor_state.specs.declared.places.Places.{Places};
+ghost use Rattle.reactor_core.specs.Faults.{HasNotFallen};
 ghost use Rattle.reactor_core.specs.Stands.{meaning, Stands, StandsWith, Tracks, TracksWith, SpendsRoom};
 ghost use Rattle.reactor_core.specs.Settling.{why_of, IsSettling, IsReturned};
 ghost use Rattle.reactor_core.specs.Settles.{TakesBack, SettlesEvent};
@@ -46,6 +47,11 @@ impl<
             → IsSettling H.means t (past_of h) settled answer note handler
             → SettlesEvent (meaning H.means M.facts M.keeps (Shows Q.timers) (HasPlaces Q.spare) IsPlaced W.stands V.facts) t F h settled answer note self.new }
         ensures faults { (M.facts self.new.net).failed_attaches ≡ (M.facts self.old.net).failed_attaches }
+        ensures volume { self.new.volume ≡ self.old.volume }
+        ensures volumes { self.new.volumes ≡ self.old.volumes }
+        ensures wait_faults { HasNotFallen (M.facts self.old.net).failed_waits (M.facts self.new.net).failed_waits }
+        ensures attach_faults { HasNotFallen (M.facts self.old.net).failed_attaches (M.facts self.new.net).failed_attaches }
+        ensures watch_faults { W.faults self.old.watch ≤ W.faults self.new.watch }
     {
         let alive = self.state.is_alive(settled.handle);
         self.record_return(settled.event, answer, note);
@@ -64,6 +70,11 @@ impl<
         ensures places { (p : Places) → HasPlaces Q.spare p self.old.state → HasPlaces Q.spare (record p { timeouts = p.timeouts - 1; events = p.events - 1 }) self.new.state }
         ensures repo { self.new.repo ≡ self.old.repo }
         ensures net { self.new.net ≡ self.old.net }
+        ensures volume { self.new.volume ≡ self.old.volume }
+        ensures volumes { self.new.volumes ≡ self.old.volumes }
+        ensures wait_faults { HasNotFallen (M.facts self.old.net).failed_waits (M.facts self.new.net).failed_waits }
+        ensures attach_faults { HasNotFallen (M.facts self.old.net).failed_attaches (M.facts self.new.net).failed_attaches }
+        ensures watch_faults { W.faults self.old.watch ≤ W.faults self.new.watch }
     {
         self.state.settle::<H::Note>(event, answer);
         append(
@@ -87,6 +98,11 @@ impl<
             → TakesBack (meaning H.means M.facts M.keeps (Shows Q.timers) (HasPlaces Q.spare) IsPlaced W.stands V.facts) t F h handle self.old self.new }
         ensures room { SpendsRoom (meaning H.means M.facts M.keeps (Shows Q.timers) (HasPlaces Q.spare) IsPlaced W.stands V.facts) 1 self.old self.new }
         ensures faults { (M.facts self.new.net).failed_attaches ≡ (M.facts self.old.net).failed_attaches }
+        ensures volume { self.new.volume ≡ self.old.volume }
+        ensures volumes { self.new.volumes ≡ self.old.volumes }
+        ensures wait_faults { HasNotFallen (M.facts self.old.net).failed_waits (M.facts self.new.net).failed_waits }
+        ensures attach_faults { HasNotFallen (M.facts self.old.net).failed_attaches (M.facts self.new.net).failed_attaches }
+        ensures watch_faults { W.faults self.old.watch ≤ W.faults self.new.watch }
     {
         if self.state.is_alive(handle) {
             self.repo.give_back(handle, handler);

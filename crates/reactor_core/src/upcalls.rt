@@ -1,10 +1,11 @@
 //! The start of an upcall.
-ghost use Rattle.std.specs.Prelude.{◌≡◌, ℕ, List, Some, IfOk, OnErr};
+ghost use Rattle.std.specs.Prelude.{◌≡◌, ℕ, List, Some, IfOk, OnErr, ◌≤◌};
 ghost use Rattle.ev_base.specs.Terms.{Terms};
 ghost use Rattle.reactor_journal.specs.declared.entry.Entry.{Entry};
 ghost use Rattle.reactor_journal.specs.Past.{past_of};
 ghost use Rattle.reactor_summary.specs.Summary as S;
 ghost use Rattle.reactor_summary.specs.Summary.{summary};
+ghost use Rattle.reactor_core.specs.Faults.{HasNotFallen};
 ghost use Rattle.reactor_core.specs.Stands.{meaning, Stands, IsStanding, StandsWith, StandsAsBefore, HasRoom, upcall_entries, upcall_places};
 ghost use Rattle.reactor_core.specs.Upcalls.{StartGives};
 ghost use Rattle.reactor_state.specs.State.{Shows, HasPlaces, IsPlaced};
@@ -49,6 +50,11 @@ impl<
         ensures ok { IfOk result (λ job. (t : Terms) (F : ℕ) (h : List (Entry H.Note)) → Stands (meaning H.means M.facts M.keeps (Shows Q.timers) (HasPlaces Q.spare) IsPlaced W.stands V.facts) t self.old F h
             → StartGives (meaning H.means M.facts M.keeps (Shows Q.timers) (HasPlaces Q.spare) IsPlaced W.stands V.facts) t F h job self.new) }
         ensures err { OnErr result (StandsAsBefore (meaning H.means M.facts M.keeps (Shows Q.timers) (HasPlaces Q.spare) IsPlaced W.stands V.facts) self.old self.new) }
+        ensures volume { self.new.volume ≡ self.old.volume }
+        ensures volumes { self.new.volumes ≡ self.old.volumes }
+        ensures wait_faults { HasNotFallen (M.facts self.old.net).failed_waits (M.facts self.new.net).failed_waits }
+        ensures attach_faults { HasNotFallen (M.facts self.old.net).failed_attaches (M.facts self.new.net).failed_attaches }
+        ensures watch_faults { W.faults self.old.watch ≤ W.faults self.new.watch }
     {
         let Some(pick) = self.state.find_pick() else {
             return Ok(None);
@@ -65,10 +71,15 @@ impl<
         requires stands { StandsWith (meaning H.means M.facts M.keeps (Shows Q.timers) (HasPlaces Q.spare) IsPlaced W.stands V.facts) (λ t h. (S.pick (summary (past_of h)) ≡ Some pick.event)
             × HasRoom (meaning H.means M.facts M.keeps (Shows Q.timers) (HasPlaces Q.spare) IsPlaced W.stands V.facts) upcall_entries upcall_places self.old (summary (past_of h))) self.old }
         requires placed { IsPlaced self.old.state pick }
-        ensures { (t : Terms) (F : ℕ) (h : List (Entry H.Note)) → Stands (meaning H.means M.facts M.keeps (Shows Q.timers) (HasPlaces Q.spare) IsPlaced W.stands V.facts) t self.old F h
+        ensures stands { (t : Terms) (F : ℕ) (h : List (Entry H.Note)) → Stands (meaning H.means M.facts M.keeps (Shows Q.timers) (HasPlaces Q.spare) IsPlaced W.stands V.facts) t self.old F h
             → S.pick (summary (past_of h)) ≡ Some pick.event
             → HasRoom (meaning H.means M.facts M.keeps (Shows Q.timers) (HasPlaces Q.spare) IsPlaced W.stands V.facts) upcall_entries upcall_places self.old (summary (past_of h))
             → StartGives (meaning H.means M.facts M.keeps (Shows Q.timers) (HasPlaces Q.spare) IsPlaced W.stands V.facts) t F h (Some result) self.new }
+        ensures volume { self.new.volume ≡ self.old.volume }
+        ensures volumes { self.new.volumes ≡ self.old.volumes }
+        ensures wait_faults { HasNotFallen (M.facts self.old.net).failed_waits (M.facts self.new.net).failed_waits }
+        ensures attach_faults { HasNotFallen (M.facts self.old.net).failed_attaches (M.facts self.new.net).failed_attaches }
+        ensures watch_faults { W.faults self.old.watch ≤ W.faults self.new.watch }
     {
         let event = pick.event;
         let moment = self.state.moment();

@@ -39,10 +39,10 @@ impl<
         ensures ok { IfOk result (λ n. (t : Terms) (F : ℕ) (h : List (Entry H.Note)) → Stands (meaning H.means M.facts M.keeps (Shows Q.timers) (HasPlaces Q.spare) IsPlaced W.stands V.facts) t self.old F h
             → HandsOver (meaning H.means M.facts M.keeps (Shows Q.timers) (HasPlaces Q.spare) IsPlaced W.stands V.facts) t F h n self.old self.new) }
         ensures due { OnErr result ((t : Terms) (F : ℕ) (h : List (Entry H.Note)) → Stands (meaning H.means M.facts M.keeps (Shows Q.timers) (HasPlaces Q.spare) IsPlaced W.stands V.facts) t self.old F h
-            → is_due self.old.volume F h ≡ true) }
+            → is_due self.old F h ≡ true) }
         ensures err { OnErr result (StandsAsBefore (meaning H.means M.facts M.keeps (Shows Q.timers) (HasPlaces Q.spare) IsPlaced W.stands V.facts) self.old self.new) }
         ensures same { OnErr result (HandsNothing (meaning H.means M.facts M.keeps (Shows Q.timers) (HasPlaces Q.spare) IsPlaced W.stands V.facts) self.old self.new) }
-        ensures cause { IfErr result (λ refused. HasCause refused (V.facts self.old.volumes).faults (V.facts self.new.volumes).faults) }
+        ensures cause { IfErr result (λ refused. HasCause (meaning H.means M.facts M.keeps (Shows Q.timers) (HasPlaces Q.spare) IsPlaced W.stands V.facts) refused self.old self.new) }
     {
         if !self.is_volume_due() {
             return Ok(0);
@@ -74,7 +74,7 @@ impl<
     // Whether as many entries are held as a volume has at least, and the whole journal has fewer than 2^62.
     fn is_volume_due(&self) -> bool
         ensures { (t : Terms) (F : ℕ) (h : List (Entry H.Note)) → Stands (meaning H.means M.facts M.keeps (Shows Q.timers) (HasPlaces Q.spare) IsPlaced W.stands V.facts) t self.now F h
-            → result ≡ is_due self.now.volume F h }
+            → result ≡ is_due self.now F h }
     {
         self.journal.len() >= self.volume && self.state.entries() < MOST_ENTRIES
     }

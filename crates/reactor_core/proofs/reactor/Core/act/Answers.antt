@@ -7,19 +7,19 @@ use Rattle.reactor_core.proofs.Registered.{plain_of}
 use Rattle.reactor_core.proofs.ActsOf.{acts_none, acts_install, acts_mask, acts_cancel, acts_stop}
 use Rattle.reactor_core.proofs.reactor.Core.act.Goals as goal
 
-pub returns-in-None : goal.returns-in-None
-returns-in-None g c t F h st fits = acts_none _ t c.args.self.now _ F h c.args.handle c.args.act c.in-None.is (plain_of _ (has_fewer g.Q.TimerQueue.spare) 4 act_places t c.args.self.now F h st)
+pub returns-in-None-clause-stands : goal.returns-in-None-clause-stands
+returns-in-None-clause-stands g c t F h st fits = acts_none _ t c.args.self.now _ F h c.args.handle c.args.act c.in-None.is (plain_of _ (has_fewer g.Q.TimerQueue.spare) 4 act_places t c.args.self.now F h st)
 
-pub returns-in-Some-Install : goal.returns-in-Some-Install
-returns-in-Some-Install g c t F h st fits =
+pub returns-in-Some-Install-clause-stands : goal.returns-in-Some-Install-clause-stands
+returns-in-Some-Install-clause-stands g c t F h st fits =
     let f = subst (λ a. FitsAct g.H.EventHandler.means t (past_of h) a) (c.in-Some-Install.is ∙ ap Some c.in-Some-Install.field-0-is) fits in
-    acts_install _ t c.args.self.now _ F h c.args.handle c.args.act c.in-Some-Install.handler c.in-Some-Install.mask c.in-Some-Install.timer (c.in-Some-Install.is ∙ ap Some c.in-Some-Install.field-0-is) (c.install.ensures t F h st f.0)
+    acts_install _ t c.args.self.now _ F h c.args.handle c.args.act c.in-Some-Install.handler c.in-Some-Install.mask c.in-Some-Install.timer (c.in-Some-Install.is ∙ ap Some c.in-Some-Install.field-0-is) (c.install.ensures.stands t F h st f.0)
 
-pub returns-in-Some-MaskMine : goal.returns-in-Some-MaskMine
-returns-in-Some-MaskMine g c t F h st fits = acts_mask _ t c.args.self.now _ F h c.args.handle c.args.act c.in-Some-MaskMine.mask (c.in-Some-MaskMine.is ∙ ap Some c.in-Some-MaskMine.field-0-is) (c.mask_mine.ensures t F h st)
+pub returns-in-Some-MaskMine-clause-stands : goal.returns-in-Some-MaskMine-clause-stands
+returns-in-Some-MaskMine-clause-stands g c t F h st fits = acts_mask _ t c.args.self.now _ F h c.args.handle c.args.act c.in-Some-MaskMine.mask (c.in-Some-MaskMine.is ∙ ap Some c.in-Some-MaskMine.field-0-is) (c.mask_mine.ensures.stands t F h st)
 
-pub returns-in-Some-CancelMine : goal.returns-in-Some-CancelMine
-returns-in-Some-CancelMine g c t F h st fits = acts_cancel _ t c.args.self.now _ F h c.args.handle c.args.act c.in-Some-CancelMine.timer (c.in-Some-CancelMine.is ∙ ap Some c.in-Some-CancelMine.field-0-is) (c.cancel_mine.ensures t F h st)
+pub returns-in-Some-CancelMine-clause-stands : goal.returns-in-Some-CancelMine-clause-stands
+returns-in-Some-CancelMine-clause-stands g c t F h st fits = acts_cancel _ t c.args.self.now _ F h c.args.handle c.args.act c.in-Some-CancelMine.timer (c.in-Some-CancelMine.is ∙ ap Some c.in-Some-CancelMine.field-0-is) (c.cancel_mine.ensures.stands t F h st)
 
-pub returns-in-Some-Stop : goal.returns-in-Some-Stop
-returns-in-Some-Stop g c t F h st fits = acts_stop _ t c.args.self.now _ F h c.args.handle c.args.act (c.in-Some-Stop.is ∙ ap Some c.in-Some-Stop.field-0-is) (c.stop.ensures t F h (plain_of _ (has_fewer g.Q.TimerQueue.spare) 4 act_places t c.args.self.now F h st))
+pub returns-in-Some-Stop-clause-stands : goal.returns-in-Some-Stop-clause-stands
+returns-in-Some-Stop-clause-stands g c t F h st fits = acts_stop _ t c.args.self.now _ F h c.args.handle c.args.act (c.in-Some-Stop.is ∙ ap Some c.in-Some-Stop.field-0-is) (c.stop.ensures.stands t F h (plain_of _ (has_fewer g.Q.TimerQueue.spare) 4 act_places t c.args.self.now F h st))

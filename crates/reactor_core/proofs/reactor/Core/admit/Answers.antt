@@ -25,8 +25,8 @@ arm-requires-clause-places g c =
     let o = c.requires.stands in
     has_fewer g.Q.TimerQueue.spare c.open_handler.new.self.state _ _ (record { handles = omega arith; timers = omega arith; timeouts = omega arith; events = omega arith; opens = omega arith }) (c.in-Ok.ensures.room.places (places_for _ act_places) o.3.room.state)
 
-pub returns-in-Some : goal.returns-in-Some
-returns-in-Some g c t F h st place offered =
+pub returns-in-Some-clause-stands : goal.returns-in-Some-clause-stands
+returns-in-Some-clause-stands g c t F h st place offered =
     let r = st.room.numbers in
     let number : HasNumber (summary (past_of h)) = omega (arith, r) in
     let later : HasNumber (summary (Opened c.in-Ok.handle c.args.mask ∷ past_of h)) = omega (arith, r) in
@@ -42,8 +42,8 @@ returns-in-Some g c t F h st place offered =
           (admitted_armed _ (has_fewer g.Q.TimerQueue.spare) t c.args.self.now c.open_handler.new.self _ F h c.in-Ok.handle c.args.mask c.in-Some.delay c.in-Some.every timer.0 c.in-Ok.ensures.room place st armed c.arm.ensures.journal c.arm.ensures.places c.arm.ensures.repo c.arm.ensures.net),
     )
 
-pub returns-in-None : goal.returns-in-None
-returns-in-None g c t F h st place offered =
+pub returns-in-None-clause-stands : goal.returns-in-None-clause-stands
+returns-in-None-clause-stands g c t F h st place offered =
     let r = st.room.numbers in
     let number : HasNumber (summary (past_of h)) = omega (arith, r) in (
       c.in-Ok.ensures.number t F h st.tracks,

@@ -13,13 +13,13 @@ use Rattle.reactor_core.proofs.Registered.{plain_of}
 use Rattle.reactor_core.proofs.Acted.{room_for_one, cancelled_not, cancelled_so, mine_pending}
 use Rattle.reactor_core.proofs.reactor.Core.cancel_mine.Goals as goal
 
-pub returns-then-not-is_mine : goal.returns-then-not-is_mine
-returns-then-not-is_mine g c t F h st =
+pub returns-then-not-is_mine-clause-stands : goal.returns-then-not-is_mine-clause-stands
+returns-then-not-is_mine-clause-stands g c t F h st =
     let plain = plain_of _ (has_fewer g.Q.TimerQueue.spare) 4 act_places t c.args.self.now F h st in
     cancelled_not _ t c.args.self.now F h c.args.timer _ (sym (c.is_mine.ensures t F h plain) ∙ c.if-not-is_mine.true) plain
 
-pub returns : goal.returns
-returns g c t F h st =
+pub returns-clause-stands : goal.returns-clause-stands
+returns-clause-stands g c t F h st =
     let plain = plain_of _ (has_fewer g.Q.TimerQueue.spare) 4 act_places t c.args.self.now F h st in
     let mine : is_mine (summary (past_of h)) c.args.handle.0 c.args.timer ≡ true = sym (c.is_mine.ensures t F h plain) ∙ c.if-not-is_mine.false in
     let room = room_for_one _ (has_fewer g.Q.TimerQueue.spare) c.args.self.now (summary (past_of h)) st.room in

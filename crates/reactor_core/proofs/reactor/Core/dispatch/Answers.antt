@@ -17,8 +17,8 @@ start-requires-clause-room g c =
     let o = c.requires.stands in
     (has_fewer g.Q.TimerQueue.spare) c.args.self.now.state _ (places_for _ upcall_places) (record { handles = omega arith; timers = omega arith; timeouts = omega arith; events = omega arith; opens = omega arith }) o.4.1.state
 
-pub returns : goal.returns
-returns g c t F h o q room =
+pub returns-clause-stands : goal.returns-clause-stands
+returns-clause-stands g c t F h o q room =
     started _ t c.args.self.now _ F h c.args.pick.event _ refl refl refl c.moment-moment.ensures (record {
       appends = record { most = refl; first = refl; journal = c.append.ensures.entries; watch = c.append.ensures.watch; volumes = refl };
       spare = c.append.ensures.spare;

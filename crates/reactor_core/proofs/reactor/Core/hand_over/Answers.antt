@@ -3,7 +3,7 @@ use Rattle.reactor_journal.specs.Past.{past_of}
 use Rattle.reactor_summary.specs.Summary.{summary}
 use Rattle.reactor_model.specs.Volumes.{AddsEntries}
 use Rattle.reactor_state.specs.State.{owed}
-use Rattle.reactor_core.specs.HandingOver.{HasCause}
+use Rattle.reactor_core.specs.HandingOver.{IsCause}
 use Rattle.reactor_core.proofs.HandOver.{few_are, first_is, stands_refused, hands, take_refused}
 use Rattle.reactor_core.proofs.reactor.Core.hand_over.Goals as goal
 
@@ -11,7 +11,7 @@ pub overflow_add-self : goal.overflow_add-self
 overflow_add-self g c =
     let o = c.requires in
     let first : c.args.self.now.first + c.len-held.result ≡ length o.2 = first_is c.args.self.now o.1 o.2 c.len-held.result c.len-held.ensures o.3.tracks.journal in
-    let few : length o.2 < 2 ^ 62 = few_are c.args.self.now.volume o.1 o.2 (sym {A = Bool} (c.if-not-is_volume_due.ensures o.0 o.1 o.2 o.3)) in
+    let few : length o.2 < 2 ^ 62 = few_are c.args.self.now o.1 o.2 (sym {A = Bool} (c.if-not-is_volume_due.ensures o.0 o.1 o.2 o.3)) in
     omega (arith, first, few)
 
 pub returns-in-Ok-take-clause-ok : goal.returns-in-Ok-take-clause-ok
@@ -45,5 +45,5 @@ returns-in-Err-take-clause-err g c t F h o =
 pub returns-in-Err-take-clause-cause : goal.returns-in-Err-take-clause-cause
 returns-in-Err-take-clause-cause g c =
     let facts = g.V.Volumes.facts in
-    subst (λ refused. HasCause refused (facts c.args.self.now.volumes).faults (facts c.take.new.self).faults) (sym c.refusal_of.ensures)
+    subst (λ refused. IsCause refused (facts c.args.self.now.volumes).faults (facts c.take.new.self).faults) (sym c.refusal_of.ensures)
     (take_refused (facts c.args.self.now.volumes) c.replace-volume.result c.in-Err-take.back c.in-Err-take.why (facts c.take.new.self) c.in-Err-take.ensures).2

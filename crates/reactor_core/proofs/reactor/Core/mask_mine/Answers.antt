@@ -12,8 +12,8 @@ use Rattle.reactor_core.proofs.Registered.{plain_of}
 use Rattle.reactor_core.proofs.Acted.{room_for_one, masked_not, masked_so}
 use Rattle.reactor_core.proofs.reactor.Core.mask_mine.Goals as goal
 
-pub returns-then-not-is_alive : goal.returns-then-not-is_alive
-returns-then-not-is_alive g c t F h st =
+pub returns-then-not-is_alive-clause-stands : goal.returns-then-not-is_alive-clause-stands
+returns-then-not-is_alive-clause-stands g c t F h st =
     masked_not _ t c.args.self.now F h c.args.handle c.args.mask _ (sym (c.is_alive.ensures (summary (past_of h)) st.tracks.state) ∙ c.if-not-is_alive.true) (plain_of _ (has_fewer g.Q.TimerQueue.spare) 4 act_places t c.args.self.now F h st)
 
 pub set_mask-requires : goal.set_mask-requires
@@ -21,8 +21,8 @@ set_mask-requires g c =
     let o = c.requires in
     alive_attached _ o.0 c.args.self.now o.1 o.2 c.args.handle.0 o.3.tracks (sym (c.is_alive.ensures (summary (past_of o.2)) o.3.tracks.state) ∙ c.if-not-is_alive.false)
 
-pub returns : goal.returns
-returns g c t F h st =
+pub returns-clause-stands : goal.returns-clause-stands
+returns-clause-stands g c t F h st =
     let alive : is_alive (summary (past_of h)) c.args.handle.0 ≡ true = sym (c.is_alive.ensures (summary (past_of h)) st.tracks.state) ∙ c.if-not-is_alive.false in
     let room = room_for_one _ (has_fewer g.Q.TimerQueue.spare) c.args.self.now (summary (past_of h)) st.room in
     masked_so _ t _ F h c.args.handle c.args.mask _ alive (goes_on _ t c.args.self.now _ F h (Masked c.args.handle c.args.mask) no_places HasNumber refl (record {

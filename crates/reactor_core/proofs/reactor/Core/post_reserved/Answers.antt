@@ -8,8 +8,8 @@ use Rattle.reactor_core.specs.Postings.{post_places}
 use Rattle.reactor_core.proofs.Posted.{event_used, event_spared, posted, skipped}
 use Rattle.reactor_core.proofs.reactor.Core.post_reserved.Goals as goal
 
-pub returns-then-is_alive : goal.returns-then-is_alive
-returns-then-is_alive g c t F h o room runs =
+pub returns-then-is_alive-clause-stands : goal.returns-then-is_alive-clause-stands
+returns-then-is_alive-clause-stands g c t F h o room runs =
     posted _ t c.args.self.now _ F h c.args.handle c.args.kind c.args.from c.args.seq (record {
       appends = record { most = refl; first = refl; journal = c.append.ensures.entries; watch = c.append.ensures.watch; volumes = refl };
       spare = c.append.ensures.spare;
@@ -18,8 +18,8 @@ returns-then-is_alive g c t F h o room runs =
       places = λ n p. event_used (λ p. HasPlaces g.Q.TimerQueue.spare p c.post.new.self) n (c.post.ensures.places (places_for n post_places) p);
     }) refl (sym (c.is_alive.ensures (summary (past_of h)) o.tracks.state) ∙ c.if-is_alive.true) runs room o
 
-pub returns : goal.returns
-returns g c t F h o room runs =
+pub returns-clause-stands : goal.returns-clause-stands
+returns-clause-stands g c t F h o room runs =
     skipped _ t c.args.self.now _ F h c.args.handle c.args.kind c.args.from c.args.seq (record {
       appends = record { most = refl; first = refl; journal = c.append-2.ensures.entries; watch = c.append-2.ensures.watch; volumes = refl };
       spare = c.append-2.ensures.spare;

@@ -6,8 +6,8 @@ use Rattle.reactor_core.proofs.Kept.{stands_kept}
 use Rattle.reactor_core.proofs.Registered.{full_now, place_by, room_of, back_plain, rose_from}
 use Rattle.reactor_core.proofs.reactor.Core.register.Goals as goal
 
-pub returns-then-not-has_place : goal.returns-then-not-has_place
-returns-then-not-has_place g c t F h st offered =
+pub returns-then-not-has_place-clause-stands : goal.returns-then-not-has_place-clause-stands
+returns-then-not-has_place-clause-stands g c t F h st offered =
     let s = summary (past_of h) in
     let live_is = c.live-live.ensures s st.tracks.state in
     let opened_is = c.opened-opened.ensures s st.tracks.state in (
@@ -18,8 +18,8 @@ returns-then-not-has_place g c t F h st offered =
       record { stands = st; offered = offered },
     )
 
-pub returns-in-Err : goal.returns-in-Err
-returns-in-Err g c t F h st offered =
+pub returns-in-Err-clause-stands : goal.returns-in-Err-clause-stands
+returns-in-Err-clause-stands g c t F h st offered =
     let s = summary (past_of h) in (
       place_by t.most (past_of h) c.args.self.now.most c.live-live.result c.opened-opened.result st.tracks.most (c.live-live.ensures s st.tracks.state) (c.opened-opened.ensures s st.tracks.state) (sym (c.is_ended.ensures s st.tracks.state) ∙ c.if-is_ended.false) (sym c.has_place.ensures ∙ c.if-not-has_place.false),
       record { stands = stands_kept _ t _ _ F h c.in-Err.ensures.kept st; offered = offered },
@@ -37,16 +37,16 @@ admit-requires-clause-stands g c =
       o.4,
     )
 
-pub returns-in-Ok-admit : goal.returns-in-Ok-admit
-returns-in-Ok-admit g c t F h st offered =
+pub returns-in-Ok-admit-clause-stands : goal.returns-in-Ok-admit-clause-stands
+returns-in-Ok-admit-clause-stands g c t F h st offered =
     let s = summary (past_of h) in
     let place = place_by t.most (past_of h) c.args.self.now.most c.live-live.result c.opened-opened.result st.tracks.most (c.live-live.ensures s st.tracks.state) (c.opened-opened.ensures s st.tracks.state) (sym (c.is_ended.ensures s st.tracks.state) ∙ c.if-is_ended.false) (sym c.has_place.ensures ∙ c.if-not-has_place.false) in
-    let gives = c.in-Ok-admit.ensures t F h (room_of _ 4 _ t _ F h (stands_kept _ t _ _ F h c.in-Ok.ensures.kept st) (c.in-Ok.ensures.room t F h st)) place offered in
+    let gives = c.in-Ok-admit.ensures.stands t F h (room_of _ 4 _ t _ F h (stands_kept _ t _ _ F h c.in-Ok.ensures.kept st) (c.in-Ok.ensures.room t F h st)) place offered in
     (place, gives.0, gives.1)
 
-pub returns-in-Err-admit : goal.returns-in-Err-admit
-returns-in-Err-admit g c t F h st offered =
+pub returns-in-Err-admit-clause-stands : goal.returns-in-Err-admit-clause-stands
+returns-in-Err-admit-clause-stands g c t F h st offered =
     let s = summary (past_of h) in
     let place = place_by t.most (past_of h) c.args.self.now.most c.live-live.result c.opened-opened.result st.tracks.most (c.live-live.ensures s st.tracks.state) (c.opened-opened.ensures s st.tracks.state) (sym (c.is_ended.ensures s st.tracks.state) ∙ c.if-is_ended.false) (sym c.has_place.ensures ∙ c.if-not-has_place.false) in
-    let gives = c.in-Err-admit.ensures t F h (room_of _ 4 _ t _ F h (stands_kept _ t _ _ F h c.in-Ok.ensures.kept st) (c.in-Ok.ensures.room t F h st)) place offered in
+    let gives = c.in-Err-admit.ensures.stands t F h (room_of _ 4 _ t _ F h (stands_kept _ t _ _ F h c.in-Ok.ensures.kept st) (c.in-Ok.ensures.room t F h st)) place offered in
     (place, rose_from _ _ _ c.in-Ok.ensures.kept.net.failed_attaches gives.0.rose, back_plain _ (has_fewer g.Q.TimerQueue.spare) t _ F h c.in-Err-admit.back gives.1 gives.2)

@@ -5,8 +5,8 @@ use Rattle.reactor_core.proofs.Started.{home_found}
 use Rattle.reactor_core.proofs.Removed.{removed_on, removed_out, not_home_busy, alive_is_live, both_owed, number_of, closes_now, removed_closed}
 use Rattle.reactor_core.proofs.reactor.Core.remove_alive.Goals as goal
 
-pub returns-in_default : goal.returns-in_default
-returns-in_default g c t F h st alive =
+pub returns-in_default-clause-stands : goal.returns-in_default-clause-stands
+returns-in_default-clause-stands g c t F h st alive =
     removed_out _ t c.args.self.now _ F h c.args.handle st alive
     (not_home_busy g.H.EventHandler.means t (past_of h) c.args.handle.0 c.args.self.now.repo.entries (sym c.take.ensures.taken ∙ c.in_default.is) (alive_is_live (summary (past_of h)) c.args.handle.0 alive) st.tracks.repository)
     (removed_on _ t c.args.self.now _ F h c.args.handle (record {
@@ -37,8 +37,8 @@ close_handler-requires-clause-tracks g c =
     in
     (o.0, o.1, _, n.tracks, (n.closable, n.number))
 
-pub returns : goal.returns
-returns g c t F h st alive =
+pub returns-clause-stands : goal.returns-clause-stands
+returns-clause-stands g c t F h st alive =
     let n = closes_now _ t c.args.self.now (record c.args.self.now { journal = c.append.new.journal; state = c.remove.new.self; watch = c.append.new.watch }) (record c.args.self.now { journal = c.append.new.journal; state = c.remove.new.self; watch = c.append.new.watch; repo = c.take.new.self }) F h c.args.handle c.in-Some.handler (record {
       appends = record { most = refl; first = refl; journal = c.append.ensures.entries; watch = c.append.ensures.watch; volumes = refl };
       state = λ s shows n. c.remove.ensures.steps s shows n;

@@ -15,4 +15,4 @@ remove_alive-requires g c =
 pub returns-clause-some : goal.returns-clause-some
 returns-clause-some g c q t F h st =
     let n = next_is (summary (past_of h)) c.next_alive.result (c.next_alive.ensures (summary (past_of h)) st.tracks.state) c.in-Some.handle c.in-Some.is in
-    removes_first _ t c.args.self.now _ F h c.in-Some.handle n.0 n.1 n.2 n.3 st (c.remove_alive.ensures t F h st (alive_first (summary (past_of h)) n.0 n.1 c.in-Some.handle n.2 n.3))
+    removes_first _ t c.args.self.now _ F h c.in-Some.handle n.0 n.1 n.2 n.3 st (c.remove_alive.ensures.stands t F h st (alive_first (summary (past_of h)) n.0 n.1 c.in-Some.handle n.2 n.3))

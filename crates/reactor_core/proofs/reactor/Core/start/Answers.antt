@@ -15,7 +15,7 @@ dispatch-requires-clause-stands g c =
 
 pub returns-clause-ok : goal.returns-clause-ok
 returns-clause-ok g c t F h o =
-    c.dispatch.ensures t F h (stands_kept _ t _ _ F h c.in-Ok.ensures.kept o) (sym (c.in-Some.ensures.pick (summary (past_of h)) o.tracks.state)) (c.in-Ok.ensures.room t F h o)
+    c.dispatch.ensures.stands t F h (stands_kept _ t _ _ F h c.in-Ok.ensures.kept o) (sym (c.in-Some.ensures.pick (summary (past_of h)) o.tracks.state)) (c.in-Ok.ensures.room t F h o)
 
 pub returns-in-Err-clause-err : goal.returns-in-Err-clause-err
 returns-in-Err-clause-err g c t F h o = stands_kept _ t _ _ F h c.in-Err.ensures.kept o

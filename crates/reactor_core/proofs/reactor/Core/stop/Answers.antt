@@ -4,8 +4,8 @@ use Rattle.reactor_summary.specs.Summary.{summary}
 use Rattle.reactor_core.proofs.Stopped.{ended_on, stops, stops_once}
 use Rattle.reactor_core.proofs.reactor.Core.stop.Goals as goal
 
-pub returns-then-is_ended : goal.returns-then-is_ended
-returns-then-is_ended g c t F h st = stops_once _ t c.args.self.now F h true (sym (c.is_ended.ensures (summary (past_of h)) st.tracks.state) ∙ c.if-is_ended.true) st
+pub returns-then-is_ended-clause-stands : goal.returns-then-is_ended-clause-stands
+returns-then-is_ended-clause-stands g c t F h st = stops_once _ t c.args.self.now F h true (sym (c.is_ended.ensures (summary (past_of h)) st.tracks.state) ∙ c.if-is_ended.true) st
 
 pub remove_all-requires : goal.remove_all-requires
 remove_all-requires g c =
@@ -24,10 +24,10 @@ remove_all-requires g c =
       tt,
     )
 
-pub returns : goal.returns
-returns g c t F h st =
+pub returns-clause-stands : goal.returns-clause-stands
+returns-clause-stands g c t F h st =
     let running = sym (c.is_ended.ensures (summary (past_of h)) st.tracks.state) ∙ c.if-is_ended.false in
-    stops_once _ t _ F h false running (stops _ t _ F h (c.remove_all.ensures t F _ (ended_on _ t c.args.self.now _ F h (record {
+    stops_once _ t _ F h false running (stops _ t _ F h (c.remove_all.ensures.stands t F _ (ended_on _ t c.args.self.now _ F h (record {
       appends = record { most = refl; first = refl; journal = c.append.ensures.entries; watch = c.append.ensures.watch; volumes = refl };
       spare = c.append.ensures.spare;
       state = λ s shows n. c.end.ensures.steps s shows n;

@@ -4,7 +4,7 @@ use Rattle.reactor_core.proofs.PollDue.{dues_begin, dues_may, may_take, dues_go_
 use Rattle.reactor_core.proofs.reactor.Core.take_dues.Goals as goal
 
 pub loop-left-init : goal.loop-left-init
-loop-left-init g c = record { dues = λ t F h s events pending k. dues_begin _ t c.args.self.now F s c.args.most events h pending k; net = refl }
+loop-left-init g c = record { dues = λ t F h s events pending k. dues_begin _ t c.args.self.now F s c.args.most events h pending k; net = refl; volume = refl; volumes = refl; wait_faults = omega arith; attach_faults = omega arith; watch_faults = omega arith }
 
 pub due-requires-clause-can : goal.due-requires-clause-can
 due-requires-clause-can g c =
@@ -39,6 +39,11 @@ loop-left-preserved g c = record {
         places = c.in-Some.ensures.places;
       }) (may_take _ t c.loop-left.self F s c.loop-left.left events h pending (omega (arith, c.loop-left-test.true)) (c.loop-left.invariant.dues t F h s events pending k));
   net = c.loop-left.invariant.net;
+  volume = c.loop-left.invariant.volume;
+  volumes = c.loop-left.invariant.volumes;
+  wait_faults = c.loop-left.invariant.wait_faults;
+  attach_faults = c.loop-left.invariant.attach_faults;
+  watch_faults = let a = c.append.ensures.later in let i = c.loop-left.invariant.watch_faults in omega (arith, a, i);
 }
 
 pub returns-clause-dues : goal.returns-clause-dues

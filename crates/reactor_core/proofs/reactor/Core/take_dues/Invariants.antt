@@ -1,9 +1,10 @@
 use Rattle.reactor_state.specs.State.{Shows, HasPlaces, IsPlaced}
-use Rattle.std.proofs.Common.{◌≡◌, ℕ, List}
+use Rattle.std.proofs.Common.{◌≡◌, ℕ, List, ◌≤◌}
 use Rattle.ev_base.specs.Terms.{Terms}
 use Rattle.ev_base.specs.declared.net.Report.{Report}
 use Rattle.reactor_journal.specs.declared.entry.Entry.{Entry}
 use Rattle.reactor_summary.specs.Summary.{Summary}
+use Rattle.reactor_core.specs.Faults.{HasNotFallen}
 use Rattle.reactor_core.specs.Stands.{meaning}
 use Rattle.reactor_core.specs.Taking.{IsTakingDues, HasTakenDues}
 use Rattle.reactor_core.proofs.reactor.Core.take_dues.Given as goal
@@ -15,6 +16,11 @@ invariant-loop-left g l =
     record {
       dues : (t : Terms) (F : ℕ) (h : List (Entry g.row.H-Note.Denot)) (s : Summary) (events : ℕ) (pending : List Report) → IsTakingDues m s l.most events t l.fn.self F h pending → HasTakenDues m s l.left events t l.self F h pending;
       net : l.self.net ≡ l.fn.self.net;
+      volume : l.self.volume ≡ l.fn.self.volume;
+      volumes : l.self.volumes ≡ l.fn.self.volumes;
+      wait_faults : HasNotFallen (g.M.Net.facts l.fn.self.net).failed_waits (g.M.Net.facts l.self.net).failed_waits;
+      attach_faults : HasNotFallen (g.M.Net.facts l.fn.self.net).failed_attaches (g.M.Net.facts l.self.net).failed_attaches;
+      watch_faults : g.W.Watch.faults l.fn.self.watch ≤ g.W.Watch.faults l.self.watch;
     }
 
 abbrev pub decreases-loop-left : goal.decreases-loop-left

@@ -7,6 +7,11 @@ pub loop-at-init : goal.loop-at-init
 loop-at-init g c = record {
   stands = λ t F h s left k le. reports_begin _ t c.args.self.now F s h _ left (let all = c.requires.all in omega (arith, all, le)) k;
   net = refl;
+  volume = refl;
+  volumes = refl;
+  wait_faults = omega arith;
+  attach_faults = omega arith;
+  watch_faults = omega arith;
 }
 
 pub take_report-requires-clause-within : goal.take_report-requires-clause-within
@@ -26,6 +31,11 @@ loop-at-preserved g c = record {
       same_reports _ t c.take_report.new.self F s h c.loop-at.self.net _ _ c.loop-at.invariant.net
       (c.take_report.ensures.stands t F h s (same_reports _ t c.loop-at.self F s h _ c.loop-at.self.net c.loop-at.at (sym c.loop-at.invariant.net) (c.loop-at.invariant.stands t F h s left k le)));
   net = c.take_report.ensures.net ∙ c.loop-at.invariant.net;
+  volume = c.take_report.ensures.volume ∙ c.loop-at.invariant.volume;
+  volumes = c.take_report.ensures.volumes ∙ c.loop-at.invariant.volumes;
+  wait_faults = let a = c.take_report.ensures.wait_faults in let i = c.loop-at.invariant.wait_faults in omega (arith, a, i);
+  attach_faults = let a = c.take_report.ensures.attach_faults in let i = c.loop-at.invariant.attach_faults in omega (arith, a, i);
+  watch_faults = let a = c.take_report.ensures.watch_faults in let i = c.loop-at.invariant.watch_faults in omega (arith, a, i);
 }
 
 pub returns-clause-stands : goal.returns-clause-stands

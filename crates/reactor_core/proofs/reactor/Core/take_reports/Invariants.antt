@@ -4,6 +4,7 @@ use Rattle.ev_base.specs.Terms.{Terms}
 use Rattle.reactor_journal.specs.declared.entry.Entry.{Entry}
 use Rattle.reactor_summary.specs.Summary.{Summary}
 use Rattle.reactor_core.specs.Calls.{is_taken}
+use Rattle.reactor_core.specs.Faults.{HasNotFallen}
 use Rattle.reactor_core.specs.Stands.{meaning}
 use Rattle.reactor_core.specs.Taking.{IsTakingReports, HasTakenReports}
 use Rattle.reactor_core.proofs.reactor.Core.take_reports.Given as goal
@@ -16,4 +17,9 @@ invariant-loop-at g l =
       stands : (t : Terms) (F : ℕ) (h : List (Entry g.row.H-Note.Denot)) (s : Summary) (left : ℕ)
           → IsTakingReports m s left t l.fn.self F h (filter (is_taken s) (g.M.Net.facts l.fn.self.net).reports) → l.count ≤ left → HasTakenReports m s (g.M.Net.facts l.fn.self.net).reports l.at t l.self F h;
       net : l.self.net ≡ l.fn.self.net;
+      volume : l.self.volume ≡ l.fn.self.volume;
+      volumes : l.self.volumes ≡ l.fn.self.volumes;
+      wait_faults : HasNotFallen (g.M.Net.facts l.fn.self.net).failed_waits (g.M.Net.facts l.self.net).failed_waits;
+      attach_faults : HasNotFallen (g.M.Net.facts l.fn.self.net).failed_attaches (g.M.Net.facts l.self.net).failed_attaches;
+      watch_faults : g.W.Watch.faults l.fn.self.watch ≤ g.W.Watch.faults l.self.watch;
     }
