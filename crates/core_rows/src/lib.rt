@@ -1,0 +1,10 @@
+//! Runs of a one-thread reactor over a net that plays what was laid down.
+#![tactic(auto)]
+
+mod handler;
+mod rows;
+#[cfg(test)]
+mod tests;
+
+pub use handler::Steady;
+pub use rows::{Left, Rows, close, post, register, remove, stop, turn};
