@@ -1,5 +1,5 @@
 -- That no upcall is on its way behind each call.
-use Rattle.std.proofs.Common.{ℕ, ◌≡◌, ◌≤◌, Bool, true, false, List, [], ◌∷◌, ◌++◌, length, refl, sym, ap, ◌∙◌, subst, Option, Some, None, arith}
+use Rattle.std.proofs.Common.{◌+◌, ℕ, ◌≡◌, ◌≤◌, Bool, true, false, List, [], ◌∷◌, ◌++◌, length, refl, sym, ap, ◌∙◌, subst, Option, Some, None, arith}
 use Rattle.std.specs.Prelude.{Result, Ok, Err, OnOk, OnErr, IfOk, if◌then◌else◌}
 use Rattle.ev_types.specs.declared.upcall.Handle.{Handle}
 use Rattle.ev_types.specs.declared.upcall.Kind.{Kind}
@@ -11,7 +11,7 @@ use Rattle.demux.specs.declared.play_end.PlayEnd.{PlayEnd}
 use Rattle.timer_queue.specs.Content.{Content}
 use Rattle.reactor_journal.specs.Event.{Origin}
 use Rattle.reactor_journal.specs.declared.entry.Entry.{Entry}
-use Rattle.reactor_journal.specs.declared.entry.Entry.TheVariants.{Opened, Posted, Stale, Started, Removed, Ended}
+use Rattle.reactor_journal.specs.declared.entry.Entry.TheVariants.{Opened, Scheduled, Posted, Stale, Started, Removed, Ended}
 use Rattle.reactor_journal.specs.Past.{past_of}
 use Rattle.reactor_journal.proofs.Turning.{past_of-more}
 use Rattle.reactor_summary.specs.Summary.{Summary, step, is_alive, waiting_event, opens_from}
@@ -24,6 +24,9 @@ use Rattle.reactor_model.specs.declared.watch.NoWatch.{NoWatch}
 use Rattle.reactor_core.specs.Stands.{Stands, StandsAsBefore}
 use Rattle.reactor_core.specs.Requests.{GoesOnBy}
 use Rattle.reactor_core.specs.Postings.{posting}
+use Rattle.reactor_core.specs.Polling.{FitsLimit, Polls}
+use Rattle.reactor_core.specs.HandingOver.{HandsDue, HandsOver}
+use Rattle.reactor_core.specs.declared.polling.Polled.{Polled}
 use Rattle.reactor_core.specs.Offering.{RegisterGives}
 use Rattle.reactor_core.specs.Removing.{Removes, StopsOnce}
 use Rattle.reactor_core.specs.Acting.{ActAppends, Settles}
@@ -39,7 +42,7 @@ use Rattle.reactor_core.proofs.Owed.{opens_returned}
 use Rattle.core_rows.specs.declared.handler.Steady.{Steady}
 use Rattle.core_rows.specs.Handlers.{steady}
 use Rattle.core_rows.specs.Idle.{rows, IsIdle, WasStopped}
-use Rattle.core_rows.proofs.Keeping.{sum, sum_more, Keeps, keeps_nil, keeps_one, keeps_removed, keeps_closing, keeps_removals, none_live}
+use Rattle.core_rows.proofs.Keeping.{sum, sum_more, Keeps, keeps_nil, keeps_one, keeps_removed, keeps_closing, keeps_removals, none_live, keeps_polled}
 
 abbrev pub C : Type 0
 C = Core Steady PlayContent Content NoWatch (MemVolumes ℕ) ℕ PlayEnd
@@ -165,3 +168,32 @@ pub gave_none : (old new : C) (result : Result (Option (Job Steady ℕ PlayEnd))
 gave_none old new (Ok (Some x)) i is gave = cc
 gave_none old new (Ok None) i is gave = idle_same old new i (gave i.terms i.first i.history i.stands).1
 gave_none old new (Err x) i is gave = cc
+
+-- terms that leave the limit of waits open fit each limit
+pub any_limit : (t : Terms) (most : Option ℕ) → t.limit ≡ None → FitsLimit t most
+any_limit t most none limit is = absurd (not_some (sym none ∙ is))
+  where
+    not_some : {A : Type 0} {a : A} → None ≡ Some a → ⊥
+    not_some q = cc
+
+pub polls : {E : Type 0} (old new : C) (most : Option ℕ) (result : Result Polled E) (i : IsIdle old)
+    → IfOk result (λ polled. (t : Terms) (F : ℕ) (h : List (Entry ℕ)) → Stands rows t old F h → FitsLimit t most → Polls rows t F h most polled old new) → OnErr result (StandsAsBefore rows old new) → IsIdle new
+polls old new most (Ok polled) i ok err =
+    let w = (ok i.terms i.first i.history i.stands (any_limit i.terms most i.limit)).waits in
+    idle_keeps old new i _ (keeps_polled i.history w.now w.timers _) w.stands
+polls old new most (Err x) i ok err = idle_same old new i (err i.terms i.first i.history i.stands)
+
+pub schedules : {E : Type 0} (old new : C) (handle : Handle) (delay every : ℕ) (result : Result ℕ E)
+    → IfOk result (λ timer. GoesOnBy rows old (λ s. Scheduled timer handle (s.moment + delay) every) new) → OnErr result (StandsAsBefore rows old new) → IsIdle old → IsIdle new
+schedules old new handle delay every (Ok timer) ok err i =
+    goes_on {E = Unit {0}} old new (Ok timer) (λ s. Scheduled timer handle (s.moment + delay) every) (λ s. refl) (λ s q. q) ok tt i
+schedules old new handle delay every (Err x) ok err i = idle_same old new i (err i.terms i.first i.history i.stands)
+
+hands_due : (old new : C) (i : IsIdle old) (n : ℕ) (b : Bool) → HandsDue b rows i.terms i.first i.history n old new → IsIdle new
+hands_due old new i n true handed = record { terms = i.terms; limit = i.limit; first = length i.history; history = i.history; stands = handed.1; none_open = i.none_open }
+hands_due old new i n false handed = subst IsIdle (sym handed.1) i
+
+pub hands_over : {E : Type 0} (old new : C) (result : Result ℕ E) → IfOk result (λ n. (t : Terms) (F : ℕ) (h : List (Entry ℕ)) → Stands rows t old F h → HandsOver rows t F h n old new)
+    → OnErr result (StandsAsBefore rows old new) → IsIdle old → IsIdle new
+hands_over old new (Ok n) ok err i = hands_due old new i n _ (ok i.terms i.first i.history i.stands).handed
+hands_over old new (Err x) ok err i = idle_same old new i (err i.terms i.first i.history i.stands)

@@ -1,15 +1,17 @@
 -- Entries that change neither which events are open nor that a reactor was stopped.
-use Rattle.std.proofs.Common.{ℕ, ◌≡◌, Bool, true, false, not, ◌&&◌, ◌||◌, ◌==◌, List, [], ◌∷◌, ◌++◌, refl, sym, ap, ◌∙◌, subst}
+use Rattle.std.proofs.Common.{map, ℕ, ◌≡◌, Bool, true, false, not, ◌&&◌, ◌||◌, ◌==◌, List, [], ◌∷◌, ◌++◌, refl, sym, ap, ◌∙◌, subst}
 use Rattle.std.proofs.lemmas.List.{append-nil, append_assoc}
 use Rattle.std.specs.List.{list_any}
 use Rattle.ev_types.specs.declared.upcall.Handle.{Handle}
 use Rattle.reactor_journal.specs.declared.entry.Entry.{Entry}
-use Rattle.reactor_journal.specs.declared.entry.Entry.TheVariants.{Removed, Closed}
+use Rattle.reactor_journal.specs.declared.entry.Entry.TheVariants.{Polled, Due, Removed, Closed}
 use Rattle.reactor_journal.specs.Past.{past_of}
 use Rattle.reactor_journal.proofs.Turning.{past_of-more}
 use Rattle.reactor_summary.specs.Summary.{Summary, summary, step}
 use Rattle.reactor_summary.specs.declared.parts.LiveHandle.{LiveHandle}
 use Rattle.reactor_summary.specs.declared.parts.OpenEvent.{OpenEvent}
+use Rattle.ev_base.specs.declared.net.Report.{Report}
+use Rattle.reactor_core.specs.Polling.{due_of, ready_of}
 use Rattle.reactor_core.specs.Settling.{IsClosing}
 use Rattle.reactor_core.specs.Removing.{AreRemovals}
 
@@ -62,3 +64,17 @@ none_live (a ∷ hs) [] none dead waits = by_cases _ _ a.alive dead waits
     by_cases p q true dead waits = cc
     by_cases p q false dead waits = cc
 none_live (a ∷ hs) (o ∷ opens) none dead waits = cc
+
+pub keeps_dues : (h : List (Entry ℕ)) (timers : List ℕ) → Keeps h (map due_of timers)
+keeps_dues h [] = keeps_nil h
+keeps_dues h (timer ∷ timers) = keeps_both h (Due timer ∷ []) (map due_of timers) (keeps_one h (Due timer) refl (λ q. q)) (keeps_dues (h ++ Due timer ∷ []) timers)
+
+pub keeps_readies : (h : List (Entry ℕ)) (reports : List Report) → Keeps h (map ready_of reports)
+keeps_readies h [] = keeps_nil h
+keeps_readies h (r ∷ reports) = keeps_both h (ready_of r ∷ []) (map ready_of reports) (keeps_one h (ready_of r) refl (λ q. q)) (keeps_readies (h ++ ready_of r ∷ []) reports)
+
+pub keeps_polled : (h : List (Entry ℕ)) (now : ℕ) (timers : List ℕ) (reports : List Report) → Keeps h (Polled now ∷ (map due_of timers ++ map ready_of reports))
+keeps_polled h now timers reports =
+    let g : List (Entry ℕ) = h ++ Polled now ∷ [] in
+    keeps_both h (Polled now ∷ []) (map due_of timers ++ map ready_of reports) (keeps_one h (Polled now) refl (λ q. q))
+    (keeps_both g (map due_of timers) (map ready_of reports) (keeps_dues g timers) (keeps_readies (g ++ map due_of timers) reports))

@@ -7,4 +7,7 @@ mod rows;
 mod tests;
 
 pub use handler::Steady;
-pub use rows::{Left, Rows, close, post, register, remove, stop, turn};
+pub use rows::{
+    Left, Rows, cancel, close, hand_over, poll, post, register, remove, resume, schedule, set_mask,
+    stop, suspend, turn,
+};

@@ -1,10 +1,14 @@
 //! Reactors of steady handlers, and their calls.
+ghost use Rattle.std.specs.Prelude.{◌≤◌};
 ghost use Rattle.core_rows.specs.Idle.{IsIdle, WasStopped};
 
 use crate::Steady;
 use demux::PlayNet;
 use ev_types::{Handle, Kind, Mask};
-use reactor_core::{Core, NotLive, Parts, PostRefused, RegisterRefused, StartRefused};
+use reactor_core::{
+    CancelRefused, Core, HandOverRefused, LiveRefused, NotLive, Parts, PollRefused, Polled,
+    PostRefused, RegisterRefused, StartRefused, StateRefused,
+};
 use reactor_model::{MemVolumes, NoWatch};
 use timer_queue::SortedTimers;
 
@@ -81,4 +85,63 @@ pub fn close(core: Rows) -> Left
     let mut core = core;
     stop(&mut core);
     core.into_parts()
+}
+
+/// Waits once.
+pub fn poll(core: &mut Rows) -> Result<Polled, PollRefused>
+    requires { IsIdle core.old }
+    ensures { IsIdle core.new }
+{
+    core.poll(None)
+}
+
+/// Sets a timer.
+pub fn schedule(core: &mut Rows, handle: Handle, delay: u64, every: u64) -> Result<u64, LiveRefused>
+    requires idle { IsIdle core.old }
+    requires some { 1 ≤ delay }
+    requires within { delay ≤ 4294967295 }
+    requires period { every ≤ 4294967295 }
+    ensures { IsIdle core.new }
+{
+    core.schedule(handle, delay, every)
+}
+
+/// Takes a timer away.
+pub fn cancel(core: &mut Rows, timer: u64) -> Result<(), CancelRefused>
+    requires { IsIdle core.old }
+    ensures { IsIdle core.new }
+{
+    core.cancel(timer)
+}
+
+/// Suspends a handle.
+pub fn suspend(core: &mut Rows, handle: Handle) -> Result<(), StateRefused>
+    requires { IsIdle core.old }
+    ensures { IsIdle core.new }
+{
+    core.suspend(handle)
+}
+
+/// Resumes a handle.
+pub fn resume(core: &mut Rows, handle: Handle) -> Result<(), StateRefused>
+    requires { IsIdle core.old }
+    ensures { IsIdle core.new }
+{
+    core.resume(handle)
+}
+
+/// Changes the mask of a handle.
+pub fn set_mask(core: &mut Rows, handle: Handle, mask: Mask) -> Result<(), LiveRefused>
+    requires { IsIdle core.old }
+    ensures { IsIdle core.new }
+{
+    core.set_mask(handle, mask)
+}
+
+/// Hands a volume over, where one is due.
+pub fn hand_over(core: &mut Rows) -> Result<u64, HandOverRefused>
+    requires { IsIdle core.old }
+    ensures { IsIdle core.new }
+{
+    core.hand_over()
 }
