@@ -197,3 +197,15 @@ pub hands_over : {E : Type 0} (old new : C) (result : Result ℕ E) → IfOk res
     → OnErr result (StandsAsBefore rows old new) → IsIdle old → IsIdle new
 hands_over old new (Ok n) ok err i = hands_due old new i n _ (ok i.terms i.first i.history i.stands).handed
 hands_over old new (Err x) ok err i = idle_same old new i (err i.terms i.first i.history i.stands)
+
+-- what a second `start` gave, behind a first
+pub gave_none_at : (old new : C) (result : Result (Option (Job Steady ℕ PlayEnd)) StartRefused) (t : Terms) (F : ℕ) (h : List (Entry ℕ)) → Stands rows t old F h → result ≡ Ok None → StartGave old result new → Stands rows t new F h
+gave_none_at old new (Ok (Some x)) t F h st is gave = cc
+gave_none_at old new (Ok None) t F h st is gave = (gave t F h st).1
+gave_none_at old new (Err x) t F h st is gave = cc
+
+pub gave_some_at : (old new : C) (result : Result (Option (Job Steady ℕ PlayEnd)) StartRefused) (job : Job Steady ℕ PlayEnd) (t : Terms) (F : ℕ) (h : List (Entry ℕ)) → Stands rows t old F h → result ≡ Ok (Some job)
+    → StartGave old result new → StartGives rows t F h (Some job) new
+gave_some_at old new (Ok (Some x)) job t F h st is gave = subst (λ (r : Result (Option (Job Steady ℕ PlayEnd)) StartRefused). StartGave old r new) is gave t F h st
+gave_some_at old new (Ok None) job t F h st is gave = cc
+gave_some_at old new (Err x) job t F h st is gave = cc

@@ -9,7 +9,7 @@ use ev_base::Report;
 use ev_types::{Answer, Handle, Kind, Mask};
 use reactor_core::{
     CancelRefused, Core, HandOverRefused, LiveRefused, Polled, PostRefused, RegisterRefused,
-    StateRefused,
+    StartRefused, StateRefused,
 };
 use reactor_journal::Entry;
 use reactor_model::{MemVolumes, NoWatch};
@@ -74,6 +74,32 @@ fn reactor(
     match made {
         Ok(core) => Ok(core),
         Err(_) => Err("no memory".into()),
+    }
+}
+
+// Starts the next upcall, finds that no second one is to be started before it is settled, makes it and
+// settles it.
+fn turn_alone(rt: &impl Abort, core: &mut Rows) -> Result<Option<u64>, StartRefused>
+    requires { IsIdle core.old }
+    ensures { IsIdle core.new }
+{
+    match core.start() {
+        Ok(Some(job)) => {
+            match core.start() {
+                Ok(None) => {}
+                Ok(Some(second)) => {
+                    core.settle(second.run());
+                    panic!(rt; "a second upcall was started")
+                }
+                Err(_) => panic!(rt; "no memory"),
+            }
+            let done = job.run();
+            let event = done.event();
+            core.settle(done);
+            Ok(Some(event))
+        }
+        Ok(None) => Ok(None),
+        Err(refused) => Err(refused),
     }
 }
 
@@ -299,7 +325,7 @@ fn no_event_of_a_suspended_handle_is_started(rt: HostRuntime) -> Result<(), Fail
     assert_eq!(rt; poll(&mut core), Ok(Polled::Events));
     assert_eq!(rt; suspend(&mut core, first), Ok(()));
     assert_eq!(rt; suspend(&mut core, first), Err(StateRefused::Same));
-    assert_eq!(rt; turn(&mut core), Ok(Some(4)));
+    assert_eq!(rt; turn_alone(&rt, &mut core), Ok(Some(4)));
     assert_eq!(rt; turn(&mut core), Ok(None));
     assert_eq!(rt; resume(&mut core, first), Ok(()));
     assert_eq!(rt; turn(&mut core), Ok(Some(3)));
