@@ -3,4 +3,4 @@ use Rattle.core_rows.proofs.rows.register.Goals as goal
 
 pub returns : goal.returns
 returns c =
-    registers _ _ c.register.result _ c.requires (c.register.ensures c.requires.terms c.requires.first c.requires.history c.requires.stands tt)
+    registers _ _ c.register.result _ c.requires (c.register.ensures.stands c.requires.terms c.requires.first c.requires.history c.requires.stands tt)

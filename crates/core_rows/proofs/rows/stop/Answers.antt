@@ -5,10 +5,10 @@ use Rattle.core_rows.proofs.rows.stop.Goals as goal
 pub returns-clause-idle : goal.returns-clause-idle
 returns-clause-idle c =
     let i = c.requires in
-    let over = stopped _ _ i _ refl (c.stop.ensures i.terms i.first i.history i.stands) in
+    let over = stopped _ _ i _ refl (c.stop.ensures.stands i.terms i.first i.history i.stands) in
     over.idle
 
 pub returns-clause-over : goal.returns-clause-over
 returns-clause-over c =
     let i = c.requires in
-    over_stopped _ (stopped _ _ i _ refl (c.stop.ensures i.terms i.first i.history i.stands))
+    over_stopped _ (stopped _ _ i _ refl (c.stop.ensures.stands i.terms i.first i.history i.stands))

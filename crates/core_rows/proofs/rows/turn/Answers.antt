@@ -13,7 +13,7 @@ returns-in-Ok-Some c =
     let i = c.requires in
     let gives = gave_some c.args.core.now c.start.new.self c.start.result c.in-Ok-Some.job i (c.in-Ok-Some.is ∙ ap Ok c.in-Ok-Some.field-0-is) c.start.ensures.ok in
     let fits = fits_started i.terms i.history _ _ (c.run-done.ensures.fits i.terms _ gives.2) in
-    settles c.args.core.now _ _ i _ _ _ fits (c.settle.ensures i.terms i.first _ gives.1 fits)
+    settles c.args.core.now _ _ i _ _ _ fits (c.settle.ensures.stands i.terms i.first _ gives.1 fits)
 
 pub returns-in-Ok-None : goal.returns-in-Ok-None
 returns-in-Ok-None c =

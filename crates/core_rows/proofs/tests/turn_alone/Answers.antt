@@ -29,7 +29,7 @@ returns-in-Ok-None-start g c =
     let gives = gave_some c.args.core.now c.start.new.self c.start.result c.in-Ok-Some.job i (c.in-Ok-Some.is ∙ ap Ok c.in-Ok-Some.field-0-is) c.start.ensures.ok in
     let st = gave_none_at c.start.new.self c.start-in-Ok-Some.new.self c.start-in-Ok-Some.result i.terms i.first _ gives.1 (c.in-Ok-None-start.is ∙ ap Ok c.in-Ok-None-start.field-0-is) c.start-in-Ok-Some.ensures.ok in
     let fits = fits_started i.terms i.history _ _ (c.run-done.ensures.fits i.terms _ gives.2) in
-    settles c.args.core.now _ _ i _ _ _ fits (c.settle-in-Ok-Some.ensures i.terms i.first _ st fits)
+    settles c.args.core.now _ _ i _ _ _ fits (c.settle-in-Ok-Some.ensures.stands i.terms i.first _ st fits)
 
 pub returns-in-Ok-None : goal.returns-in-Ok-None
 returns-in-Ok-None g c =
