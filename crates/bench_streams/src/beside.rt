@@ -1,10 +1,9 @@
 //! Messages that go through an active task.
 
 use crate::messages::message_of;
-use active_task::ActiveTask;
 use ev_types::NoMemory;
 use message_block::Message;
-use module_stream::PassTask;
+use module_stream::{ActiveTask, PassTask};
 use std::alloc::Global;
 use std::sync::Wait;
 use std::thread::Threads;

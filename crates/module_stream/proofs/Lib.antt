@@ -1,2 +1,7 @@
 pub mod Rows
 pub mod Alone
+pub mod Moves
+pub mod Steps
+pub mod Boxes
+pub mod Passes
+pub mod Settling

@@ -1,5 +1,0 @@
-pub mod Moves
-pub mod Steps
-pub mod Boxes
-pub mod Passes
-pub mod Settling

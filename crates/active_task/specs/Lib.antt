@@ -1,6 +1,0 @@
-pub mod Lines
-pub mod Progress
-pub mod Boxes
-pub mod Works
-pub mod Caller
-pub mod Active

@@ -1,0 +1,17 @@
+use Rattle.std.proofs.Common.{[], ◌∷◌, ◌++◌, ap, ◌∙◌}
+use Rattle.crossbeam_queue.specs.Passes.{Pass, view}
+use Rattle.module_stream.specs.declared.line.Item.{Item}
+use Rattle.module_stream.specs.declared.line.Log.{Log}
+use Rattle.module_stream.specs.declared.line.Item.TheVariants.{Stop}
+use Rattle.module_stream.proofs.Boxes.{in_none}
+use Rattle.module_stream.proofs.active.ActiveTask.begin.Goals as goal
+
+pub returns-in-Err-clause-runs : goal.returns-in-Err-clause-runs
+returns-in-Err-clause-runs g c =
+    let lines = c.in-Ok.lines in
+    let made = c.in-Ok.ensures in
+    c.settle.ensures c.args.task c.in-Ok.side.takes c.in-Ok.side.puts [] [] (rw c.in-Err.ensures.err at c.there-worker.ensures)
+    (record {
+      sent = ap (λ (e : Pass Item Log). (view e).sent) c.take_rest.ensures.puts ∙ c.stop.ensures.put ∙ ap (λ l. l ++ Stop ∷ []) made.sent;
+      came = c.take_rest.ensures.came [] (c.stop.ensures.came [] (in_none (view lines.takes).got lines.inbox made.got made.inbox.0 made.inbox.2));
+    })

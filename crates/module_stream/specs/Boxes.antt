@@ -1,0 +1,22 @@
+-- What came back through a line.
+use Rattle.std.specs.Prelude.{◌≡◌, Bool, true, false, List, [], ◌∷◌, ◌++◌, map}
+use Rattle.message_block.specs.Messages.{MessageState}
+use Rattle.module_stream.specs.declared.line.Item.{Item}
+use Rattle.module_stream.specs.declared.line.Item.TheVariants.{One, Stop}
+use Rattle.module_stream.specs.declared.inbox.Inbox.{Inbox}
+
+-- messages as they go through a line
+abbrev pub ones : List MessageState → List Item
+ones messages = map One messages
+
+-- the end of what goes through a line, once it was sent
+abbrev pub stop_if : Bool → List Item
+stop_if true = Stop ∷ []
+stop_if false = []
+
+-- what was got through a line: the messages that were answered, those in the inbox, those that were dropped for want of memory,
+-- and then the end, where it came
+pub record IsIn (got : List Item) (answered : List MessageState) (inbox : Inbox) : Type 0 where
+  pub dropped : List MessageState
+  pub none : inbox.lost ≡ false → dropped ≡ []
+  pub all : got ≡ ones ((answered ++ inbox.messages.items) ++ dropped) ++ stop_if inbox.over

@@ -1,0 +1,27 @@
+-- The work of the thread: a task between two lines.
+use Rattle.std.specs.Prelude.{◌≡◌, true, false, List, [], ◌∷◌, ◌++◌}
+use Rattle.crossbeam_queue.specs.Passes.{Pass, view, IsSamePass}
+use Rattle.message_block.specs.Messages.{MessageState}
+use Rattle.module_stream.specs.declared.line.Item.{Item}
+use Rattle.module_stream.specs.declared.line.Item.TheVariants.{Stop}
+use Rattle.module_stream.specs.declared.line.Log.{Log}
+use Rattle.module_stream.specs.declared.work.Worker.{Worker}
+use Rattle.module_stream.specs.Lines.{log}
+use Rattle.module_stream.specs.Boxes.{ones}
+use Rattle.module_stream.specs.Progress.{Gives, Progress}
+
+-- A worker has sent these messages, and nothing else: what its task gave for those that it has taken. `first` is what the task gave
+-- at the beginning.
+pub record Gave {T : Type 0} (gives : T → Gives) (first : Gives) (taken sent : List MessageState) (worker : Worker T) : Type 0 where
+  pub gave : view worker.puts ≡ log true false (ones sent) []
+  pub progress : Progress first taken sent worker.lost (gives worker.task)
+
+-- A worker that began with this task and these ends has come to the end of what it takes, and sent the end.
+pub record HasWorked {T : Type 0} (gives : T → Gives) (task : T) (takes puts : Pass Item Log) (worker : Worker T) : Type 0 where
+  pub taken : List MessageState
+  pub sent : List MessageState
+  pub same_takes : IsSamePass takes worker.takes
+  pub same_puts : IsSamePass puts worker.puts
+  pub took : view worker.takes ≡ log false true [] (ones taken ++ Stop ∷ [])
+  pub gave : view worker.puts ≡ log true false (ones sent ++ Stop ∷ []) []
+  pub progress : Progress (gives task) taken sent worker.lost (gives worker.task)

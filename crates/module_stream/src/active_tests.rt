@@ -1,0 +1,171 @@
+//! Active tasks: worked examples.
+ghost use Rattle.std.specs.Prelude.{◌≡◌};
+
+use crate::here::Here;
+use crate::{ActiveTask, Messages, PassTask, Task};
+use ev_types::NoMemory;
+use message_block::{Block, Message};
+use std::alloc::Global;
+use std::sync::atomic::{AtomicBool, Ordering};
+use std::sync::{Arc, Wait};
+use std::test::Fail;
+use std::thread::{self, Threads};
+
+/// A message without bytes, of this priority.
+fn message_of(alloc: Global, priority: u32) -> Result<Message, NoMemory> {
+    match Message::new(alloc, Block::new(alloc, 0)?, priority) {
+        Ok(message) => Ok(message),
+        Err((_, refused)) => Err(refused),
+    }
+}
+
+/// Adds the priorities of messages.
+fn note(messages: Messages, numbers: &mut Vec<u32>) -> Result<(), NoMemory> {
+    for message in messages.into_vec() {
+        numbers.push(message.priority())?;
+    }
+    Ok(())
+}
+
+/// Puts messages of the priorities from 0 on, and adds those of the messages that are given.
+fn put_numbers<T: Task + Send + 'static, R: Wait>(
+    rt: &R,
+    alloc: Global,
+    active: &mut ActiveTask<T>,
+    count: u32,
+    numbers: &mut Vec<u32>,
+) -> Result<(), NoMemory> {
+    for priority in 0..count {
+        let message = message_of(alloc, priority)?;
+        match active.put(rt, message) {
+            Ok(given) => note(given, numbers)?,
+            Err((_, refused)) => return Err(refused),
+        }
+    }
+    Ok(())
+}
+
+/// The priorities of the messages that an active task gives for messages of the priorities from 0 on.
+fn through<T: Task + Send + 'static, R: Threads + Wait + Copy + Send + 'static>(
+    rt: &R,
+    alloc: Global,
+    task: T,
+    count: u32,
+) -> Result<Vec<u32>, NoMemory> {
+    let mut active = match ActiveTask::begin(rt, alloc, task) {
+        Ok(active) => active,
+        Err((_, refused)) => return Err(refused),
+    };
+    let mut numbers = Vec::new(alloc);
+    let put = put_numbers(rt, alloc, &mut active, count, &mut numbers);
+    let rest = active.finish(rt);
+    put?;
+    match rest {
+        Ok(rest) => note(rest, &mut numbers)?,
+        Err((_, refused)) => return Err(refused),
+    }
+    Ok(numbers)
+}
+
+#[test]
+fn two_hundred_come_back_in_order(rt: HostRuntime) -> Result<(), Fail> {
+    let numbers = through(&rt, rt.alloc(), PassTask::new(rt.alloc()), 200)?;
+    assert_eq!(rt; numbers.len(), 200);
+    for (place, number) in numbers.iter().enumerate() {
+        assert_eq!(rt; *number as usize, place);
+    }
+    Ok(())
+}
+
+#[test]
+fn nothing_comes_of_nothing(rt: HostRuntime) -> Result<(), Fail> {
+    assert_eq!(rt;
+        through(&rt, rt.alloc(), PassTask::new(rt.alloc()), 0)?.len(),
+        0
+    );
+    Ok(())
+}
+
+/// A task that passes messages on, but first waits for a flag for so many turns, and tells whether it was set.
+#[derive(Drop)]
+struct FlagTask {
+    pass: PassTask,
+    flag: Arc<AtomicBool, Global>,
+    seen: Arc<AtomicBool, Global>,
+    turns: u32,
+}
+
+impl Task for FlagTask {
+    ghost gives = { λ _ messages. messages };
+
+    fn put(&mut self, m: Message) -> Result<Messages, NoMemory> {
+        for _ in 0..self.turns {
+            if self.flag.load(Ordering::SeqCst) {
+                self.seen.store(true, Ordering::SeqCst);
+                break;
+            }
+            thread::yield_now();
+        }
+        self.pass.put(m)
+    }
+
+    fn finish(&mut self) -> Result<Messages, NoMemory> {
+        self.pass.finish()
+    }
+}
+
+#[test]
+fn task_runs_beside(rt: HostRuntime) -> Result<(), Fail> {
+    let flag = Arc::new(rt.alloc(), AtomicBool::new(false))?;
+    let seen = Arc::new(rt.alloc(), AtomicBool::new(false))?;
+    let task = FlagTask {
+        pass: PassTask::new(rt.alloc()),
+        flag: Arc::try_clone(&flag)?,
+        seen: Arc::try_clone(&seen)?,
+        turns: 100_000_000,
+    };
+    let message = message_of(rt.alloc(), 7)?;
+    let mut active = match ActiveTask::begin(&rt, rt.alloc(), task) {
+        Ok(active) => active,
+        Err((_, refused)) => return Err(refused.into()),
+    };
+    let put = active.put(&rt, message);
+    flag.store(true, Ordering::SeqCst);
+    let rest = active.finish(&rt);
+    let mut numbers = Vec::new(rt.alloc());
+    match put {
+        Ok(given) => note(given, &mut numbers)?,
+        Err((_, refused)) => return Err(refused.into()),
+    }
+    match rest {
+        Ok(given) => note(given, &mut numbers)?,
+        Err((_, refused)) => return Err(refused.into()),
+    }
+    assert!(rt; seen.load(Ordering::SeqCst));
+    assert_eq!(rt; numbers.as_slice(), [7].as_slice());
+    Ok(())
+}
+
+#[test]
+fn the_caller_runs_a_task(rt: HostRuntime) -> Result<(), Fail> {
+    let mut here = Here {
+        task: PassTask::new(rt.alloc()),
+        lost: false,
+        held: Vec::new(rt.alloc()),
+    };
+    let mut numbers = Vec::new(rt.alloc());
+    note(
+        Messages::new(here.put(message_of(rt.alloc(), 3)?)),
+        &mut numbers,
+    )?;
+    note(
+        Messages::new(here.put(message_of(rt.alloc(), 4)?)),
+        &mut numbers,
+    )?;
+    match here.finish() {
+        Ok(rest) => note(rest, &mut numbers)?,
+        Err((_, refused)) => return Err(refused.into()),
+    }
+    assert_eq!(rt; numbers.as_slice(), [3, 4].as_slice());
+    Ok(())
+}

@@ -1,0 +1,73 @@
+//! What came back.
+ghost use Rattle.std.specs.Prelude.{◌≡◌, ◌<◌, [], ◌∷◌, ◌++◌, List, true, false, vec_len, vec_capacity};
+ghost use Rattle.message_block.specs.Messages.{MessageState};
+ghost use Rattle.module_stream.specs.declared.line.Item.{Item};
+ghost use Rattle.module_stream.specs.Boxes.{IsIn};
+
+use crate::line::Item;
+use message_block::Message;
+use std::alloc::Global;
+use std::mem;
+
+/// Messages that came back and were not answered yet.
+#[derive(Drop)]
+pub(crate) struct Inbox {
+    pub(crate) messages: Vec<Message>,
+    /// Whether there was no memory for a message. All that came since were dropped.
+    pub(crate) lost: bool,
+    /// Whether nothing more comes.
+    pub(crate) over: bool,
+}
+
+impl Inbox {
+    /// An inbox that holds nothing. It takes no memory.
+    pub(crate) fn new(alloc: Global) -> Inbox
+        ensures messages { result.messages.items ≡ [] }
+        ensures lost { result.lost ≡ false }
+        ensures over { result.over ≡ false }
+    {
+        Inbox {
+            messages: Vec::new(alloc),
+            lost: false,
+            over: false,
+        }
+    }
+
+    /// Accepts what came. Where there is no memory for a message it is lost, and all behind it.
+    pub(crate) fn accept(&mut self, item: Item)
+        requires { self.old.over ≡ false }
+        ensures accepted { (got : List Item) (base : List MessageState) → IsIn got base self.old → IsIn (got ++ item ∷ []) base self.new }
+        ensures kept { vec_len self.old.messages < vec_capacity self.old.messages → self.new.lost ≡ self.old.lost }
+    {
+        match item {
+            Item::Stop => self.over = true,
+            Item::One(message) => self.keep(message),
+        }
+    }
+
+    /// Keeps a message behind the others.
+    fn keep(&mut self, message: Message)
+        requires { self.old.over ≡ false }
+        ensures accepted { (got : List Item) (base : List MessageState) → IsIn got base self.old → IsIn (got ++ Item.One message ∷ []) base self.new }
+        ensures kept { vec_len self.old.messages < vec_capacity self.old.messages → self.new.lost ≡ self.old.lost }
+    {
+        if self.lost {
+            return;
+        }
+        match self.messages.push(message) {
+            Ok(()) => return,
+            Err(_) => self.lost = true,
+        }
+    }
+
+    /// Gives the messages, and holds none from now on.
+    pub(crate) fn take(&mut self) -> Vec<Message>
+        ensures given { result.items ≡ self.old.messages.items }
+        ensures messages { self.new.messages.items ≡ [] }
+        ensures lost { self.new.lost ≡ self.old.lost }
+        ensures over { self.new.over ≡ self.old.over }
+    {
+        let none = Vec::new(*self.messages.allocator());
+        mem::replace(&mut self.messages, none)
+    }
+}

@@ -1,0 +1,128 @@
+//! A line of items from one thread to another: a queue of at most 64 under the rule that what comes is what was sent, in order.
+ghost use Rattle.std.specs.Prelude.{◌≡◌, [], ◌∷◌, ◌++◌, true, false, MatchOption};
+ghost use Rattle.crossbeam_queue.specs.Passes.{view, IsSamePass, IsPassOf};
+ghost use Rattle.module_stream.specs.Lines.{log};
+
+use crossbeam_queue::protocol::{Join, Lesson, Outcome, Protocol, Split};
+use crossbeam_queue::{Pass, RuledArrayQueue};
+use message_block::Message;
+use std::collections::LinkedList;
+use std::sync::Wait;
+use std::thread;
+
+/// What goes through a line.
+#[derive(Drop)]
+pub enum Item {
+    /// A message.
+    One(Message),
+    /// There are no more messages.
+    Stop,
+}
+
+/// What an end of a line may do, what it has put, and what it has taken. No value of it is made.
+pub struct Log {
+    /// Whether it puts.
+    pub puts: bool,
+    /// Whether it takes.
+    pub takes: bool,
+    /// What it has put.
+    pub sent: LinkedList<Item>,
+    /// What it has taken.
+    pub got: LinkedList<Item>,
+}
+
+/// The rule of a line.
+pub struct InOrder;
+
+impl Protocol<Item, Log> for InOrder {
+    ghost use Rattle.std.specs.Prelude.{true, []};
+    ghost use Rattle.module_stream.specs.Lines.{log, InLine};
+
+    ghost holds = { InLine };
+
+    ghost first = { log true true [] [] };
+}
+
+/// One end puts, and the other takes.
+pub(crate) struct Ends;
+
+impl Split<Log> for Ends {
+    ghost use Rattle.std.specs.Prelude.{true, false, []};
+    ghost use Rattle.module_stream.specs.Lines.{log};
+
+    ghost left = { λ v. log true false v.sent [] };
+
+    ghost right = { λ v. log false true [] v.got };
+}
+
+impl Join<Log> for Ends {
+    ghost use Rattle.std.specs.Prelude.{true, false, []};
+    ghost use Rattle.module_stream.specs.Lines.{log};
+
+    ghost both = { λ v w. log true true v.sent w.got };
+
+    ghost spent = { log false false [] [] };
+}
+
+/// An item was put.
+pub(crate) struct Sent;
+
+impl Outcome<Item, Log> for Sent {
+    ghost then = { λ v x w. w ≡ log v.puts v.takes (v.sent ++ x ∷ []) v.got };
+}
+
+/// An item was taken.
+pub(crate) struct Got;
+
+impl Outcome<Item, Log> for Got {
+    ghost then = { λ v x w. w ≡ log v.puts v.takes v.sent (v.got ++ x ∷ []) };
+}
+
+/// What was sent is what was got, and then what the line holds.
+pub(crate) struct Total;
+
+impl Lesson<Item, Log> for Total {
+    ghost fact = { λ v items. v.sent ≡ v.got ++ items };
+}
+
+/// A line.
+pub type Line = RuledArrayQueue<Item, Log, InOrder>;
+
+/// An end of a line. It has no bytes.
+pub type End = Pass<Item, Log>;
+
+/// Puts an item, and waits while there is no room.
+pub(crate) fn send<R: Wait>(rt: &R, line: &Line, end: &mut End, item: Item)
+    requires end { IsPassOf line.now end.old }
+    requires puts { (view end.old).puts ≡ true }
+    ensures same { IsSamePass end.old end.new }
+    ensures sent { view end.new ≡ log true (view end.old).takes ((view end.old).sent ++ item ∷ []) (view end.old).got }
+{
+    let mut item = item;
+    for _ in rt.forever() {
+        match line.try_push_as::<Sent>(end, item) {
+            Ok(()) => return,
+            Err(back) => {
+                item = back;
+                thread::yield_now();
+            }
+        }
+    }
+    unreachable!()
+}
+
+/// Takes an item, and waits while there is none.
+pub(crate) fn receive<R: Wait>(rt: &R, line: &Line, end: &mut End) -> Item
+    requires end { IsPassOf line.now end.old }
+    requires takes { (view end.old).takes ≡ true }
+    ensures same { IsSamePass end.old end.new }
+    ensures got { view end.new ≡ log (view end.old).puts true (view end.old).sent ((view end.old).got ++ result ∷ []) }
+{
+    for _ in rt.forever() {
+        match line.try_pop_as::<Got>(end) {
+            Some(item) => return item,
+            None => thread::yield_now(),
+        }
+    }
+    unreachable!()
+}
