@@ -1,4 +1,3 @@
-pub mod Calls
 pub mod PlayEnd
 pub mod PlayNet
 pub mod PlayRoom

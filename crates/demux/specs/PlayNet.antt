@@ -6,7 +6,7 @@ use Rattle.ev_base.specs.Net.{NetFacts, Call, Waits, mask_has}
 use Rattle.ev_base.specs.declared.net.Report.{Report}
 use Rattle.ev_base.specs.declared.net.Waited.{Waited}
 use Rattle.ev_base.specs.declared.net.Waited.TheVariants.{Reports, Quiet, Over}
-use Rattle.demux.specs.Calls.{reports_of}
+use Rattle.net_calls.specs.Calls.{reports_of}
 use Rattle.demux.specs.declared.play_end.PlayEnd.{PlayEnd}
 use Rattle.demux.specs.declared.watched.Watched.{Watched}
 use Rattle.demux.specs.declared.watched.Retired.{Retired}

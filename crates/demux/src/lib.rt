@@ -2,7 +2,6 @@
 //! a test laid down, with its ends, `PlayEnd`.
 #![tactic(auto)]
 
-mod calls;
 mod planned;
 mod play_end;
 mod play_net;

@@ -1,6 +1,6 @@
 //! The reports that were laid down for a net, as a wait sorts them.
 ghost use Rattle.std.specs.Prelude.{◌≡◌, ◌≤◌, ◌<◌, ◌+◌, ◌-◌, length, take, drop, ◌++◌, slice_range, vec_len};
-ghost use Rattle.demux.specs.Calls.{reports_of};
+ghost use Rattle.net_calls.specs.Calls.{reports_of};
 ghost use Rattle.demux.specs.PlayRoom.{rotated};
 ghost use Rattle.demux.specs.PlayNet.{reached, is_attached, is_gone, is_dropped, wants, is_given, answer_at, kept_at, given_at, left_at};
 

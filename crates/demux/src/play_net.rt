@@ -3,11 +3,11 @@ ghost use Rattle.std.specs.Prelude.{◌≡◌, ◌≤◌, ◌<◌, ◌∷◌, �
 ghost use Rattle.demux.specs.PlayNet.{play_net_facts, do_not_fall, are_bounded, new_play, PlaysWait, watching, with_mask, not_watching, retired_of};
 
 use super::PlayEnd;
-use crate::calls::{Calls, Made};
 use crate::planned::{answer_at, reached, sort_out};
 use crate::watched::{Retired, Watched, retired_in, set_mask_in};
 use ev_base::{Net, Report, Waited};
 use ev_types::{Handle, Mask, NetFailed, NoMemory};
+use net_calls::{Calls, Made};
 use std::alloc::Global;
 use std::marker::Model;
 
@@ -36,7 +36,7 @@ pub struct PlayNet {
 
 impl Model for PlayNet {
     ghost use Rattle.std.specs.Prelude.{take, drop};
-    ghost use Rattle.demux.specs.Calls.{reports_of};
+    ghost use Rattle.net_calls.specs.Calls.{reports_of};
     ghost use Rattle.demux.specs.PlayNet.{PlayContent};
     ghost use Rattle.demux.specs.PlayRoom.{IsPlay, HasRoom};
 

@@ -4,7 +4,7 @@ use Rattle.std.proofs.lemmas.Grind.{common_steps}
 use Rattle.std.proofs.lemmas.Option.{slice_get_read}
 use Rattle.std.specs.List.{slice_get}
 use Rattle.ev_base.specs.declared.net.Waited.TheVariants.{Over}
-use Rattle.demux.specs.Calls.{reports_of}
+use Rattle.net_calls.specs.Calls.{reports_of}
 use Rattle.demux.specs.PlayNet.{kept_at, given_at, left_at, given_by_wait, left_by_wait, reached, answer_at, do_not_fall, are_bounded}
 use Rattle.demux.proofs.Playing.{sorted_parts, drop-take_none, take-take_same, none_past, plays_over, plays_some, net_waits}
 use Rattle.demux.proofs.play_net.PlayNetNet.wait.Goals as goal

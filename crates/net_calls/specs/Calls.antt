@@ -1,9 +1,9 @@
 -- A call of a net as the code names it, and as contracts see it.
-use Rattle.std.specs.Prelude.{ℕ, List, map}
+use Rattle.std.specs.Prelude.{ℕ, List, map, option_to_list}
 use Rattle.ev_base.specs.declared.net.Report.{Report}
 use Rattle.ev_base.specs.Net.{Call, Waits, Attaches, SetsMask, Retires, TurnsAway}
-use Rattle.demux.specs.declared.calls.Made.{Made}
-use Rattle.demux.specs.declared.calls.Made.TheVariants as made
+use Rattle.net_calls.specs.declared.calls.Made.{Made}
+use Rattle.net_calls.specs.declared.calls.Made.TheVariants as made
 
 -- the reports alone, of a list that has the number of a wait beside each
 abbrev pub reports_of : List (ℕ × Report) → List Report
@@ -12,6 +12,7 @@ reports_of planned = map (λ p. p.1) planned
 -- the call that a net made
 abbrev pub call_of : Made → Call
 call_of (made.Wait most answer planned) = Waits most answer (reports_of planned.now)
+call_of (made.WaitForOne most answer report) = Waits most answer (option_to_list report)
 call_of (made.Attach handle mask serial) = Attaches handle.0 mask serial
 call_of (made.Mask handle mask) = SetsMask handle.0 mask
 call_of (made.Retire handle) = Retires handle.0

@@ -42,9 +42,11 @@ impl<E> Rule<E, ()> for NoRule {
 
 /// A call that a net made and that did not fail.
 #[derive(Clone, Copy)]
-pub(crate) enum Made<'a> {
+pub enum Made<'a> {
     /// A wait with its limit, its answer and its reports, each with the number of the wait that it was laid down for.
     Wait(Option<u64>, Waited, &'a [(usize, Report)]),
+    /// A wait with its limit, its answer and its one report, or none.
+    WaitForOne(Option<u64>, Waited, Option<Report>),
     /// An attach with the serial number of the end, if it has one.
     Attach(Handle, Mask, Option<u64>),
     /// A mask that was set.
@@ -67,7 +69,7 @@ struct Adding;
 
 impl<'a> Opening<Behind<'a>, CallSeen> for Adding {
     ghost use Rattle.std.specs.Prelude.{◌∷◌};
-    ghost use Rattle.demux.specs.Calls.{call_of};
+    ghost use Rattle.net_calls.specs.Calls.{call_of};
 
     ghost log = { λ n about. call_of about.call ∷ about.before.now.log };
 }
@@ -83,7 +85,7 @@ impl Opening<(), CallSeen> for Nothing {
 
 /// The calls that a net made, the latest first. They take no memory and no time: nothing of them is there in a run.
 #[derive(Drop)]
-pub(crate) struct Calls {
+pub struct Calls {
     seen: Seen<CallSeen, (), NoRule>,
 }
 
@@ -97,10 +99,10 @@ impl Model for Calls {
 }
 
 impl Calls {
-    ghost use Rattle.demux.specs.Calls.{call_of};
+    ghost use Rattle.net_calls.specs.Calls.{call_of};
 
-    // No call was made.
-    pub(crate) fn none() -> Calls
+    /// No call was made.
+    pub fn none() -> Calls
         ensures { result ≡ [] }
     {
         Calls {
@@ -108,8 +110,8 @@ impl Calls {
         }
     }
 
-    // One more call was made.
-    pub(crate) fn add(&mut self, call: Made)
+    /// One more call was made.
+    pub fn add(&mut self, call: Made)
         ensures { self.new ≡ call_of call.entry ∷ self.old }
     {
         let about = Behind {
