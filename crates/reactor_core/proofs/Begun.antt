@@ -19,6 +19,7 @@ use Rattle.reactor_core.specs.Beginning.{IsOver}
 use Rattle.reactor_core.specs.declared.reactor.Core.{Core}
 use Rattle.reactor_core.proofs.Seats.{no_seats}
 use Rattle.reactor_core.proofs.Moves.{absent}
+use Rattle.reactor_core.proofs.WaitNumbers.{marks_begin}
 
 told_none : {A : Type 0} (P : List A → Type 0) (told : Option (List A)) → P [] → HasNone told → WhereTold P told
 told_none P None p h = tt
@@ -48,6 +49,7 @@ pub record Begins {H M Q W V N E : Type 0} (m : Meaning H M Q W V N E) (core : C
   pub state : m.shows core.state nothing
   pub places : m.places no_places core.state
   pub repo : core.repo.entries ≡ []
+  pub marks : core.marks ≡ record { made = 0; over = 0 }
 
 pub begun : {H M Q W V N E : Type 0} (m : Meaning H M Q W V N E) (t : Terms) (core : Core H M Q W V N E) → Begins m core → t.most ≡ core.most → IsNew (m.facts core.net) → (t.steady ≡ Some true → (m.facts core.net).steady ≡ true) → m.keeps t core.net → m.watched t core.watch []
     → WhereTold (λ entries. (n : ℕ) → t.volumes_taken ≡ Some n → length entries ≡ n) (m.volumes core.volumes).taken → Stands m t core 0 []
@@ -63,6 +65,7 @@ begun {H = H} {N = N} m t core d most fresh steady keeps watch taken = record {
     keeps = keeps;
     watch = watch;
     volumes = taken_at_first t (m.volumes core.volumes).taken taken;
+    marks = marks_begin core.marks (m.facts core.net).calls d.marks fresh.calls;
   };
   settled = record { none_waits = refl; none_due = refl; none_alive = λ e. refl };
   room = record {

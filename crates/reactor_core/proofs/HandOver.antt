@@ -21,6 +21,7 @@ use Rattle.reactor_core.specs.Stands.{Meaning, JournalStands, NetStands, HasTake
 use Rattle.reactor_core.specs.HandingOver.{is_due, KeepsOthers, HandsDue, HandsOver, HandsNothing, IsCause, refusal_of}
 use Rattle.reactor_core.specs.declared.reactor.Core.{Core}
 use Rattle.reactor_core.proofs.Ends.{told_same}
+use Rattle.reactor_core.proofs.WaitNumbers.{marks_kept}
 
 -- the summary of a legal history counts its entries
 pub entries_are : {N : Type 0} (most : ℕ) (h : List (Entry N)) → Legal h most → (summary (past_of h)).entries ≡ length h
@@ -72,6 +73,7 @@ module _ {H M Q W V N E : Type 0} (m : Meaning H M Q W V N E) (t : Terms) (old n
           keeps = subst (λ net. m.keeps t net) (sym k.net) o.tracks.keeps;
           watch = subst (λ watch. m.watched t watch h) (sym k.watch) o.tracks.watch;
           volumes = volumes;
+          marks = marks_kept (past_of h) old.marks new.marks (m.facts old.net).calls (m.facts new.net).calls k.marks (ap (λ net. (m.facts net).calls) k.net) o.tracks.marks;
         };
         settled = o.settled;
         room = record {

@@ -11,6 +11,7 @@ use Rattle.reactor_core.specs.Handlers.{RepositoryStands}
 use Rattle.reactor_core.specs.Stands.{Meaning, Tracks, HasTaken, HasRoom, Keeps, Stands, places_for}
 use Rattle.reactor_core.specs.declared.reactor.Core.{Core}
 use Rattle.reactor_core.proofs.Ends.{told_same, net_kept}
+use Rattle.reactor_core.proofs.WaitNumbers.{marks_kept}
 
 fails_of : {E : Type 0} (old new : NetFacts E) → Reserves old new → FailsCall old new
 fails_of old new r = record { now = r.now; reports = r.reports; calls = r.calls; steady = r.steady; attached = r.attached; spare = r.spare; masks = r.masks; retired = r.retired; turned_away = r.turned_away }
@@ -28,6 +29,7 @@ module _ {H M Q W V N E : Type 0} (m : Meaning H M Q W V N E) (t : Terms) (old n
     keeps = k.net_keeps t o.keeps;
     watch = subst (λ w. m.watched t w h) (sym k.watch) o.watch;
     volumes = told_same (HasTaken t F h) (HasTaken t F h) (m.volumes old.volumes).taken (m.volumes new.volumes).taken (ap (λ v. (m.volumes v).taken) k.volumes) (λ taken x. x) o.volumes;
+    marks = marks_kept (past_of h) old.marks new.marks (m.facts old.net).calls (m.facts new.net).calls k.marks k.net.calls o.marks;
   }
 
   pub room_kept : (entries : ℕ) (more : Places) (s : Summary) → HasRoom m entries more old s → HasRoom m entries more new s

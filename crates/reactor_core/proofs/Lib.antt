@@ -31,3 +31,5 @@ pub mod Refused
 pub mod ActsOf
 pub mod HandOver
 pub mod Still
+pub mod Watched
+pub mod WaitNumbers

@@ -34,6 +34,7 @@ use Rattle.reactor_core.proofs.Ends.{net_opened, net_quiet, net_failed, told_sam
 use Rattle.reactor_core.proofs.Steps.{may_by, Appends, tracks_by}
 use Rattle.reactor_core.proofs.Start.{later_deadline}
 use Rattle.reactor_core.proofs.Closed.{attached_live}
+use Rattle.reactor_core.proofs.WaitNumbers.{marks_kept}
 
 or_none : (b : Bool) → (b || false) ≡ b
 or_none true = refl
@@ -137,9 +138,9 @@ settled_scheduled N s timer first every handle later o = record {
 
 -- the end was not taken
 pub comes_back : {H M Q W V N E : Type 0} (m : Meaning H M Q W V N E) (t : Terms) (old new : Core H M Q W V N E) (F : ℕ) (h : List (Entry N)) (handler : H) → FailsToAttach (m.facts old.net) (m.facts new.net)
-    → new.most ≡ old.most → new.first ≡ old.first → new.journal ≡ old.journal → new.state ≡ old.state → new.repo ≡ old.repo → new.watch ≡ old.watch → new.volumes ≡ old.volumes
+    → new.most ≡ old.most → new.first ≡ old.first → new.journal ≡ old.journal → new.state ≡ old.state → new.repo ≡ old.repo → new.watch ≡ old.watch → new.volumes ≡ old.volumes → new.marks ≡ old.marks
     → m.keeps t new.net → IsOffered m.means t (past_of h) handler → HasNumber (summary (past_of h)) → Tracks m t old F h None [] → ComesBack m t F h handler old new
-comes_back m t old new F h handler f most first journal state repo watch volumes keeps offered number k = record {
+comes_back m t old new F h handler f most first journal state repo watch volumes marks keeps offered number k = record {
   tracks = record {
     most = most ∙ k.most;
     few = subst (λ (n : ℕ). n ≤ 4097) (sym most) k.few;
@@ -151,6 +152,7 @@ comes_back m t old new F h handler f most first journal state repo watch volumes
     keeps = keeps;
     watch = subst (λ w. m.watched t w h) (sym watch) k.watch;
     volumes = told_same (HasTaken t F h) (HasTaken t F h) (m.volumes old.volumes).taken (m.volumes new.volumes).taken (ap (λ v. (m.volumes v).taken) volumes) (λ taken y. y) k.volumes;
+    marks = marks_kept (past_of h) old.marks new.marks (m.facts old.net).calls (m.facts new.net).calls marks f.same.calls k.marks;
   };
   offered = offered;
   fails = f;

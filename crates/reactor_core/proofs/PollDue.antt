@@ -162,7 +162,7 @@ module _ {H M Q W V N E : Type 0} (m : Meaning H M Q W V N E) (t : Terms) (old n
       fewer new.state _ _ (record { handles = omega arith; timers = omega arith; timeouts = omega arith; events = omega arith; opens = omega arith }) (d.places (places_for (length s.opens) (event_places (left + 1) events)) r.state) in (
         d.none s o.state,
         subst (λ core. IsTaking m s0 0 events t core F h pending) (sym d.same) (record {
-          tracks = record { most = o.most; few = o.few; legal = o.legal; journal = record { first = o.journal.first; within = o.journal.within; entries = o.journal.entries }; state = d.state s o.state; repository = o.repository; net = o.net; keeps = o.keeps; watch = o.watch; volumes = o.volumes };
+          tracks = record { most = o.most; few = o.few; legal = o.legal; journal = record { first = o.journal.first; within = o.journal.within; entries = o.journal.entries }; state = d.state s o.state; repository = o.repository; net = o.net; keeps = o.keeps; watch = o.watch; volumes = o.volumes; marks = o.marks };
           none_waits = k.none_waits;
           going = k.going;
           handles = k.handles;

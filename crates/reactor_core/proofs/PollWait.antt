@@ -1,5 +1,5 @@
 -- What a wait leaves.
-use Rattle.std.proofs.Common.{ℕ, ◌≡◌, ◌≤◌, ◌+◌, ◌^◌, true, false, not, ◌||◌, List, [], ◌∷◌, ◌++◌, length, refl, sym, ap, subst, arith, Option, Some, None}
+use Rattle.std.proofs.Common.{ℕ, ◌≡◌, ◌≤◌, ◌<◌, ◌+◌, ◌^◌, true, false, not, ◌||◌, List, [], ◌∷◌, ◌++◌, length, refl, sym, ap, subst, arith, Option, Some, None}
 use Rattle.std.proofs.lemmas.Bool.{and_from, le-leb}
 use Rattle.std.specs.List.{filter}
 use Rattle.std.specs.Prelude.{nat_le}
@@ -10,7 +10,7 @@ use Rattle.ev_base.specs.declared.net.Waited.{Waited}
 use Rattle.ev_base.specs.declared.net.Waited.TheVariants.{Reports, Quiet, Over, Failed}
 use Rattle.reactor_journal.specs.declared.entry.Entry.{Entry}
 use Rattle.reactor_journal.specs.declared.entry.Entry.TheVariants.{Polled}
-use Rattle.reactor_journal.specs.Past.{past_of}
+use Rattle.reactor_journal.specs.Past.{past_of, count}
 use Rattle.reactor_journal.specs.Follow.{may_follow, follows_due, follows_ready}
 use Rattle.reactor_journal.proofs.Turning.{past_of-more}
 use Rattle.reactor_summary.specs.Rules as R
@@ -25,6 +25,10 @@ use Rattle.reactor_core.specs.declared.reactor.Core.{Core}
 use Rattle.reactor_core.proofs.Seats.{seats_quiet}
 use Rattle.reactor_core.proofs.Ends.{net_kept, net_polled}
 use Rattle.reactor_core.proofs.Steps.{may_by, Appends, tracks_by}
+use Rattle.reactor_core.proofs.WaitNumbers.{marks_kept}
+use Rattle.reactor_core.specs.Marks.{is_polled}
+use Rattle.reactor_core.proofs.Opened.{count_le}
+use Rattle.reactor_summary.proofs.Told.{told}
 
 -- ---- answers of a wait
 
@@ -67,7 +71,7 @@ wait_failed m t old new F h same f keeps o =
     let k = o.tracks in
     let net : NetStands m.means t (past_of h) [] (m.facts new.net) = net_kept m.means t (past_of h) [] (m.facts old.net) (m.facts new.net) (omega (arith, f.failed_attaches)) f.same k.net in
     subst (λ core. Stands m t core F h) (sym same) (record {
-      tracks = record { most = k.most; few = k.few; legal = k.legal; journal = record { first = k.journal.first; within = k.journal.within; entries = k.journal.entries }; state = k.state; repository = k.repository; net = net; keeps = keeps; watch = k.watch; volumes = k.volumes };
+      tracks = record { most = k.most; few = k.few; legal = k.legal; journal = record { first = k.journal.first; within = k.journal.within; entries = k.journal.entries }; state = k.state; repository = k.repository; net = net; keeps = keeps; watch = k.watch; volumes = k.volumes; marks = marks_kept (past_of h) old.marks old.marks (m.facts old.net).calls (m.facts new.net).calls refl f.same.calls k.marks };
       settled = o.settled;
       room = record { journal = o.room.journal; numbers = o.room.numbers; state = o.room.state; repository = o.room.repository; net = let spare = f.same.spare in omega (arith, o.room.net, spare) };
     })
@@ -139,6 +143,17 @@ waited {N = N} m t old new F h armed asked answer now d o =
       follows = ap follows_due same;
       few = subst (λ ps. length (summary ps).armed ≤ armed) (sym same) o.few;
     }
+
+-- there are few enough waits that one more may be counted
+pub may_mark : {H M Q W V N E : Type 0} (m : Meaning H M Q W V N E) (t : Terms) (core : Core H M Q W V N E) (F : ℕ) (h : List (Entry N)) (armed : ℕ) (asked : Option ℕ) → MayWait m armed asked t core F h → core.marks.made < 2 ^ 62
+may_mark {N = N} m t core F h armed asked o =
+    let past : List (Entry N) = past_of h in
+    let tracks = o.stands.tracks in
+    let made : core.marks.made ≡ count is_polled past = tracks.marks.made in
+    let few : count is_polled past ≤ length past = count_le is_polled past in
+    let entries : (summary past).entries ≡ length past = (told t.most past tracks.legal).entries in
+    let room = o.room.numbers in
+    omega (arith, made, few, entries, room)
 
 -- what the wait gives, by its moment
 pub wait_gives : {H M Q W V N E : Type 0} (m : Meaning H M Q W V N E) (t : Terms) (old new : Core H M Q W V N E) (F : ℕ) (h : List (Entry N)) (armed : ℕ) (asked : Option ℕ) (answer : Waited) (now : ℕ) (at : Option ℕ)

@@ -35,6 +35,7 @@ use Rattle.reactor_core.proofs.Ends.{net_quiet, told_same}
 use Rattle.reactor_core.proofs.Steps.{may_by, Appends, tracks_by}
 use Rattle.reactor_core.proofs.SettledHistory.{IsSettledBut, settled_removed, waits_now, busy_waits_not, none_waits_by, quiet_closed}
 use Rattle.reactor_core.proofs.Owed.{owed_removed, owed_closed}
+use Rattle.reactor_core.proofs.WaitNumbers.{marks_kept}
 
 pub record RemovesEntry {H M Q W V N E : Type 0} (m : Meaning H M Q W V N E) (old new : Core H M Q W V N E) (handle : Handle) : Type 0 where
   pub appends : Appends m old new (Removed handle)
@@ -103,6 +104,7 @@ pub record TakesHome {H M Q W V N E : Type 0} (old new : Core H M Q W V N E) (x 
   pub net : new.net ≡ old.net
   pub watch : new.watch ≡ old.watch
   pub volumes : new.volumes ≡ old.volumes
+  pub marks : new.marks ≡ old.marks
 
 pub taken_home : {H M Q W V N E : Type 0} (m : Meaning H M Q W V N E) (t : Terms) (old new : Core H M Q W V N E) (F : ℕ) (h : List (Entry N)) (x : ℕ) (handler : H)
     → TakesHome old new x handler → Tracks m t old F h None [] → Tracks m t new F h (Some x) []
@@ -117,6 +119,7 @@ taken_home m t old new F h x handler d k = record {
   keeps = subst (λ net. m.keeps t net) (sym d.net) k.keeps;
   watch = subst (λ w. m.watched t w h) (sym d.watch) k.watch;
   volumes = told_same (HasTaken t F h) (HasTaken t F h) (m.volumes old.volumes).taken (m.volumes new.volumes).taken (ap (λ v. (m.volumes v).taken) d.volumes) (λ taken y. y) k.volumes;
+  marks = marks_kept (past_of h) old.marks new.marks (m.facts old.net).calls (m.facts new.net).calls d.marks (ap (λ net. (m.facts net).calls) d.net) k.marks;
 }
 
 pub home_of_seat : {H E N : Type 0} (means : Handling H E N) (t : Terms) (past : List (Entry N)) (x : ℕ) (handler : H) (entries : List (R.Entry H)) → R.seat_of x entries ≡ Some (Home handler)

@@ -35,6 +35,7 @@ use Rattle.reactor_core.proofs.Dispatch.{live_returned}
 use Rattle.reactor_core.proofs.SettledHistory.{waits_now}
 use Rattle.handler_repo.specs.Seats as R
 use Rattle.handler_repo.specs.declared.seat.Seat.TheVariants.{Home}
+use Rattle.reactor_core.proofs.WaitNumbers.{marks_kept}
 
 not_from : (b : Bool) → (b ≡ true → ⊥) → b ≡ false
 not_from b f = ⊎_elim (λ (t : b ≡ true). absurd (f t)) (λ (n : b ≡ false). n) (cases_Bool b)
@@ -145,6 +146,7 @@ pub record GivesBack {H M Q W V N E : Type 0} (old new : Core H M Q W V N E) (x 
   pub net : new.net ≡ old.net
   pub watch : new.watch ≡ old.watch
   pub volumes : new.volumes ≡ old.volumes
+  pub marks : new.marks ≡ old.marks
 
 pub given_back : {H M Q W V N E : Type 0} (m : Meaning H M Q W V N E) (t : Terms) (old new : Core H M Q W V N E) (F : ℕ) (h : List (Entry N)) (x : ℕ) (handler : H) (why : Why)
     → GivesBack old new x handler → IsReturned m.means t (past_of h) x handler why → Tracks m t old F h (Some x) [] → Tracks m t new F h None []
@@ -159,4 +161,5 @@ given_back m t old new F h x handler why d r k = record {
   keeps = subst (λ net. m.keeps t net) (sym d.net) k.keeps;
   watch = subst (λ w. m.watched t w h) (sym d.watch) k.watch;
   volumes = told_same (HasTaken t F h) (HasTaken t F h) (m.volumes old.volumes).taken (m.volumes new.volumes).taken (ap (λ v. (m.volumes v).taken) d.volumes) (λ taken y. y) k.volumes;
+  marks = marks_kept (past_of h) old.marks new.marks (m.facts old.net).calls (m.facts new.net).calls d.marks (ap (λ net. (m.facts net).calls) d.net) k.marks;
 }

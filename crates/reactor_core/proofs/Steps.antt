@@ -12,9 +12,11 @@ use Rattle.reactor_summary.specs.Rules as R
 use Rattle.reactor_summary.proofs.Told.{told}
 use Rattle.reactor_summary.proofs.Follows.{may_follow_is}
 use Rattle.reactor_core.specs.Handlers.{RepositoryStands}
+use Rattle.reactor_core.specs.Marks.{MarksStand, MarksGoOn, told_answers}
 use Rattle.reactor_core.specs.Stands.{Meaning, Tracks, JournalStands, NetStands, HasTaken}
 use Rattle.reactor_core.specs.declared.reactor.Core.{Core}
 use Rattle.reactor_core.proofs.Ends.{told_same}
+use Rattle.reactor_core.proofs.WaitNumbers.{marks_more}
 
 -- an entry that the summary lets follow may follow
 pub may_by : {N : Type 0} (most : ℕ) (h : List (Entry N)) (e : Entry N) (due ready : Bool) → Legal h most → follows_due (past_of h) ≡ due → follows_ready (past_of h) ≡ ready
@@ -31,6 +33,7 @@ pub record Appends {H M Q W V N E : Type 0} (m : Meaning H M Q W V N E) (old new
   pub journal : new.journal.entries ≡ old.journal.entries ++ e ∷ []
   pub watch : (t : Terms) (h : List (Entry N)) → m.watched t old.watch h → m.watched t new.watch (h ++ e ∷ [])
   pub volumes : new.volumes ≡ old.volumes
+  pub marks : MarksGoOn e old.marks (told_answers (m.facts old.net).calls) new.marks (told_answers (m.facts new.net).calls)
 
 journal_more : {H M Q W V N E : Type 0} (old new : Core H M Q W V N E) (F : ℕ) (h : List (Entry N)) (e : Entry N) → JournalStands old F h → new.first ≡ old.first → new.journal.entries ≡ old.journal.entries ++ e ∷ [] → JournalStands new F (h ++ e ∷ [])
 journal_more old new F h e o f j = record {
@@ -64,4 +67,5 @@ tracks_by m t old new F h e hand hand' pending pending' o a may state repository
       keeps = keeps;
       watch = a.watch t h o.watch;
       volumes = told_same (HasTaken t F h) (HasTaken t F (h ++ e ∷ [])) (m.volumes old.volumes).taken (m.volumes new.volumes).taken (ap (λ v. (m.volumes v).taken) a.volumes) (λ taken k. taken_more t F h (e ∷ []) taken o.journal.within k) o.volumes;
+      marks = subst (λ past. MarksStand new.marks past (told_answers (m.facts new.net).calls)) same (marks_more e (past_of h) old.marks new.marks _ _ a.marks o.marks);
     }

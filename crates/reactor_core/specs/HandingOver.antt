@@ -23,6 +23,7 @@ pub record KeepsOthers {H M Q W V N E : Type 0} (old new : Core H M Q W V N E) :
   pub repo : new.repo ≡ old.repo
   pub net : new.net ≡ old.net
   pub watch : new.watch ≡ old.watch
+  pub marks : new.marks ≡ old.marks
 
 -- where a volume is due all entries that are held are handed over, and else none
 abbrev pub HandsDue : {H M Q W V N E : Type 0} → Bool → Meaning H M Q W V N E → Terms → ℕ → List (Entry N) → ℕ → Core H M Q W V N E → Core H M Q W V N E → Type 0

@@ -19,3 +19,4 @@ pub mod Acting
 pub mod HandingOver
 pub mod Laws
 pub mod Faults
+pub mod Marks

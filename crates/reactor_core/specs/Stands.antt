@@ -18,6 +18,7 @@ use Rattle.reactor_state.specs.declared.state.ReactorState.{ReactorState}
 use Rattle.reactor_core.specs.Handlers.{RepositoryStands}
 use Rattle.reactor_core.specs.Ends.{WhereTold, live_numbers, live_masks, AreRetired, AreTurnedAway, is_fault}
 use Rattle.reactor_core.specs.Calls.{AreCalls}
+use Rattle.reactor_core.specs.Marks.{MarksStand, told_answers}
 use Rattle.reactor_core.specs.declared.reactor.Core.{Core}
 
 -- What the things outside mean and tell: the handlers' relations, what a net tells and keeps, the list and the spare places of a
@@ -71,6 +72,7 @@ pub record Tracks {H M Q W V N E : Type 0} (m : Meaning H M Q W V N E) (t : Term
   pub keeps : m.keeps t core.net
   pub watch : m.watched t core.watch h
   pub volumes : WhereTold (HasTaken t F h) (m.volumes core.volumes).taken
+  pub marks : MarksStand core.marks (past_of h) (told_answers (m.facts core.net).calls)
 
 -- no handle waits for its `Closed`, no armed deadline is reached, and once the reactor was stopped no handle is alive
 pub record IsSettled (s : Summary) : Type 0 where
@@ -131,6 +133,7 @@ pub record Keeps {H M Q W V N E : Type 0} (m : Meaning H M Q W V N E) (old new :
   pub net_keeps : (t : Terms) → m.keeps t old.net → m.keeps t new.net
   pub watch : new.watch ≡ old.watch
   pub volumes : new.volumes ≡ old.volumes
+  pub marks : new.marks ≡ old.marks
 
 -- the room that the start of an upcall takes: its own entry and five for its settling; and a registration with its timer, the
 -- timer that is armed again, and the event that an Again makes

@@ -1,5 +1,6 @@
 //! The closing of a handler.
-ghost use Rattle.std.specs.Prelude.{◌≡◌, ◌≤◌, ◌+◌, ◌++◌, ◌∷◌, [], ℕ, List, Some, None};
+ghost use Rattle.std.specs.Prelude.{◌≡◌, ◌≤◌, ◌+◌, ◌++◌, ◌∷◌, [], ℕ, List, Some, None, true, false};
+ghost use Rattle.ev_base.specs.Counts.{Rose};
 ghost use Rattle.ev_base.specs.Terms.{Terms};
 ghost use Rattle.reactor_journal.specs.declared.entry.Entry.{Entry};
 ghost use Rattle.reactor_journal.specs.Past.{past_of};
@@ -34,10 +35,13 @@ impl<
         ensures room { SpendsRoom (meaning H.means M.facts M.keeps (Shows Q.timers) (HasPlaces Q.spare) IsPlaced W.stands V.facts) 1 self.old self.new }
         ensures faults { (M.facts self.new.net).failed_attaches ≡ (M.facts self.old.net).failed_attaches }
         ensures volume { self.new.volume ≡ self.old.volume }
+        ensures marks { self.new.marks ≡ self.old.marks }
         ensures volumes { self.new.volumes ≡ self.old.volumes }
         ensures wait_faults { HasNotFallen (M.facts self.old.net).failed_waits (M.facts self.new.net).failed_waits }
         ensures attach_faults { HasNotFallen (M.facts self.old.net).failed_attaches (M.facts self.new.net).failed_attaches }
         ensures watch_faults { W.faults self.old.watch ≤ W.faults self.new.watch }
+        ensures watch_stays { W.is_broken self.old.watch ≡ true → W.is_broken self.new.watch ≡ true }
+        ensures watch_breaks { W.is_broken self.old.watch ≡ false → W.is_broken self.new.watch ≡ true → Rose (W.faults self.old.watch) (W.faults self.new.watch) }
     {
         let (end, note) = handler.handle_close(why);
         self.net.retire(handle, end);

@@ -6,6 +6,7 @@ mod append;
 mod closing;
 mod job;
 pub mod laws;
+mod marks;
 mod polling;
 mod postings;
 mod reactor;

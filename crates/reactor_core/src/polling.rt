@@ -1,21 +1,23 @@
 //! The wait for events, and their entries.
-ghost use Rattle.std.specs.Prelude.{◌≡◌, ◌≤◌, ◌<◌, ◌+◌, ◌++◌, ◌↔◌, ℕ, List, map, filter, length, true, None, OnOk, OnErr, IfOk, IfSome, IfNone};
+ghost use Rattle.std.specs.Prelude.{◌≡◌, ◌≤◌, ◌<◌, ◌+◌, ◌++◌, ◌↔◌, ℕ, List, map, filter, length, true, None, OnOk, OnErr, IfOk, IfSome, IfNone, false};
 ghost use Rattle.ev_base.specs.Counts.{Rose};
 ghost use Rattle.ev_base.specs.Net.{NetWaits};
 ghost use Rattle.ev_base.specs.Terms.{Terms};
 ghost use Rattle.ev_base.specs.declared.net.Report.{Report};
 ghost use Rattle.reactor_journal.specs.declared.entry.Entry.{Entry};
-ghost use Rattle.reactor_journal.specs.Past.{past_of};
+ghost use Rattle.reactor_journal.specs.Past.{past_of, count};
 ghost use Rattle.reactor_summary.specs.Summary.{Summary, summary};
 ghost use Rattle.reactor_core.specs.Calls.{least_limit, is_taken};
 ghost use Rattle.reactor_core.specs.Faults.{HasNotFallen};
 ghost use Rattle.reactor_core.specs.Stands.{meaning, Stands, StandsWith, StandsAsBefore, Keeps, HasRoom};
+ghost use Rattle.reactor_core.specs.Marks.{is_polled, marks_after, marks_found, marks_polled};
 ghost use Rattle.reactor_core.specs.Polling.{FitsLimit, name_of, ready_of, Polls, WaitsOnce};
 ghost use Rattle.reactor_core.specs.Taking.{moment_of, count_of, event_places, MayWait, WaitGives, IsTakingDues, TakesDues, IsTakingReports, HasTakenReports};
 ghost use Rattle.reactor_state.specs.State.{Shows, HasPlaces, IsPlaced};
 
 use crate::Core;
 use crate::append::append;
+use crate::marks::marked;
 use ev_base::{Net, Waited};
 use ev_types::NoMemory;
 use reactor_model::{Entry, EventHandler, Volumes, Watch};
@@ -102,7 +104,8 @@ impl<
     /// Waits once for reports, at most `most_ms` milliseconds and no longer than to the earliest deadline; None is no limit
     /// (C++NPv2 chapter 3, `ACE_Reactor::handle_events`; POSA2, Reactor). The journal has more entries: `Polled`, a `Due` for each
     /// timer whose deadline is reached, in order, and a `Ready` for each report whose handle is alive and whose kind is in its
-    /// mask, in the order of the reports, of which there are at most 256. The answer says what the wait found.
+    /// mask, in the order of the reports, of which there are at most 256. The answer says what the wait found. Where that is `Over`,
+    /// `over` tells from then on how many waits there were with this one, as many as the whole history has `Polled`.
     ///
     /// `Stopped` comes exactly where the reactor was stopped. `NoMemory` comes where there was no memory for the entries and
     /// events that a wait may bring. `NetFailed` comes only where the net's count of failed waits rose. After an Err the journal,
@@ -116,10 +119,16 @@ impl<
             → (result ≡ Err PollRefused.Stopped) ↔ ((summary (past_of h)).ended ≡ true) }
         ensures failed { result ≡ Err PollRefused.NetFailed → Rose (M.facts self.old.net).failed_waits (M.facts self.new.net).failed_waits }
         ensures volume { self.new.volume ≡ self.old.volume }
+        ensures marks { self.new.marks ≡ marks_polled result self.old.marks }
+        ensures over { self.old.marks.over ≤ self.new.marks.over }
+        ensures number { (t : Terms) (F : ℕ) (h : List (Entry H.Note)) → Stands (meaning H.means M.facts M.keeps (Shows Q.timers) (HasPlaces Q.spare) IsPlaced W.stands V.facts) t self.new F h
+            → result ≡ Ok Polled.Over → self.new.marks.over ≡ count is_polled (past_of h) }
         ensures volumes { self.new.volumes ≡ self.old.volumes }
         ensures wait_faults { HasNotFallen (M.facts self.old.net).failed_waits (M.facts self.new.net).failed_waits }
         ensures attach_faults { HasNotFallen (M.facts self.old.net).failed_attaches (M.facts self.new.net).failed_attaches }
         ensures watch_faults { W.faults self.old.watch ≤ W.faults self.new.watch }
+        ensures watch_stays { W.is_broken self.old.watch ≡ true → W.is_broken self.new.watch ≡ true }
+        ensures watch_breaks { W.is_broken self.old.watch ≡ false → W.is_broken self.new.watch ≡ true → Rose (W.faults self.old.watch) (W.faults self.new.watch) }
     {
         if self.state.is_ended() {
             return Err(PollRefused::Stopped);
@@ -142,10 +151,13 @@ impl<
         ensures room { OnOk result ((t : Terms) (F : ℕ) (h : List (Entry H.Note)) → Stands (meaning H.means M.facts M.keeps (Shows Q.timers) (HasPlaces Q.spare) IsPlaced W.stands V.facts) t self.old F h
             → HasRoom (meaning H.means M.facts M.keeps (Shows Q.timers) (HasPlaces Q.spare) IsPlaced W.stands V.facts) (armed + 257) (event_places armed 256) self.new (summary (past_of h))) }
         ensures volume { self.new.volume ≡ self.old.volume }
+        ensures marks { self.new.marks ≡ self.old.marks }
         ensures volumes { self.new.volumes ≡ self.old.volumes }
         ensures wait_faults { HasNotFallen (M.facts self.old.net).failed_waits (M.facts self.new.net).failed_waits }
         ensures attach_faults { HasNotFallen (M.facts self.old.net).failed_attaches (M.facts self.new.net).failed_attaches }
         ensures watch_faults { W.faults self.old.watch ≤ W.faults self.new.watch }
+        ensures watch_stays { W.is_broken self.old.watch ≡ true → W.is_broken self.new.watch ≡ true }
+        ensures watch_breaks { W.is_broken self.old.watch ≡ false → W.is_broken self.new.watch ≡ true → Rose (W.faults self.old.watch) (W.faults self.new.watch) }
     {
         let Some(entries) = armed.checked_add(MOST_REPORTS + 1) else {
             return Err(NoMemory);
@@ -170,10 +182,13 @@ impl<
         ensures stands { IfNone result (StandsAsBefore (meaning H.means M.facts M.keeps (Shows Q.timers) (HasPlaces Q.spare) IsPlaced W.stands V.facts) self.old self.new) }
         ensures rose { IfNone result (Rose (M.facts self.old.net).failed_waits (M.facts self.new.net).failed_waits) }
         ensures volume { self.new.volume ≡ self.old.volume }
+        ensures marks { self.new.marks ≡ marks_found result self.old.marks }
         ensures volumes { self.new.volumes ≡ self.old.volumes }
         ensures wait_faults { HasNotFallen (M.facts self.old.net).failed_waits (M.facts self.new.net).failed_waits }
         ensures attach_faults { HasNotFallen (M.facts self.old.net).failed_attaches (M.facts self.new.net).failed_attaches }
         ensures watch_faults { W.faults self.old.watch ≤ W.faults self.new.watch }
+        ensures watch_stays { W.is_broken self.old.watch ≡ true → W.is_broken self.new.watch ≡ true }
+        ensures watch_breaks { W.is_broken self.old.watch ≡ false → W.is_broken self.new.watch ≡ true → Rose (W.faults self.old.watch) (W.faults self.new.watch) }
     {
         let answer = self.wait_for(limit);
         let Some(polled) = name_of(answer) else {
@@ -192,16 +207,20 @@ impl<
             → WaitGives (meaning H.means M.facts M.keeps (Shows Q.timers) (HasPlaces Q.spare) IsPlaced W.stands V.facts) armed t F h (moment_of result) self.new }
         ensures failed { moment_of result ≡ None → StandsAsBefore (meaning H.means M.facts M.keeps (Shows Q.timers) (HasPlaces Q.spare) IsPlaced W.stands V.facts) self.old self.new }
         ensures volume { self.new.volume ≡ self.old.volume }
+        ensures marks { self.new.marks ≡ marks_after result self.old.marks }
         ensures volumes { self.new.volumes ≡ self.old.volumes }
         ensures wait_faults { HasNotFallen (M.facts self.old.net).failed_waits (M.facts self.new.net).failed_waits }
         ensures attach_faults { HasNotFallen (M.facts self.old.net).failed_attaches (M.facts self.new.net).failed_attaches }
         ensures watch_faults { W.faults self.old.watch ≤ W.faults self.new.watch }
+        ensures watch_stays { W.is_broken self.old.watch ≡ true → W.is_broken self.new.watch ≡ true }
+        ensures watch_breaks { W.is_broken self.old.watch ≡ false → W.is_broken self.new.watch ≡ true → Rose (W.faults self.old.watch) (W.faults self.new.watch) }
     {
         let answer = self.net.wait(limit);
         let Some(now) = moment_of(answer) else {
             return answer;
         };
         self.state.poll(now);
+        self.marks = marked(answer, self.marks);
         append(&mut self.journal, &mut self.watch, Entry::Polled { now });
         answer
     }
@@ -215,10 +234,13 @@ impl<
             → TakesDues (meaning H.means M.facts M.keeps (Shows Q.timers) (HasPlaces Q.spare) IsPlaced W.stands V.facts) s events t self.new F h pending }
         ensures net { self.new.net ≡ self.old.net }
         ensures volume { self.new.volume ≡ self.old.volume }
+        ensures marks { self.new.marks ≡ self.old.marks }
         ensures volumes { self.new.volumes ≡ self.old.volumes }
         ensures wait_faults { HasNotFallen (M.facts self.old.net).failed_waits (M.facts self.new.net).failed_waits }
         ensures attach_faults { HasNotFallen (M.facts self.old.net).failed_attaches (M.facts self.new.net).failed_attaches }
         ensures watch_faults { W.faults self.old.watch ≤ W.faults self.new.watch }
+        ensures watch_stays { W.is_broken self.old.watch ≡ true → W.is_broken self.new.watch ≡ true }
+        ensures watch_breaks { W.is_broken self.old.watch ≡ false → W.is_broken self.new.watch ≡ true → Rose (W.faults self.old.watch) (W.faults self.new.watch) }
     {
         let mut left = most;
         while left > 0 {
@@ -242,10 +264,13 @@ impl<
             → Stands (meaning H.means M.facts M.keeps (Shows Q.timers) (HasPlaces Q.spare) IsPlaced W.stands V.facts) t self.new F (h ++ map ready_of (filter (is_taken s) (M.facts self.old.net).reports)) }
         ensures net { self.new.net ≡ self.old.net }
         ensures volume { self.new.volume ≡ self.old.volume }
+        ensures marks { self.new.marks ≡ self.old.marks }
         ensures volumes { self.new.volumes ≡ self.old.volumes }
         ensures wait_faults { HasNotFallen (M.facts self.old.net).failed_waits (M.facts self.new.net).failed_waits }
         ensures attach_faults { HasNotFallen (M.facts self.old.net).failed_attaches (M.facts self.new.net).failed_attaches }
         ensures watch_faults { W.faults self.old.watch ≤ W.faults self.new.watch }
+        ensures watch_stays { W.is_broken self.old.watch ≡ true → W.is_broken self.new.watch ≡ true }
+        ensures watch_breaks { W.is_broken self.old.watch ≡ false → W.is_broken self.new.watch ≡ true → Rose (W.faults self.old.watch) (W.faults self.new.watch) }
     {
         for at in 0..count {
             self.take_report(at);
@@ -262,10 +287,13 @@ impl<
             → HasTakenReports (meaning H.means M.facts M.keeps (Shows Q.timers) (HasPlaces Q.spare) IsPlaced W.stands V.facts) s (M.facts self.old.net).reports (at + 1) t self.new F h }
         ensures net { self.new.net ≡ self.old.net }
         ensures volume { self.new.volume ≡ self.old.volume }
+        ensures marks { self.new.marks ≡ self.old.marks }
         ensures volumes { self.new.volumes ≡ self.old.volumes }
         ensures wait_faults { HasNotFallen (M.facts self.old.net).failed_waits (M.facts self.new.net).failed_waits }
         ensures attach_faults { HasNotFallen (M.facts self.old.net).failed_attaches (M.facts self.new.net).failed_attaches }
         ensures watch_faults { W.faults self.old.watch ≤ W.faults self.new.watch }
+        ensures watch_stays { W.is_broken self.old.watch ≡ true → W.is_broken self.new.watch ≡ true }
+        ensures watch_breaks { W.is_broken self.old.watch ≡ false → W.is_broken self.new.watch ≡ true → Rose (W.faults self.old.watch) (W.faults self.new.watch) }
     {
         let report = self.net.report(at);
         if !self.state.is_wanted(report.handle, report.kind) {

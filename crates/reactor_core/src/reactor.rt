@@ -7,8 +7,11 @@ ghost use Rattle.reactor_journal.specs.Past.{past_of};
 ghost use Rattle.reactor_summary.specs.Summary.{summary};
 ghost use Rattle.reactor_state.specs.State.{Shows, HasPlaces, IsPlaced};
 ghost use Rattle.reactor_core.specs.Stands.{meaning, Stands, StandsWith};
+ghost use Rattle.reactor_core.specs.Ends.{WhereTold};
+ghost use Rattle.reactor_core.specs.Marks.{IsOverAt, answers};
 ghost use Rattle.reactor_core.specs.Beginning.{CanBegin, IsOver, PartsStand};
 
+use crate::marks::WaitMarks;
 use ev_base::Net;
 use ev_types::NoMemory;
 use handler_repo::Repo;
@@ -40,6 +43,7 @@ pub struct Core<
     pub(crate) net: M,
     pub(crate) watch: W,
     pub(crate) volumes: V,
+    pub(crate) marks: WaitMarks,
 }
 
 /// What a reactor that is over leaves.
@@ -84,6 +88,7 @@ impl<
         ensures ok { IfOk result (λ core. (t : Terms) → CanBegin (M.facts net) (M.keeps t net) (Q.timers timers) (W.stands t watch []) (V.facts volumes) t most
             → Stands (meaning H.means M.facts M.keeps (Shows Q.timers) (HasPlaces Q.spare) IsPlaced W.stands V.facts) t core 0 []) }
         ensures volume { IfOk result (λ core. core.volume ≡ volume) }
+        ensures parts { IfOk result (λ core. (core.net ≡ net) × (core.watch ≡ watch) × (core.volumes ≡ volumes)) }
         ensures err { IfErr result (λ back. (back.0 ≡ net) × (back.1 ≡ timers) × (back.2 ≡ watch) × (back.3 ≡ volumes)) }
     {
         let mut journal = Journal::new(alloc);
@@ -105,6 +110,7 @@ impl<
             net,
             watch,
             volumes,
+            marks: WaitMarks { made: 0, over: 0 },
         })
     }
 
@@ -138,19 +144,34 @@ impl<
         self.state.is_ended()
     }
 
-    /// Whether its watch failed.
+    /// Whether its watch failed. Where it did, a fault rose after the start.
     pub fn is_broken(&self) -> bool
-        ensures { (t : Terms) (F : ℕ) (h : List (Entry H.Note)) (before : ℕ) → Stands (meaning H.means M.facts M.keeps (Shows Q.timers) (HasPlaces Q.spare) IsPlaced W.stands V.facts) t self.now F h
+        ensures told { result ≡ W.is_broken self.now.watch }
+        ensures rose { (t : Terms) (F : ℕ) (h : List (Entry H.Note)) (before : ℕ) → Stands (meaning H.means M.facts M.keeps (Shows Q.timers) (HasPlaces Q.spare) IsPlaced W.stands V.facts) t self.now F h
             → result ≡ true → t.output_faults ≡ Some before → Rose before (W.faults self.now.watch) }
     {
         self.watch.broken()
     }
 
-    /// Takes apart a reactor that was stopped and whose handlers were all closed.
+    /// The number, from 1, of the last wait that was answered `Over`, or 0 where there was none. The n-th wait that did not fail has
+    /// the n-th `Polled` of the journal.
+    pub fn over(&self) -> u64
+        ensures mark { result ≡ self.now.marks.over }
+        ensures there { (t : Terms) (F : ℕ) (h : List (Entry H.Note)) → Stands (meaning H.means M.facts M.keeps (Shows Q.timers) (HasPlaces Q.spare) IsPlaced W.stands V.facts) t self.now F h
+            → 1 ≤ result → WhereTold (λ calls. IsOverAt result (answers calls)) (M.facts self.now.net).calls }
+    {
+        self.marks.over
+    }
+
+    /// Takes apart a reactor that was stopped and whose handlers were all closed. The net, the watch and the volumes are its own, so
+    /// their counts of faults are those of its last call.
     pub fn into_parts(self) -> Parts<H::Note, M, Q, W, V>
         requires { StandsWith (meaning H.means M.facts M.keeps (Shows Q.timers) (HasPlaces Q.spare) IsPlaced W.stands V.facts) (λ t h. IsOver (summary (past_of h))) self }
-        ensures { (t : Terms) (F : ℕ) (h : List (Entry H.Note)) → Stands (meaning H.means M.facts M.keeps (Shows Q.timers) (HasPlaces Q.spare) IsPlaced W.stands V.facts) t self F h
+        ensures stands { (t : Terms) (F : ℕ) (h : List (Entry H.Note)) → Stands (meaning H.means M.facts M.keeps (Shows Q.timers) (HasPlaces Q.spare) IsPlaced W.stands V.facts) t self F h
             → PartsStand (meaning H.means M.facts M.keeps (Shows Q.timers) (HasPlaces Q.spare) IsPlaced W.stands V.facts) Q.timers t F h result }
+        ensures net { result.net ≡ self.net }
+        ensures watch { result.watch ≡ self.watch }
+        ensures volumes { result.volumes ≡ self.volumes }
     {
         let Core {
             alloc: _,
@@ -163,6 +184,7 @@ impl<
             net,
             watch,
             volumes,
+            marks: _,
         } = self;
         repo.close();
         Parts {

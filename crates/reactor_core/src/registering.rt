@@ -1,5 +1,6 @@
 //! The registration of handlers.
 ghost use Rattle.std.specs.Prelude.{nat_lt, ◌&&◌, ◌≡◌, ◌≤◌, ◌+◌, ◌-◌, ◌++◌, ◌∷◌, [], ℕ, List, true, false, None, IfOk, IfErr};
+ghost use Rattle.ev_base.specs.Counts.{Rose};
 ghost use Rattle.ev_base.specs.Terms.{Terms};
 ghost use Rattle.reactor_journal.specs.declared.entry.Entry.{Entry};
 ghost use Rattle.reactor_journal.specs.Past.{past_of};
@@ -85,10 +86,13 @@ impl<
             → IsOffered H.means t (past_of h) handler
             → RegisterGives (meaning H.means M.facts M.keeps (Shows Q.timers) (HasPlaces Q.spare) IsPlaced W.stands V.facts) t F h mask timer self.old result self.new }
         ensures volume { self.new.volume ≡ self.old.volume }
+        ensures marks { self.new.marks ≡ self.old.marks }
         ensures volumes { self.new.volumes ≡ self.old.volumes }
         ensures wait_faults { HasNotFallen (M.facts self.old.net).failed_waits (M.facts self.new.net).failed_waits }
         ensures attach_faults { HasNotFallen (M.facts self.old.net).failed_attaches (M.facts self.new.net).failed_attaches }
         ensures watch_faults { W.faults self.old.watch ≤ W.faults self.new.watch }
+        ensures watch_stays { W.is_broken self.old.watch ≡ true → W.is_broken self.new.watch ≡ true }
+        ensures watch_breaks { W.is_broken self.old.watch ≡ false → W.is_broken self.new.watch ≡ true → Rose (W.faults self.old.watch) (W.faults self.new.watch) }
     {
         if self.state.is_ended() {
             return Err((handler, RegisterRefused::Stopped));
@@ -122,10 +126,13 @@ impl<
             → HasPlaceFor t.most (summary (past_of h)) → IsOffered H.means t (past_of h) handler
             → AdmitGives (meaning H.means M.facts M.keeps (Shows Q.timers) (HasPlaces Q.spare) IsPlaced W.stands V.facts) t F h mask timer self.old result self.new }
         ensures volume { self.new.volume ≡ self.old.volume }
+        ensures marks { self.new.marks ≡ self.old.marks }
         ensures volumes { self.new.volumes ≡ self.old.volumes }
         ensures wait_faults { HasNotFallen (M.facts self.old.net).failed_waits (M.facts self.new.net).failed_waits }
         ensures attach_faults { HasNotFallen (M.facts self.old.net).failed_attaches (M.facts self.new.net).failed_attaches }
         ensures watch_faults { W.faults self.old.watch ≤ W.faults self.new.watch }
+        ensures watch_stays { W.is_broken self.old.watch ≡ true → W.is_broken self.new.watch ≡ true }
+        ensures watch_breaks { W.is_broken self.old.watch ≡ false → W.is_broken self.new.watch ≡ true → Rose (W.faults self.old.watch) (W.faults self.new.watch) }
     {
         match self.open_handler(handler, mask) {
             Ok(handle) => match timer {
@@ -158,10 +165,13 @@ impl<
             → Tracks (meaning H.means M.facts M.keeps (Shows Q.timers) (HasPlaces Q.spare) IsPlaced W.stands V.facts) t self.old F h None []
             → ComesBack (meaning H.means M.facts M.keeps (Shows Q.timers) (HasPlaces Q.spare) IsPlaced W.stands V.facts) t F h back self.old self.new) }
         ensures volume { self.new.volume ≡ self.old.volume }
+        ensures marks { self.new.marks ≡ self.old.marks }
         ensures volumes { self.new.volumes ≡ self.old.volumes }
         ensures wait_faults { HasNotFallen (M.facts self.old.net).failed_waits (M.facts self.new.net).failed_waits }
         ensures attach_faults { HasNotFallen (M.facts self.old.net).failed_attaches (M.facts self.new.net).failed_attaches }
         ensures watch_faults { W.faults self.old.watch ≤ W.faults self.new.watch }
+        ensures watch_stays { W.is_broken self.old.watch ≡ true → W.is_broken self.new.watch ≡ true }
+        ensures watch_breaks { W.is_broken self.old.watch ≡ false → W.is_broken self.new.watch ≡ true → Rose (W.faults self.old.watch) (W.faults self.new.watch) }
     {
         let mut handler = handler;
         let handle = Handle(self.state.opened());
@@ -198,10 +208,13 @@ impl<
         ensures repo { self.new.repo ≡ self.old.repo }
         ensures net { self.new.net ≡ self.old.net }
         ensures volume { self.new.volume ≡ self.old.volume }
+        ensures marks { self.new.marks ≡ self.old.marks }
         ensures volumes { self.new.volumes ≡ self.old.volumes }
         ensures wait_faults { HasNotFallen (M.facts self.old.net).failed_waits (M.facts self.new.net).failed_waits }
         ensures attach_faults { HasNotFallen (M.facts self.old.net).failed_attaches (M.facts self.new.net).failed_attaches }
         ensures watch_faults { W.faults self.old.watch ≤ W.faults self.new.watch }
+        ensures watch_stays { W.is_broken self.old.watch ≡ true → W.is_broken self.new.watch ≡ true }
+        ensures watch_breaks { W.is_broken self.old.watch ≡ false → W.is_broken self.new.watch ≡ true → Rose (W.faults self.old.watch) (W.faults self.new.watch) }
     {
         let first = self.state.moment() + delay;
         let timer = self.state.schedule(handle, first, every);

@@ -1,5 +1,6 @@
 //! Room for what a call appends, and for what is owed.
-ghost use Rattle.std.specs.Prelude.{◌≡◌, ◌≤◌, ◌+◌, ◌^◌, ℕ, List, OnOk, IfSome};
+ghost use Rattle.std.specs.Prelude.{◌≡◌, ◌≤◌, ◌+◌, ◌^◌, ℕ, List, OnOk, IfSome, true, false};
+ghost use Rattle.ev_base.specs.Counts.{Rose};
 ghost use Rattle.ev_base.specs.Terms.{Terms};
 ghost use Rattle.reactor_journal.specs.declared.entry.Entry.{Entry};
 ghost use Rattle.reactor_journal.specs.Past.{past_of};
@@ -52,16 +53,21 @@ impl<
     W: Watch<H::Note>,
     V: Volumes<H::Note>,
 > Core<H, M, Q, W, V> {
-    /// Makes room for so many more entries and places. After `NoMemory` there is no less room than before.
+    /// Makes room for so many more entries and places. `NoMemory` comes also where the history, with what is owed, would pass 2^62
+    /// entries, or the places would pass the greatest `usize`: there is no memory for so many. After it there is no less room than
+    /// before.
     pub(crate) fn make_room(&mut self, entries: usize, more: Places) -> Result<(), NoMemory>
         ensures kept { Keeps (meaning H.means M.facts M.keeps (Shows Q.timers) (HasPlaces Q.spare) IsPlaced W.stands V.facts) self.old self.new }
         ensures room { OnOk result ((t : Terms) (F : ℕ) (h : List (Entry H.Note)) → Stands (meaning H.means M.facts M.keeps (Shows Q.timers) (HasPlaces Q.spare) IsPlaced W.stands V.facts) t self.old F h
             → HasRoom (meaning H.means M.facts M.keeps (Shows Q.timers) (HasPlaces Q.spare) IsPlaced W.stands V.facts) entries more self.new (summary (past_of h))) }
         ensures volume { self.new.volume ≡ self.old.volume }
+        ensures marks { self.new.marks ≡ self.old.marks }
         ensures volumes { self.new.volumes ≡ self.old.volumes }
         ensures wait_faults { HasNotFallen (M.facts self.old.net).failed_waits (M.facts self.new.net).failed_waits }
         ensures attach_faults { HasNotFallen (M.facts self.old.net).failed_attaches (M.facts self.new.net).failed_attaches }
         ensures watch_faults { W.faults self.old.watch ≤ W.faults self.new.watch }
+        ensures watch_stays { W.is_broken self.old.watch ≡ true → W.is_broken self.new.watch ≡ true }
+        ensures watch_breaks { W.is_broken self.old.watch ≡ false → W.is_broken self.new.watch ≡ true → Rose (W.faults self.old.watch) (W.faults self.new.watch) }
     {
         let open = self.state.open_count();
         let Some(entries) = entries_for(self.state.owed(), entries, self.state.entries()) else {

@@ -1,5 +1,6 @@
 //! The settling of an upcall.
-ghost use Rattle.std.specs.Prelude.{◌≡◌, ◌≤◌, ◌+◌, ◌-◌, ◌++◌, ◌∷◌, [], ℕ, List, Some, None, length};
+ghost use Rattle.std.specs.Prelude.{◌≡◌, ◌≤◌, ◌+◌, ◌-◌, ◌++◌, ◌∷◌, [], ℕ, List, Some, None, length, true, false};
+ghost use Rattle.ev_base.specs.Counts.{Rose};
 ghost use Rattle.ev_base.specs.Terms.{Terms};
 ghost use Rattle.reactor_journal.specs.declared.entry.Entry.{Entry};
 ghost use Rattle.reactor_journal.specs.Past.{past_of};
@@ -48,10 +49,13 @@ impl<
             → SettlesEvent (meaning H.means M.facts M.keeps (Shows Q.timers) (HasPlaces Q.spare) IsPlaced W.stands V.facts) t F h settled answer note self.new }
         ensures faults { (M.facts self.new.net).failed_attaches ≡ (M.facts self.old.net).failed_attaches }
         ensures volume { self.new.volume ≡ self.old.volume }
+        ensures marks { self.new.marks ≡ self.old.marks }
         ensures volumes { self.new.volumes ≡ self.old.volumes }
         ensures wait_faults { HasNotFallen (M.facts self.old.net).failed_waits (M.facts self.new.net).failed_waits }
         ensures attach_faults { HasNotFallen (M.facts self.old.net).failed_attaches (M.facts self.new.net).failed_attaches }
         ensures watch_faults { W.faults self.old.watch ≤ W.faults self.new.watch }
+        ensures watch_stays { W.is_broken self.old.watch ≡ true → W.is_broken self.new.watch ≡ true }
+        ensures watch_breaks { W.is_broken self.old.watch ≡ false → W.is_broken self.new.watch ≡ true → Rose (W.faults self.old.watch) (W.faults self.new.watch) }
     {
         let alive = self.state.is_alive(settled.handle);
         self.record_return(settled.event, answer, note);
@@ -71,10 +75,13 @@ impl<
         ensures repo { self.new.repo ≡ self.old.repo }
         ensures net { self.new.net ≡ self.old.net }
         ensures volume { self.new.volume ≡ self.old.volume }
+        ensures marks { self.new.marks ≡ self.old.marks }
         ensures volumes { self.new.volumes ≡ self.old.volumes }
         ensures wait_faults { HasNotFallen (M.facts self.old.net).failed_waits (M.facts self.new.net).failed_waits }
         ensures attach_faults { HasNotFallen (M.facts self.old.net).failed_attaches (M.facts self.new.net).failed_attaches }
         ensures watch_faults { W.faults self.old.watch ≤ W.faults self.new.watch }
+        ensures watch_stays { W.is_broken self.old.watch ≡ true → W.is_broken self.new.watch ≡ true }
+        ensures watch_breaks { W.is_broken self.old.watch ≡ false → W.is_broken self.new.watch ≡ true → Rose (W.faults self.old.watch) (W.faults self.new.watch) }
     {
         self.state.settle::<H::Note>(event, answer);
         append(
@@ -99,10 +106,13 @@ impl<
         ensures room { SpendsRoom (meaning H.means M.facts M.keeps (Shows Q.timers) (HasPlaces Q.spare) IsPlaced W.stands V.facts) 1 self.old self.new }
         ensures faults { (M.facts self.new.net).failed_attaches ≡ (M.facts self.old.net).failed_attaches }
         ensures volume { self.new.volume ≡ self.old.volume }
+        ensures marks { self.new.marks ≡ self.old.marks }
         ensures volumes { self.new.volumes ≡ self.old.volumes }
         ensures wait_faults { HasNotFallen (M.facts self.old.net).failed_waits (M.facts self.new.net).failed_waits }
         ensures attach_faults { HasNotFallen (M.facts self.old.net).failed_attaches (M.facts self.new.net).failed_attaches }
         ensures watch_faults { W.faults self.old.watch ≤ W.faults self.new.watch }
+        ensures watch_stays { W.is_broken self.old.watch ≡ true → W.is_broken self.new.watch ≡ true }
+        ensures watch_breaks { W.is_broken self.old.watch ≡ false → W.is_broken self.new.watch ≡ true → Rose (W.faults self.old.watch) (W.faults self.new.watch) }
     {
         if self.state.is_alive(handle) {
             self.repo.give_back(handle, handler);

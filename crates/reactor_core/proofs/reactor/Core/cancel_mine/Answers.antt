@@ -24,7 +24,7 @@ returns-clause-stands g c t F h st =
     let mine : is_mine (summary (past_of h)) c.args.handle.0 c.args.timer ≡ true = sym (c.is_mine.ensures t F h plain) ∙ c.if-not-is_mine.false in
     let room = room_for_one _ (has_fewer g.Q.TimerQueue.spare) c.args.self.now (summary (past_of h)) st.room in
     cancelled_so _ t _ F h c.args.timer _ mine (goes_on _ t c.args.self.now _ F h (Cancelled c.args.timer) no_places HasNumber refl (record {
-      appends = record { most = refl; first = refl; journal = c.append.ensures.entries; watch = c.append.ensures.watch; volumes = refl };
+      appends = record { most = refl; first = refl; journal = c.append.ensures.entries; watch = c.append.ensures.watch; volumes = refl; marks = (refl, refl) };
       spare = c.append.ensures.spare;
       repo = refl;
       state = c.cancel.ensures.steps;

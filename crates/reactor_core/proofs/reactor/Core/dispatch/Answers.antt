@@ -20,7 +20,7 @@ start-requires-clause-room g c =
 pub returns-clause-stands : goal.returns-clause-stands
 returns-clause-stands g c t F h o q room =
     started _ t c.args.self.now _ F h c.args.pick.event _ refl refl refl c.moment-moment.ensures (record {
-      appends = record { most = refl; first = refl; journal = c.append.ensures.entries; watch = c.append.ensures.watch; volumes = refl };
+      appends = record { most = refl; first = refl; journal = c.append.ensures.entries; watch = c.append.ensures.watch; volumes = refl; marks = (refl, refl) };
       spare = c.append.ensures.spare;
       home = home_found _ c.in-Some.handler (sym c.take.ensures.taken ∙ c.in-Some.is);
       repo = c.in-Some.ensures.out;

@@ -19,7 +19,7 @@ returns-in-Ok-take-clause-ok g c t F h o =
     let owed_is : c.owed.result ≡ owed (summary (past_of h)) = c.owed.ensures (summary (past_of h)) o.tracks.state in
     let fresh = c.replace-volume.ensures.after in
     hands _ t c.args.self.now _ F h c.len-held.result (record {
-      others = record { most = refl; volume = refl; state = refl; repo = refl; net = refl; watch = refl };
+      others = record { most = refl; volume = refl; state = refl; repo = refl; net = refl; watch = refl; marks = refl };
       count = c.len-held.ensures;
       first = refl;
       entries = ap (λ journal. journal.entries) fresh ∙ (c.in-Ok.ensures.entries ∙ c.new-fresh.ensures);
@@ -32,7 +32,7 @@ pub returns-in-Err-take-clause-same : goal.returns-in-Err-take-clause-same
 returns-in-Err-take-clause-same g c =
     let refused = take_refused (g.V.Volumes.facts c.args.self.now.volumes) c.replace-volume.result c.in-Err-take.back c.in-Err-take.why (g.V.Volumes.facts c.take.new.self) c.in-Err-take.ensures in
     record {
-      others = record { most = refl; volume = refl; state = refl; repo = refl; net = refl; watch = refl };
+      others = record { most = refl; volume = refl; state = refl; repo = refl; net = refl; watch = refl; marks = refl };
       first = refl;
       journal = c.replace.ensures.after ∙ (refused.0 ∙ c.replace-volume.ensures.value);
       taken = refused.1;

@@ -8,8 +8,8 @@ close-requires g c =
     let o = c.requires in
     over_no_seat _ o.0 c.args.self o.1 o.2 o.3 o.4
 
-pub returns : goal.returns
-returns g c t F h st = record {
+pub returns-clause-stands : goal.returns-clause-stands
+returns-clause-stands g c t F h st = record {
   first = st.tracks.journal.first;
   journal = st.tracks.journal.entries;
   net = st.tracks.net;

@@ -10,6 +10,7 @@ use Rattle.reactor_core.proofs.Quiet.{goes_on, has_number}
 use Rattle.reactor_core.proofs.Masking.{alive_attached, masked_follows, net_set}
 use Rattle.reactor_core.proofs.Registered.{plain_of}
 use Rattle.reactor_core.proofs.Acted.{room_for_one, masked_not, masked_so}
+use Rattle.reactor_core.proofs.WaitNumbers.{told_quiet}
 use Rattle.reactor_core.proofs.reactor.Core.mask_mine.Goals as goal
 
 pub returns-then-not-is_alive-clause-stands : goal.returns-then-not-is_alive-clause-stands
@@ -26,7 +27,7 @@ returns-clause-stands g c t F h st =
     let alive : is_alive (summary (past_of h)) c.args.handle.0 ≡ true = sym (c.is_alive.ensures (summary (past_of h)) st.tracks.state) ∙ c.if-not-is_alive.false in
     let room = room_for_one _ (has_fewer g.Q.TimerQueue.spare) c.args.self.now (summary (past_of h)) st.room in
     masked_so _ t _ F h c.args.handle c.args.mask _ alive (goes_on _ t c.args.self.now _ F h (Masked c.args.handle c.args.mask) no_places HasNumber refl (record {
-      appends = record { most = refl; first = refl; journal = c.append.ensures.entries; watch = c.append.ensures.watch; volumes = refl };
+      appends = record { most = refl; first = refl; journal = c.append.ensures.entries; watch = c.append.ensures.watch; volumes = refl; marks = (refl, told_quiet _ _ _ c.set_mask.ensures.sets.calls (λ calls. refl)) };
       spare = c.append.ensures.spare;
       repo = refl;
       state = c.set_mask-2.ensures.steps;

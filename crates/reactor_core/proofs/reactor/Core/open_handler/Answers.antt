@@ -6,6 +6,7 @@ use Rattle.reactor_journal.specs.Past.{past_of}
 use Rattle.reactor_summary.specs.Summary.{summary, step}
 use Rattle.reactor_state.specs.State.{Shows}
 use Rattle.reactor_core.proofs.Opened.{opened_on, not_attached, comes_back, handle_same, no_seat_yet}
+use Rattle.reactor_core.proofs.WaitNumbers.{told_quiet}
 use Rattle.reactor_core.proofs.reactor.Core.open_handler.Goals as goal
 
 pub attach_to-requires-clause-absent : goal.attach_to-requires-clause-absent
@@ -20,12 +21,12 @@ put-requires-clause-absent g c =
 
 pub returns-in-Err-clause-err : goal.returns-in-Err-clause-err
 returns-in-Err-clause-err g c t F h offered number k =
-    comes_back _ t c.args.self.now _ F h _ c.in-Err.ensures.attaches.1 refl refl refl refl refl refl refl (c.attach_to.ensures.kept t _ _ k.keeps offered) (c.attach_to.ensures.fits t _ _ k.keeps offered) number k
+    comes_back _ t c.args.self.now _ F h _ c.in-Err.ensures.attaches.1 refl refl refl refl refl refl refl refl (c.attach_to.ensures.kept t _ _ k.keeps offered) (c.attach_to.ensures.fits t _ _ k.keeps offered) number k
 
 pub returns-clause-ok : goal.returns-clause-ok
 returns-clause-ok g c t F h place number offered k =
     opened_on _ t c.args.self.now _ F h _ c.args.mask c.args.handler c.attach_to.new.self c.in-Ok.ensures.attaches.0 (record {
-      appends = record { most = refl; first = refl; journal = c.append.ensures.entries; watch = c.append.ensures.watch; volumes = refl };
+      appends = record { most = refl; first = refl; journal = c.append.ensures.entries; watch = c.append.ensures.watch; volumes = refl; marks = (refl, told_quiet _ _ _ c.in-Ok.ensures.attaches.1.calls (λ calls. refl)) };
       repo = c.put.ensures.entries;
       state = λ s shows n. subst (λ (x : Handle). Shows g.Q.TimerQueue.timers c.open-opened.new.self (step {N = g.row.H-Note.Denot} s (Opened x c.args.mask))) (handle_same _ _ (c.open-opened.ensures.number s shows ∙ sym (c.opened.ensures s shows))) (c.open-opened.ensures.steps s shows n);
       number = c.opened.ensures;

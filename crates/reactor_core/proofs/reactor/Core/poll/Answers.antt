@@ -1,7 +1,10 @@
-use Rattle.std.proofs.Common.{sym, ◌∙◌}
+use Rattle.std.proofs.Common.{◌≤◌, Some, sym, ap, subst, ◌∙◌}
 use Rattle.reactor_journal.specs.Past.{past_of}
 use Rattle.reactor_summary.specs.Summary.{Summary, summary}
+use Rattle.reactor_core.specs.Marks.{marks_found}
+use Rattle.reactor_core.specs.declared.marks.WaitMarks.{WaitMarks}
 use Rattle.reactor_core.proofs.Kept.{stands_kept}
+use Rattle.reactor_core.proofs.WaitNumbers.{polled_later, polled_number}
 use Rattle.reactor_core.proofs.Polls.{limit_is, may_wait, rose_reserved, polls}
 use Rattle.reactor_core.proofs.reactor.Core.poll.Goals as goal
 
@@ -35,3 +38,12 @@ returns-in-None-clause-failed g c q = rose_reserved (g.M.Net.facts c.args.self.n
 
 pub returns-in-Err-clause-err : goal.returns-in-Err-clause-err
 returns-in-Err-clause-err g c t F h o = stands_kept _ t _ _ F h c.in-Err.ensures.kept o
+
+pub returns-in-Some-clause-over : goal.returns-in-Some-clause-over
+returns-in-Some-clause-over g c =
+    subst (λ (marks : WaitMarks). c.args.self.now.marks.over ≤ marks.over) (sym (c.in-Some.ensures.marks ∙ ap (marks_found (Some c.in-Some.polled)) c.in-Ok.ensures.marks))
+    (polled_later c.in-Some.polled c.args.self.now.marks c.requires.stands.3.tracks.marks.within)
+
+pub returns-in-Some-clause-number : goal.returns-in-Some-clause-number
+returns-in-Some-clause-number g c t F h o is =
+    polled_number c.in-Some.polled c.args.self.now.marks c.take_events.new.self.marks (past_of h) _ (c.in-Some.ensures.marks ∙ ap (marks_found (Some c.in-Some.polled)) c.in-Ok.ensures.marks) is o.tracks.marks

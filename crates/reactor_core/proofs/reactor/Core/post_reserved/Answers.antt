@@ -11,7 +11,7 @@ use Rattle.reactor_core.proofs.reactor.Core.post_reserved.Goals as goal
 pub returns-then-is_alive-clause-stands : goal.returns-then-is_alive-clause-stands
 returns-then-is_alive-clause-stands g c t F h o room runs =
     posted _ t c.args.self.now _ F h c.args.handle c.args.kind c.args.from c.args.seq (record {
-      appends = record { most = refl; first = refl; journal = c.append.ensures.entries; watch = c.append.ensures.watch; volumes = refl };
+      appends = record { most = refl; first = refl; journal = c.append.ensures.entries; watch = c.append.ensures.watch; volumes = refl; marks = (refl, refl) };
       spare = c.append.ensures.spare;
       repo = refl;
       state = c.post.ensures.steps c.args.from c.args.seq;
@@ -21,7 +21,7 @@ returns-then-is_alive-clause-stands g c t F h o room runs =
 pub returns-clause-stands : goal.returns-clause-stands
 returns-clause-stands g c t F h o room runs =
     skipped _ t c.args.self.now _ F h c.args.handle c.args.kind c.args.from c.args.seq (record {
-      appends = record { most = refl; first = refl; journal = c.append-2.ensures.entries; watch = c.append-2.ensures.watch; volumes = refl };
+      appends = record { most = refl; first = refl; journal = c.append-2.ensures.entries; watch = c.append-2.ensures.watch; volumes = refl; marks = (refl, refl) };
       spare = c.append-2.ensures.spare;
       repo = refl;
       state = c.skip.ensures.steps c.args.handle c.args.from c.args.seq;

@@ -3,6 +3,7 @@ use Rattle.reactor_journal.specs.Past.{past_of}
 use Rattle.reactor_summary.specs.Summary.{summary}
 use Rattle.reactor_state.proofs.Fewer.{has_fewer}
 use Rattle.reactor_core.proofs.Refused.{refused}
+use Rattle.reactor_core.proofs.WaitNumbers.{told_quiet}
 use Rattle.reactor_core.proofs.reactor.Core.refuse.Goals as goal
 
 pub turn_away-requires : goal.turn_away-requires
@@ -14,7 +15,7 @@ pub returns-clause-stands : goal.returns-clause-stands
 returns-clause-stands g c t F h st offered may = (
   c.handle_close-end.result.1,
   refused _ (has_fewer g.Q.TimerQueue.spare) t c.args.self.now _ F h c.args.handler c.live-live.result c.args.fault c.handle_close-end.result.1 _ c.handle_close-end.result.0 (record {
-    appends = record { most = refl; first = refl; journal = c.append.ensures.entries; watch = c.append.ensures.watch; volumes = refl };
+    appends = record { most = refl; first = refl; journal = c.append.ensures.entries; watch = c.append.ensures.watch; volumes = refl; marks = (refl, told_quiet _ _ _ c.turn_away.ensures.turns_away.calls (λ calls. refl)) };
     spare = c.append.ensures.spare;
     repo = refl;
     state = λ s shows n. c.refuse.ensures.steps c.live-live.result c.args.fault c.handle_close-end.result.1 s shows n;

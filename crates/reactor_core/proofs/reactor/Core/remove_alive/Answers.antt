@@ -10,7 +10,7 @@ returns-in_default-clause-stands g c t F h st alive =
     removed_out _ t c.args.self.now _ F h c.args.handle st alive
     (not_home_busy g.H.EventHandler.means t (past_of h) c.args.handle.0 c.args.self.now.repo.entries (sym c.take.ensures.taken ∙ c.in_default.is) (alive_is_live (summary (past_of h)) c.args.handle.0 alive) st.tracks.repository)
     (removed_on _ t c.args.self.now _ F h c.args.handle (record {
-      appends = record { most = refl; first = refl; journal = c.append.ensures.entries; watch = c.append.ensures.watch; volumes = refl };
+      appends = record { most = refl; first = refl; journal = c.append.ensures.entries; watch = c.append.ensures.watch; volumes = refl; marks = (refl, refl) };
       state = λ s shows n. c.remove.ensures.steps s shows n;
       repo = c.in_default.ensures.unchanged;
       net = refl;
@@ -29,22 +29,22 @@ pub close_handler-requires-clause-tracks : goal.close_handler-requires-clause-tr
 close_handler-requires-clause-tracks g c =
     let o = c.requires in
     let n = closes_now _ o.0 c.args.self.now (record c.args.self.now { journal = c.append.new.journal; state = c.remove.new.self; watch = c.append.new.watch }) (record c.args.self.now { journal = c.append.new.journal; state = c.remove.new.self; watch = c.append.new.watch; repo = c.take.new.self }) o.1 o.2 c.args.handle c.in-Some.handler (record {
-      appends = record { most = refl; first = refl; journal = c.append.ensures.entries; watch = c.append.ensures.watch; volumes = refl };
+      appends = record { most = refl; first = refl; journal = c.append.ensures.entries; watch = c.append.ensures.watch; volumes = refl; marks = (refl, refl) };
       state = λ s shows n. c.remove.ensures.steps s shows n;
       repo = refl;
       net = refl;
-    }) (record { most = refl; first = refl; journal = refl; state = refl; home = home_found _ c.in-Some.handler (sym c.take.ensures.taken ∙ c.in-Some.is); repo = c.in-Some.ensures.out; net = refl; watch = refl; volumes = refl }) o.3 o.4
+    }) (record { most = refl; first = refl; journal = refl; state = refl; home = home_found _ c.in-Some.handler (sym c.take.ensures.taken ∙ c.in-Some.is); repo = c.in-Some.ensures.out; net = refl; watch = refl; volumes = refl; marks = refl }) o.3 o.4
     in
     (o.0, o.1, _, n.tracks, (n.closable, n.number))
 
 pub returns-clause-stands : goal.returns-clause-stands
 returns-clause-stands g c t F h st alive =
     let n = closes_now _ t c.args.self.now (record c.args.self.now { journal = c.append.new.journal; state = c.remove.new.self; watch = c.append.new.watch }) (record c.args.self.now { journal = c.append.new.journal; state = c.remove.new.self; watch = c.append.new.watch; repo = c.take.new.self }) F h c.args.handle c.in-Some.handler (record {
-      appends = record { most = refl; first = refl; journal = c.append.ensures.entries; watch = c.append.ensures.watch; volumes = refl };
+      appends = record { most = refl; first = refl; journal = c.append.ensures.entries; watch = c.append.ensures.watch; volumes = refl; marks = (refl, refl) };
       state = λ s shows n. c.remove.ensures.steps s shows n;
       repo = refl;
       net = refl;
-    }) (record { most = refl; first = refl; journal = refl; state = refl; home = home_found _ c.in-Some.handler (sym c.take.ensures.taken ∙ c.in-Some.is); repo = c.in-Some.ensures.out; net = refl; watch = refl; volumes = refl }) st alive
+    }) (record { most = refl; first = refl; journal = refl; state = refl; home = home_found _ c.in-Some.handler (sym c.take.ensures.taken ∙ c.in-Some.is); repo = c.in-Some.ensures.out; net = refl; watch = refl; volumes = refl; marks = refl }) st alive
     in
     let closed = c.close_handler.ensures.tracks t F _ n.tracks n.closable n.number in
     removed_closed _ t c.args.self.now _ _ F h c.args.handle c.in-Some.handler closed.0 n closed.1

@@ -26,7 +26,7 @@ returns-clause-ok g c t F h o =
     let now = stands_kept _ t _ _ F h c.in-Ok.ensures.kept o in
     let room = c.in-Ok.ensures.room t F h o in
     goes_on _ t c.make_room.new.self _ F h (Resumed c.args.handle) no_places HasNumber refl (record {
-      appends = record { most = refl; first = refl; journal = c.append.ensures.entries; watch = c.append.ensures.watch; volumes = refl };
+      appends = record { most = refl; first = refl; journal = c.append.ensures.entries; watch = c.append.ensures.watch; volumes = refl; marks = (refl, refl) };
       spare = c.append.ensures.spare;
       repo = refl;
       state = c.resume.ensures.steps;

@@ -22,7 +22,7 @@ pub returns-clause-ok : goal.returns-clause-ok
 returns-clause-ok g c t F h o =
     let now = stands_kept _ t _ _ F h c.in-Ok.ensures.kept o in
     scheduled _ t c.make_room.new.self _ F h c.schedule-timer.result c.args.handle (c.moment.result + c.args.delay) c.args.delay c.args.every (record {
-      appends = record { most = refl; first = refl; journal = c.append.ensures.entries; watch = c.append.ensures.watch; volumes = refl };
+      appends = record { most = refl; first = refl; journal = c.append.ensures.entries; watch = c.append.ensures.watch; volumes = refl; marks = (refl, refl) };
       spare = c.append.ensures.spare;
       repo = refl;
       state = λ s shows n. c.schedule-timer.ensures.steps s shows (n, (let is = c.moment.ensures s shows in let le = shows.sound.moment in let d = c.requires.within in omega (arith, is, le, d)), c.requires.period);

@@ -7,6 +7,7 @@ use Rattle.reactor_state.specs.State.{HasNumber, no_places}
 use Rattle.reactor_core.proofs.Kept.{stands_kept}
 use Rattle.reactor_core.proofs.Quiet.{goes_on, has_number}
 use Rattle.reactor_core.proofs.Masking.{live_not_live, live_ok, live_no_memory, alive_attached, masked_follows, net_set}
+use Rattle.reactor_core.proofs.WaitNumbers.{told_quiet}
 use Rattle.reactor_core.proofs.reactor.Core.set_mask.Goals as goal
 
 pub returns-then-not-is_alive-clause-cause : goal.returns-then-not-is_alive-clause-cause
@@ -28,7 +29,7 @@ returns-clause-ok g c t F h o =
     let now = stands_kept _ t _ _ F h c.in-Ok.ensures.kept o in
     let room = c.in-Ok.ensures.room t F h o in
     goes_on _ t c.make_room.new.self _ F h (Masked c.args.handle c.args.mask) no_places HasNumber refl (record {
-      appends = record { most = refl; first = refl; journal = c.append.ensures.entries; watch = c.append.ensures.watch; volumes = refl };
+      appends = record { most = refl; first = refl; journal = c.append.ensures.entries; watch = c.append.ensures.watch; volumes = refl; marks = (refl, told_quiet _ _ _ c.set_mask.ensures.sets.calls (λ calls. refl)) };
       spare = c.append.ensures.spare;
       repo = refl;
       state = c.set_mask-2.ensures.steps;

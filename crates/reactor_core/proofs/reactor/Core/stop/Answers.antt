@@ -14,7 +14,7 @@ remove_all-requires g c =
       o.1,
       _,
       ended_on _ o.0 c.args.self.now _ o.1 o.2 (record {
-        appends = record { most = refl; first = refl; journal = c.append.ensures.entries; watch = c.append.ensures.watch; volumes = refl };
+        appends = record { most = refl; first = refl; journal = c.append.ensures.entries; watch = c.append.ensures.watch; volumes = refl; marks = (refl, refl) };
         spare = c.append.ensures.spare;
         state = λ s shows n. c.end.ensures.steps s shows n;
         places = c.end.ensures.places;
@@ -28,7 +28,7 @@ pub returns-clause-stands : goal.returns-clause-stands
 returns-clause-stands g c t F h st =
     let running = sym (c.is_ended.ensures (summary (past_of h)) st.tracks.state) ∙ c.if-is_ended.false in
     stops_once _ t _ F h false running (stops _ t _ F h (c.remove_all.ensures.stands t F _ (ended_on _ t c.args.self.now _ F h (record {
-      appends = record { most = refl; first = refl; journal = c.append.ensures.entries; watch = c.append.ensures.watch; volumes = refl };
+      appends = record { most = refl; first = refl; journal = c.append.ensures.entries; watch = c.append.ensures.watch; volumes = refl; marks = (refl, refl) };
       spare = c.append.ensures.spare;
       state = λ s shows n. c.end.ensures.steps s shows n;
       places = c.end.ensures.places;

@@ -7,7 +7,7 @@ use Rattle.reactor_core.proofs.reactor.Core.take_back.Goals as goal
 
 pub returns-then-is_alive-clause-tracks : goal.returns-then-is_alive-clause-tracks
 returns-then-is_alive-clause-tracks g c t F h k r number =
-    took_home _ t c.args.self.now _ F h c.args.handle c.args.handler c.args.why (record { most = refl; first = refl; journal = refl; state = refl; repo = c.give_back.ensures.entries; net = refl; watch = refl; volumes = refl })
+    took_home _ t c.args.self.now _ F h c.args.handle c.args.handler c.args.why (record { most = refl; first = refl; journal = refl; state = refl; repo = c.give_back.ensures.entries; net = refl; watch = refl; volumes = refl; marks = refl })
     (sym (c.is_alive.ensures (summary (past_of h)) k.state) ∙ c.if-is_alive.true) r k
 
 pub close_handler-requires-clause-tracks : goal.close_handler-requires-clause-tracks

@@ -1,5 +1,6 @@
 use Rattle.reactor_state.specs.State.{Shows, HasPlaces, IsPlaced}
-use Rattle.std.proofs.Common.{◌≡◌, ℕ, List, ◌≤◌}
+use Rattle.std.proofs.Common.{◌≡◌, ℕ, List, ◌≤◌, true, false}
+use Rattle.ev_base.specs.Counts.{Rose}
 use Rattle.ev_base.specs.Terms.{Terms}
 use Rattle.ev_base.specs.declared.net.Report.{Report}
 use Rattle.reactor_journal.specs.declared.entry.Entry.{Entry}
@@ -17,10 +18,13 @@ invariant-loop-left g l =
       dues : (t : Terms) (F : ℕ) (h : List (Entry g.row.H-Note.Denot)) (s : Summary) (events : ℕ) (pending : List Report) → IsTakingDues m s l.most events t l.fn.self F h pending → HasTakenDues m s l.left events t l.self F h pending;
       net : l.self.net ≡ l.fn.self.net;
       volume : l.self.volume ≡ l.fn.self.volume;
+      marks : l.self.marks ≡ l.fn.self.marks;
       volumes : l.self.volumes ≡ l.fn.self.volumes;
       wait_faults : HasNotFallen (g.M.Net.facts l.fn.self.net).failed_waits (g.M.Net.facts l.self.net).failed_waits;
       attach_faults : HasNotFallen (g.M.Net.facts l.fn.self.net).failed_attaches (g.M.Net.facts l.self.net).failed_attaches;
       watch_faults : g.W.Watch.faults l.fn.self.watch ≤ g.W.Watch.faults l.self.watch;
+      watch_stays : g.W.Watch.is_broken l.fn.self.watch ≡ true → g.W.Watch.is_broken l.self.watch ≡ true;
+      watch_breaks : g.W.Watch.is_broken l.fn.self.watch ≡ false → g.W.Watch.is_broken l.self.watch ≡ true → Rose (g.W.Watch.faults l.fn.self.watch) (g.W.Watch.faults l.self.watch);
     }
 
 abbrev pub decreases-loop-left : goal.decreases-loop-left

@@ -2,6 +2,7 @@ use Rattle.std.proofs.Common.{sym, ◌∙◌}
 use Rattle.reactor_journal.specs.Past.{past_of}
 use Rattle.reactor_summary.specs.Summary.{Summary, summary}
 use Rattle.reactor_core.proofs.Polls.{named_none, is_waited, rose_failed, may_take_reports, counts_reports, waits_once}
+use Rattle.reactor_core.proofs.WaitNumbers.{found_of}
 use Rattle.reactor_core.proofs.reactor.Core.take_events.Goals as goal
 
 pub returns-in_default-clause-stands : goal.returns-in_default-clause-stands
@@ -41,3 +42,9 @@ returns-clause-waits g c t F h o =
     let taking = may_take_reports _ t F s _ c.wait_for-answer.new.self c.take_dues.new.self c.take_dues.ensures.net k in
     waits_once _ t F h c.args.armed c.args.limit c.wait_for-answer.result c.in-Some.polled c.args.self.now c.wait_for-answer.new.self c.take_dues.new.self c.take_reports.new.self
     named c.wait_for-answer.ensures.waits w k c.take_dues.ensures.net c.take_reports.ensures.net (c.take_reports.ensures.stands t F _ s 256 taking counts.few)
+
+pub returns-clause-marks : goal.returns-clause-marks
+returns-clause-marks g c = c.take_reports.ensures.marks ∙ (c.take_dues.ensures.marks ∙ (c.wait_for-answer.ensures.marks ∙ found_of c.wait_for-answer.result _ _ (sym c.name_of.ensures ∙ c.in-Some.is)))
+
+pub returns-in_default-clause-marks : goal.returns-in_default-clause-marks
+returns-in_default-clause-marks g c = c.wait_for-answer.ensures.marks ∙ found_of c.wait_for-answer.result _ _ (sym c.name_of.ensures ∙ c.in_default.is)

@@ -10,7 +10,7 @@ returns-then-not-is_wanted-clause-stands g c t F h s k =
 pub returns-clause-stands : goal.returns-clause-stands
 returns-clause-stands g c t F h s k =
     report_goes_on _ t c.args.self.now _ F s h _ c.args.at c.report-report.result (record {
-      appends = record { most = refl; first = refl; journal = c.append.ensures.entries; watch = c.append.ensures.watch; volumes = refl };
+      appends = record { most = refl; first = refl; journal = c.append.ensures.entries; watch = c.append.ensures.watch; volumes = refl; marks = (refl, refl) };
       spare = c.append.ensures.spare;
       repo = refl;
       net = refl;

@@ -1,5 +1,6 @@
 use Rattle.reactor_state.specs.State.{Shows, HasPlaces, IsPlaced}
-use Rattle.std.proofs.Common.{◌≡◌, ◌≤◌, ℕ, List, filter}
+use Rattle.std.proofs.Common.{◌≡◌, ◌≤◌, ℕ, List, filter, true, false}
+use Rattle.ev_base.specs.Counts.{Rose}
 use Rattle.ev_base.specs.Terms.{Terms}
 use Rattle.reactor_journal.specs.declared.entry.Entry.{Entry}
 use Rattle.reactor_summary.specs.Summary.{Summary}
@@ -18,8 +19,11 @@ invariant-loop-at g l =
           → IsTakingReports m s left t l.fn.self F h (filter (is_taken s) (g.M.Net.facts l.fn.self.net).reports) → l.count ≤ left → HasTakenReports m s (g.M.Net.facts l.fn.self.net).reports l.at t l.self F h;
       net : l.self.net ≡ l.fn.self.net;
       volume : l.self.volume ≡ l.fn.self.volume;
+      marks : l.self.marks ≡ l.fn.self.marks;
       volumes : l.self.volumes ≡ l.fn.self.volumes;
       wait_faults : HasNotFallen (g.M.Net.facts l.fn.self.net).failed_waits (g.M.Net.facts l.self.net).failed_waits;
       attach_faults : HasNotFallen (g.M.Net.facts l.fn.self.net).failed_attaches (g.M.Net.facts l.self.net).failed_attaches;
       watch_faults : g.W.Watch.faults l.fn.self.watch ≤ g.W.Watch.faults l.self.watch;
+      watch_stays : g.W.Watch.is_broken l.fn.self.watch ≡ true → g.W.Watch.is_broken l.self.watch ≡ true;
+      watch_breaks : g.W.Watch.is_broken l.fn.self.watch ≡ false → g.W.Watch.is_broken l.self.watch ≡ true → Rose (g.W.Watch.faults l.fn.self.watch) (g.W.Watch.faults l.self.watch);
     }

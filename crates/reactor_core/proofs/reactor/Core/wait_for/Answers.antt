@@ -1,14 +1,15 @@
 use Rattle.std.proofs.Common.{refl, sym, ◌∙◌, arith}
 use Rattle.reactor_journal.specs.Past.{past_of}
 use Rattle.reactor_summary.specs.Summary.{summary}
-use Rattle.reactor_core.proofs.PollWait.{answered, may_poll, wait_gives, failed_keeps, some_none}
+use Rattle.reactor_core.proofs.PollWait.{answered, may_poll, may_mark, wait_gives, failed_keeps, some_none}
+use Rattle.reactor_core.proofs.WaitNumbers.{told_wait, after_answer, after_failure}
 use Rattle.reactor_core.proofs.reactor.Core.wait_for.Goals as goal
 
 pub returns-clause-gives : goal.returns-clause-gives
 returns-clause-gives g c t F h armed o =
     let at = sym c.moment_of.ensures ∙ c.in-Some.is in
     wait_gives _ t c.args.self.now _ F h armed c.args.limit c.wait-answer.result c.in-Some.now _ at (record {
-      appends = record { most = refl; first = refl; journal = c.append.ensures.entries; watch = c.append.ensures.watch; volumes = refl };
+      appends = record { most = refl; first = refl; journal = c.append.ensures.entries; watch = c.append.ensures.watch; volumes = refl; marks = (c.wait-answer.result, c.marked-self.ensures, told_wait _ _ _ _ _ (answered _ _ c.args.limit c.wait-answer.result c.in-Some.now at c.wait-answer.ensures.waits).answers.calls) };
       spare = c.append.ensures.spare;
       repo = refl;
       net = answered _ _ c.args.limit c.wait-answer.result c.in-Some.now at c.wait-answer.ensures.waits;
@@ -33,3 +34,14 @@ poll-requires g c =
 
 pub append-requires : goal.append-requires
 append-requires g c = let room = c.requires.4.room.journal in omega (arith, room)
+
+pub marked-self-requires : goal.marked-self-requires
+marked-self-requires g c =
+    let o = c.requires in
+    may_mark _ o.0 c.args.self.now o.1 o.2 o.3 c.args.limit o.4
+
+pub returns-clause-marks : goal.returns-clause-marks
+returns-clause-marks g c = c.marked-self.ensures ∙ after_answer c.wait-answer.result c.in-Some.now _ (sym c.moment_of.ensures ∙ c.in-Some.is)
+
+pub returns-in_default-clause-marks : goal.returns-in_default-clause-marks
+returns-in_default-clause-marks g c = after_failure c.wait-answer.result _ (sym c.moment_of.ensures ∙ c.in_default.is)
