@@ -1,5 +1,5 @@
 //! The index of a repository: the registered handles in rising order.
-ghost use Rattle.std.specs.Prelude.{◌≡◌, ◌≢◌, ◌<◌, ◌≤◌, ◌+◌, ◌==◌, ℕ, length, All, MatchOption, Some, slice_index_or, if◌then◌else◌};
+ghost use Rattle.std.specs.Prelude.{◌≡◌, ◌≢◌, ◌<◌, ◌≤◌, ◌+◌, ◌==◌, ℕ, length, All, MatchOption, IfSome, Some, slice_index_or, if◌then◌else◌};
 ghost use Rattle.std.specs.List.{HoldsAt, AllWithin};
 ghost use Rattle.slab.specs.Slab.{ContainsKey, slab_len};
 ghost use Rattle.handler_repo.specs.Index.{IsRising, seat_at};
@@ -27,8 +27,8 @@ pub fn first_from(index: &[Registered], handle: Handle) -> usize
     index.partition_point(|r| r.handle.0 < handle.0)
 }
 
-// The place of this handle.
-pub fn place_of(index: &[Registered], handle: Handle) -> Option<usize>
+// The place of this handle, sought among all.
+fn bisected(index: &[Registered], handle: Handle) -> Option<usize>
     requires { IsRising index.now }
     ensures { MatchOption result
         (All (λ r. r.handle.0 ≢ handle.0) index.now)
@@ -39,6 +39,42 @@ pub fn place_of(index: &[Registered], handle: Handle) -> Option<usize>
         Some(place)
     } else {
         None
+    }
+}
+
+// The place of this handle, sought where it can stand: no two handles have one number, so at most as many stand before it as there are
+// numbers from the first to it, and behind it as from it to the last. Where no number between them is missing that is one place.
+fn near(index: &[Registered], handle: Handle) -> Option<usize>
+    ensures { IfSome result (λ place. (place < length index.now) × HoldsAt (λ r. r.handle.0 ≡ handle.0) index.now place) }
+{
+    let before = handle.0.checked_sub(index.first()?.handle.0)?;
+    let behind = index.last()?.handle.0.checked_sub(handle.0)?;
+    let end = index.len().min((before as usize).saturating_add(1));
+    let start = index
+        .len()
+        .saturating_sub((behind as usize).saturating_add(1));
+    if start >= end {
+        return None;
+    }
+    let place = start + index[start..end].partition_point(|r| r.handle.0 < handle.0);
+    let found = index.get(place)?;
+    if found.handle.0 == handle.0 {
+        Some(place)
+    } else {
+        None
+    }
+}
+
+// The place of this handle.
+pub fn place_of(index: &[Registered], handle: Handle) -> Option<usize>
+    requires { IsRising index.now }
+    ensures { MatchOption result
+        (All (λ r. r.handle.0 ≢ handle.0) index.now)
+        (λ place. (place < length index.now) × HoldsAt (λ r. r.handle.0 ≡ handle.0) index.now place) }
+{
+    match near(index, handle) {
+        Some(place) => Some(place),
+        None => bisected(index, handle),
     }
 }
 

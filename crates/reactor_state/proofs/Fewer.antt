@@ -1,6 +1,5 @@
 -- A state that has so many places has fewer.
-use Rattle.std.proofs.Common.{ℕ, ◌≤◌, ◌+◌, length, arith}
-use Rattle.reactor_state.specs.Tables.{HasRoom, HasTimerRoom}
+use Rattle.std.proofs.Common.{ℕ, arith}
 use Rattle.reactor_state.specs.State.{HasPlaces, IsFewer}
 use Rattle.reactor_state.specs.declared.places.Places.{Places}
 use Rattle.reactor_state.specs.declared.state.ReactorState.{ReactorState}

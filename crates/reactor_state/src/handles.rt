@@ -1,6 +1,6 @@
 //! The live handles, in rising order of their numbers.
 
-ghost use Rattle.std.specs.Prelude.{◌≡◌, ◌<◌, ◌≤◌, ◌+◌, ◌==◌, ◌&&◌, not, nat_le, false, ℕ, length, map, filter, vec_capacity, MatchOption, if◌then◌else◌};
+ghost use Rattle.std.specs.Prelude.{◌≡◌, ◌<◌, ◌≤◌, ◌+◌, ◌==◌, ◌&&◌, not, nat_le, false, ℕ, length, map, filter, vec_capacity, MatchOption, IfSome, if◌then◌else◌};
 ghost use Rattle.std.specs.List.{list_any, find, HoldsAt, AllWithin};
 ghost use Rattle.std.specs.Option.{option_map};
 ghost use Rattle.reactor_journal.specs.Past as P;
@@ -22,8 +22,8 @@ fn first_from(handles: &[LiveHandle], from: Handle) -> usize
     handles.partition_point(|h| h.handle.0 < from.0)
 }
 
-/// The place of this handle.
-fn place_of(handles: &[LiveHandle], handle: Handle) -> Option<usize>
+/// The place of this handle, sought among all.
+fn bisected(handles: &[LiveHandle], handle: Handle) -> Option<usize>
     ensures { MatchOption result
         ((hi : ℕ) → RisesIn handle_number 0 hi handles.now → list_any (λ h. h.handle.0 == handle.0) handles.now ≡ false)
         (λ place. (place < length handles.now) × HoldsAt (λ h. h.handle.0 ≡ handle.0) handles.now place) }
@@ -33,6 +33,41 @@ fn place_of(handles: &[LiveHandle], handle: Handle) -> Option<usize>
         Some(place)
     } else {
         None
+    }
+}
+
+/// The place of this handle, sought where it can stand: no two handles have one number, so at most as many stand before it as there are
+/// numbers from the first to it, and behind it as from it to the last. Where no number between them is missing that is one place.
+fn near(handles: &[LiveHandle], handle: Handle) -> Option<usize>
+    ensures { IfSome result (λ place. (place < length handles.now) × HoldsAt (λ h. h.handle.0 ≡ handle.0) handles.now place) }
+{
+    let before = handle.0.checked_sub(handles.first()?.handle.0)?;
+    let behind = handles.last()?.handle.0.checked_sub(handle.0)?;
+    let end = handles.len().min((before as usize).saturating_add(1));
+    let start = handles
+        .len()
+        .saturating_sub((behind as usize).saturating_add(1));
+    if start >= end {
+        return None;
+    }
+    let place = start + handles[start..end].partition_point(|h| h.handle.0 < handle.0);
+    let found = handles.get(place)?;
+    if found.handle.0 == handle.0 {
+        Some(place)
+    } else {
+        None
+    }
+}
+
+/// The place of this handle.
+fn place_of(handles: &[LiveHandle], handle: Handle) -> Option<usize>
+    ensures { MatchOption result
+        ((hi : ℕ) → RisesIn handle_number 0 hi handles.now → list_any (λ h. h.handle.0 == handle.0) handles.now ≡ false)
+        (λ place. (place < length handles.now) × HoldsAt (λ h. h.handle.0 ≡ handle.0) handles.now place) }
+{
+    match near(handles, handle) {
+        Some(place) => Some(place),
+        None => bisected(handles, handle),
     }
 }
 

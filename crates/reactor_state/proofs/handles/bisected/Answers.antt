@@ -2,8 +2,8 @@ use Rattle.std.proofs.Common.{arith, ap, ◌∙◌}
 use Rattle.std.proofs.lemmas.List.{get_or_default}
 use Rattle.reactor_state.specs.Sound.{handle_number}
 use Rattle.reactor_state.proofs.Rising.{not_there}
-use Rattle.reactor_state.proofs.handles.place_of.Goals as goal
-use Rattle.reactor_state.proofs.handles.place_of.Goals.{else-place-handles-via-then-place-handles+else-handles-place, else-place-handles-via-else-place-handles}
+use Rattle.reactor_state.proofs.handles.bisected.Goals as goal
+use Rattle.reactor_state.proofs.handles.bisected.Goals.{else-place-handles-via-then-place-handles+else-handles-place, else-place-handles-via-else-place-handles}
 
 pub returns-else-place-handles : goal.returns-else-place-handles
 returns-else-place-handles c hi rising =

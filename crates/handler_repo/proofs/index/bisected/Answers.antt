@@ -1,8 +1,8 @@
 use Rattle.std.proofs.Common.{arith, ap, ◌∙◌}
 use Rattle.std.proofs.lemmas.List.{get_or_default}
 use Rattle.handler_repo.proofs.Steps.{not_registered}
-use Rattle.handler_repo.proofs.index.place_of.Goals as goal
-use Rattle.handler_repo.proofs.index.place_of.Goals.{else-place-index-via-then-place-index+else-index-place, else-place-index-via-else-place-index}
+use Rattle.handler_repo.proofs.index.bisected.Goals as goal
+use Rattle.handler_repo.proofs.index.bisected.Goals.{else-place-index-via-then-place-index+else-index-place, else-place-index-via-else-place-index}
 
 pub returns-else-place-index : goal.returns-else-place-index
 returns-else-place-index c =
