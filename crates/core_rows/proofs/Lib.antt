@@ -1,3 +1,5 @@
 pub mod Keeping
 pub mod Idling
+pub mod Upcalls
 pub mod Beginning
+pub mod InTurn

@@ -1,13 +1,17 @@
-//! Runs of a one-thread reactor over a net that plays what was laid down.
+//! Runs of a one-thread reactor of steady handlers, over a net that plays what was laid down and one that reports its handles in turn.
 #![tactic(auto)]
 
 mod handler;
+#[cfg(test)]
+mod refusals;
+mod round_robin;
 mod rows;
 #[cfg(test)]
 mod tests;
 
 pub use handler::Steady;
+pub use round_robin::RoundRobinNet;
 pub use rows::{
-    Left, Rows, cancel, close, hand_over, poll, post, register, remove, resume, schedule, set_mask,
-    stop, suspend, turn,
+    Left, Rows, cancel, cancel_meanwhile, close, hand_over, poll, post, register, remove,
+    remove_meanwhile, resume, schedule, set_mask, settle, start, stop, suspend, turn,
 };

@@ -2,5 +2,5 @@ use Rattle.core_rows.proofs.Idling.{registers}
 use Rattle.core_rows.proofs.rows.register.Goals as goal
 
 pub returns : goal.returns
-returns c =
+returns g c =
     registers _ _ c.register.result _ c.requires (c.register.ensures.stands c.requires.terms c.requires.first c.requires.history c.requires.stands tt)

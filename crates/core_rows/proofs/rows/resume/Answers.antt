@@ -4,5 +4,5 @@ use Rattle.core_rows.proofs.Idling.{goes_on}
 use Rattle.core_rows.proofs.rows.resume.Goals as goal
 
 pub returns : goal.returns
-returns c =
+returns g c =
     goes_on c.args.core.now c.resume.new.self c.resume.result (λ s. Resumed c.args.handle) (λ s. refl) (λ s q. q) c.resume.ensures.ok c.resume.ensures.err c.requires

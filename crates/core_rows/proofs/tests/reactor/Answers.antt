@@ -8,4 +8,4 @@ new-made-requires-clause-begins c =
 
 pub returns-in-Ok : goal.returns-in-Ok
 returns-in-Ok c =
-    begun c.args.most c.in-Ok.core (c.in-Ok.ensures.ok (open_terms c.args.most) (begins _ _ _ c.args.moments.items c.args.reports.items c.args.most c.new-net.ensures.new c.new.ensures.timers c.new-2.ensures.facts))
+    begun _ c.args.most c.in-Ok.core (c.in-Ok.ensures.ok (open_terms c.args.most) (begins _ _ _ c.args.moments.items c.args.reports.items c.args.most c.new-net.ensures.new c.new.ensures.timers c.new-2.ensures.facts))
