@@ -1,0 +1,4 @@
+pub mod Lines
+pub mod Courses
+pub mod Serving
+pub mod Accounts

@@ -1,0 +1,247 @@
+//! The event handler of one connection.
+ghost use Rattle.std.specs.Prelude.{◌≡◌, ◌≢◌, ◌<◌, ◌≤◌, ◌↔◌, ℕ, List, [], false, Some, None, IsSome, Option, length};
+ghost use Rattle.ev_types.specs.declared.upcall.Answer.TheVariants.{Keep, Again, Close};
+ghost use Rattle.ev_types.specs.declared.upcall.Upcall.TheVariants.{Input, Timeout};
+ghost use Rattle.ev_types.specs.declared.upcall.Why.TheVariants.{Own};
+ghost use Rattle.ev_base.specs.Terms.{Terms};
+ghost use Rattle.ev_base.specs.End.{IsFresh, Paused};
+ghost use Rattle.cdr_record.specs.Decoding.{StandsFor, decode};
+ghost use Rattle.reactor_journal.specs.Event.{Item, Origin};
+ghost use Rattle.reactor_model.specs.Handling.{NoClose, EndsInClose, Names};
+ghost use Rattle.reactor_model.specs.Turns.{TakesTurn, KeepsPromises};
+ghost use Rattle.log_handler.specs.Connection.{Progress, end_of};
+ghost use Rattle.log_handler.specs.Connections.{MayComeFrom, ConnectionFits, ConnectionGone, HasDecoder, IsClosing, connections, end_of_connection, serial_named};
+ghost use Rattle.log_handler.specs.Steps.{IsTurn, IsSame, Serves, TellsPiece, item_of};
+
+use crate::ServerNote;
+use crate::peer::Peer;
+use cdr_record::laws::tells_stop;
+use cdr_record::{Decoder, Records};
+use ev_base::{Got, Net, PeerEnd};
+use ev_types::{Answer, Handle, Mask, NetFailed, Upcall, Why};
+use log_lines::EndKind;
+use reactor_model::{EventHandler, Turn};
+use std::alloc::Global;
+
+/// How many bytes a read takes at most.
+const PIECE: usize = 4096;
+
+/// The event handler of one connection (C++NPv2 chapter 4, `Logging_Event_Handler`): it decodes log records from what its end gives,
+/// one read for each upcall, and notes them.
+pub struct LogConnection<E: PeerEnd> {
+    conn: u64,
+    peer: Peer<E>,
+    idle: Option<u64>,
+    last: u64,
+    decoder: Decoder,
+    kept: Option<EndKind>,
+    alloc: Global,
+}
+
+impl<E: PeerEnd> LogConnection<E> {
+    /// The handler of connection number `conn`, accepted at the moment `now` in milliseconds. Where `idle` is given, it is closed at
+    /// a timeout once so many milliseconds brought no bytes. It takes no memory.
+    pub fn new(alloc: Global, conn: u64, end: E, idle: Option<u64>, now: u64) -> LogConnection<E>
+        requires no_listener { (E.tells end).listener ≡ false }
+        requires fresh { IsFresh (E.tells end) }
+        ensures end { end_of_connection result ≡ end }
+        ensures fits { (t : Terms) (origin : Option (Origin ServerNote)) → E.keeps t end → MayComeFrom t origin conn idle now (E.tells end).serial
+            → ConnectionFits E.tells E.keeps t origin result [] }
+    {
+        LogConnection {
+            conn,
+            peer: Peer { end },
+            idle,
+            last: now,
+            decoder: Decoder::new(alloc),
+            kept: None,
+            alloc,
+        }
+    }
+
+    /// Makes one read.
+    fn read_piece(&mut self, now: u64) -> Turn<LogConnection<E>>
+        ensures same { IsSame E.tells E.keeps self.old self.new }
+        ensures serves { Serves E.tells Input now self.old self.new result }
+        ensures pauses { (result.answer ≡ Keep) ↔ ((E.tells (end_of_connection self.new)).last_read ≡ Some Paused) }
+        ensures quiet { result.act ≡ None }
+    {
+        let mut buffer = [0u8; PIECE];
+        match self.peer.end.read(&mut buffer) {
+            Got::Bytes(count) => self.take_piece(&buffer[..count], now),
+            Got::Pause => self.keep(),
+            Got::Over => {
+                let end = self.end_of_input();
+                self.close_as(end)
+            }
+            Got::Failed => self.close_as(EndKind::Failed),
+        }
+    }
+
+    /// Decodes a piece that was read.
+    fn take_piece(&mut self, piece: &[u8], now: u64) -> Turn<LogConnection<E>>
+        ensures told { (before : Progress) → before.kept ≡ None → self.old.kept ≡ None → HasDecoder before self.old.decoder
+            → TellsPiece self.old.conn before piece.now (item_of Input now result) self.new.kept self.new.decoder }
+        ensures last { self.new.last ≡ now }
+        ensures conn { self.new.conn ≡ self.old.conn }
+        ensures idle { self.new.idle ≡ self.old.idle }
+        ensures end { end_of_connection self.new ≡ end_of_connection self.old }
+        ensures goes_on { result.answer ≢ Keep }
+        ensures quiet { result.act ≡ None }
+    {
+        self.last = now;
+        let took = piece.len() as u64;
+        match self.decoder.feed(piece) {
+            Ok(fed) => {
+                tells_stop();
+                match fed.bad {
+                    Some(bad) => self.close_with(EndKind::Malformed(bad.at), took, fed.records),
+                    None => self.turn(Answer::Again, took, fed.records),
+                }
+            }
+            Err(_) => {
+                let none = self.no_records();
+                self.close_with(EndKind::NoMemory, took, none)
+            }
+        }
+    }
+
+    /// Closes where nothing came for too long.
+    fn check_idle(&mut self, now: u64) -> Turn<LogConnection<E>>
+        ensures same { IsSame E.tells E.keeps self.old self.new }
+        ensures serves { (timer : ℕ) → Serves E.tells (Timeout timer) now self.old self.new result }
+        ensures waits { result.answer ≢ Again }
+        ensures quiet { result.act ≡ None }
+    {
+        match self.idle {
+            Some(idle) if now.saturating_sub(self.last) >= idle => self.close_as(EndKind::Idle),
+            _ => self.keep(),
+        }
+    }
+
+    /// How the connection ends whose input is read to its end.
+    fn end_of_input(&self) -> EndKind
+        ensures { (t : List ℕ) → StandsFor self.now.decoder t → self.now.decoder.bad ≡ None → result ≡ end_of (decode t).stop }
+    {
+        match self.decoder.rest_len() {
+            0 => EndKind::End,
+            rest => EndKind::Partial(rest),
+        }
+    }
+
+    /// A turn that took nothing and changes nothing.
+    fn keep(&self) -> Turn<LogConnection<E>>
+        ensures { IsTurn self.now.conn Keep 0 [] result }
+    {
+        self.turn(Answer::Keep, 0, self.no_records())
+    }
+
+    /// A turn that took nothing and ends the connection so.
+    fn close_as(&mut self, end: EndKind) -> Turn<LogConnection<E>>
+        ensures turn { IsTurn self.old.conn Close 0 [] result }
+        ensures ends { self.new ≡ record self.old { kept = Some end } }
+    {
+        let none = self.no_records();
+        self.close_with(end, 0, none)
+    }
+
+    /// A turn that took so many bytes, completed these records, and ends the connection so.
+    fn close_with(&mut self, end: EndKind, took: u64, records: Records) -> Turn<LogConnection<E>>
+        ensures turn { IsTurn self.old.conn Close took records result }
+        ensures ends { self.new ≡ record self.old { kept = Some end } }
+    {
+        self.kept = Some(end);
+        self.turn(Answer::Close, took, records)
+    }
+
+    fn no_records(&self) -> Records
+        ensures { result ≡ [] }
+    {
+        Records::new(Vec::new(self.alloc))
+    }
+
+    fn turn(&self, answer: Answer, took: u64, records: Records) -> Turn<LogConnection<E>>
+        ensures { IsTurn self.now.conn answer took records result }
+    {
+        Turn {
+            answer,
+            note: ServerNote::Piece {
+                conn: self.conn,
+                took,
+                records,
+            },
+            act: None,
+        }
+    }
+}
+
+/// How a connection is closed for the reason, which ended itself in this way or did not.
+fn closing(why: Why, kept: Option<EndKind>) -> EndKind
+    ensures { (why ≡ Own → IsSome kept) → IsClosing why kept result }
+{
+    match (why, kept) {
+        (Why::Own, Some(end)) => end,
+        (Why::Removed, Some(EndKind::NoMemory)) => EndKind::NoMemory,
+        (Why::Refused, _) => EndKind::Refused,
+        _ => EndKind::Stopped,
+    }
+}
+
+impl<E: PeerEnd> EventHandler for LogConnection<E> {
+    type Note = ServerNote;
+
+    type End = E;
+
+    ghost means = { connections E.tells E.keeps };
+
+    fn upcall(&mut self, up: Upcall, now: u64) -> Turn<LogConnection<E>>
+        ensures turn { (t : Terms) (origin : Option (Origin ServerNote)) (had : List (Item ServerNote)) → NoClose had
+            → ConnectionFits E.tells E.keeps t origin self.old had → TakesTurn (connections E.tells E.keeps) t origin up now had self.new result }
+        ensures promises { KeepsPromises (connections E.tells E.keeps) up result }
+
+        // No turn carries an act.
+        ensures quiet { result.act ≡ None }
+
+        // Input is answered Keep exactly where its one read paused.
+        ensures pauses { up ≡ Input → (result.answer ≡ Keep) ↔ ((E.tells (end_of_connection self.new)).last_read ≡ Some Paused) }
+    {
+        match up {
+            Upcall::Input => self.read_piece(now),
+            Upcall::Timeout { .. } => self.check_idle(now),
+            _ => self.keep(),
+        }
+    }
+
+    fn attach_to<M: Net<End = E>>(
+        &mut self,
+        net: &mut M,
+        handle: Handle,
+        mask: Mask,
+    ) -> Result<(), NetFailed> {
+        net.attach(&mut self.peer.end, handle, mask)
+    }
+
+    fn handle_close(self, why: Why) -> (E, ServerNote)
+        ensures gone { (t : Terms) (origin : Option (Origin ServerNote)) (had : List (Item ServerNote)) → (why ≡ Own → EndsInClose had)
+            → ConnectionFits E.tells E.keeps t origin self had → ConnectionGone E.tells E.keeps t origin result.0 had why result.1 }
+        ensures serial { (t : Terms) (origin : Option (Origin ServerNote)) (had : List (Item ServerNote))
+            → ConnectionFits E.tells E.keeps t origin self had → Names (serial_named t origin) (E.tells result.0).serial }
+        ensures kept { (t : Terms) (origin : Option (Origin ServerNote)) (had : List (Item ServerNote))
+            → ConnectionFits E.tells E.keeps t origin self had → E.keeps t result.0 }
+
+        // The end that it gives is its own.
+        ensures end { result.0 ≡ end_of_connection self }
+    {
+        let LogConnection {
+            conn,
+            peer: Peer { end },
+            kept,
+            idle: _,
+            last: _,
+            decoder: _,
+            alloc: _,
+        } = self;
+        let word = closing(why, kept);
+        (end, ServerNote::Finished { conn, end: word })
+    }
+}

@@ -1,0 +1,17 @@
+//! The event handler of one connection of the logging server, and the watch that writes its lines (C++NPv2 chapter 4,
+//! `Logging_Event_Handler`).
+#![tactic(auto)]
+
+mod connection;
+pub mod laws;
+mod line_sink;
+mod note;
+mod peer;
+
+pub use connection::LogConnection;
+pub use line_sink::LineSink;
+pub use log_lines::EndKind;
+pub use note::ServerNote;
+
+#[cfg(test)]
+mod tests;

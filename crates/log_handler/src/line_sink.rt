@@ -1,0 +1,103 @@
+//! The watch that writes the lines of a journal's notes.
+ghost use Rattle.std.specs.Prelude.{◌≡◌, ◌++◌, ℕ, List, [], Some, MatchOption, false};
+ghost use Rattle.ev_base.specs.Terms.{Terms};
+ghost use Rattle.ev_base.specs.Sink.{SinkFacts};
+ghost use Rattle.sink_buffer.specs.Texts.{Puts};
+ghost use Rattle.sink_buffer.specs.Gathers.{Gathers, held_of};
+ghost use Rattle.log_handler.specs.Notes.{note_lines, entry_lines};
+
+use crate::ServerNote;
+use ev_base::Sink;
+use log_lines::{put_closing_line, put_record_lines};
+use reactor_journal::Entry;
+use reactor_model::Watch;
+use sink_buffer::{SinkBuffer, TextOut};
+
+/// A watch that writes the lines of the notes of a journal as its entries are appended. It gathers the lines of a note in a fixed
+/// buffer, which has room for those of any piece of 4,096 bytes, and writes them together. It takes no memory, and writes nothing
+/// more once a write failed.
+#[derive(Drop)]
+pub struct LineSink<K> {
+    buffer: SinkBuffer<K>,
+}
+
+impl<K: Sink> LineSink<K> {
+    ghost use Rattle.log_handler.specs.LineSink.{PutsLines, is_broken, sink_of};
+
+    /// A watch that has seen nothing, over this sink.
+    pub fn new(output: K) -> LineSink<K>
+        ensures stands { (t : Terms) → ((text : List ℕ) → t.opening ≡ Some text → (K.facts output).text ≡ Some text)
+            → ((n : ℕ) → t.output_faults ≡ Some n → (K.facts output).faults ≡ n) → PutsLines K.facts t result [] }
+        ensures output { sink_of result ≡ output }
+        ensures sound { is_broken result ≡ false }
+    {
+        LineSink {
+            buffer: SinkBuffer::new(output),
+        }
+    }
+
+    /// The sink below.
+    pub fn into_output(self) -> K
+        ensures { result ≡ sink_of self }
+    {
+        self.buffer.into_output()
+    }
+
+    /// Puts the lines of a note, and writes what is held.
+    fn write_note(&mut self, note: &ServerNote)
+        ensures text { (start : SinkFacts) (put : List ℕ) → Gathers K.facts start self.old.buffer put
+            → Gathers K.facts start self.new.buffer (put ++ note_lines note.now) }
+        ensures held { held_of self.new.buffer ≡ [] }
+    {
+        put_note(&mut self.buffer, note);
+        self.buffer.flush();
+    }
+}
+
+/// The note of an entry whose note has lines.
+fn note_of(entry: &Entry<ServerNote>) -> Option<&ServerNote>
+    ensures { MatchOption result (entry_lines entry.now ≡ []) (λ note. entry_lines entry.now ≡ note_lines note.now) }
+{
+    match entry {
+        Entry::Returned { note, .. } | Entry::Refused { note, .. } | Entry::Closed { note, .. } =>
+            Some(note),
+        _ => None,
+    }
+}
+
+/// Puts the lines of a note.
+fn put_note<T: TextOut>(out: &mut T, note: &ServerNote)
+    ensures { Puts T.stands out.old (note_lines note.now) out.new }
+{
+    match note {
+        ServerNote::Piece { conn, records, .. } => put_record_lines(out, *conn, records.as_slice()),
+        ServerNote::Finished { conn, end } => put_closing_line(out, *conn, *end),
+        _ => {}
+    }
+}
+
+impl<K: Sink> Watch<ServerNote> for LineSink<K> {
+    ghost use Rattle.log_handler.specs.LineSink.{PutsLines, line_sink_faults, is_broken};
+    ghost use Rattle.log_handler.specs.Faults.{breaks_above};
+
+    ghost stands = { PutsLines K.facts };
+
+    ghost faults = { line_sink_faults K.facts };
+
+    ghost is_broken = { is_broken };
+
+    fn saw(&mut self, entry: &Entry<ServerNote>) {
+        if self.buffer.is_broken() {
+            return;
+        }
+        if let Some(note) = note_of(entry) {
+            self.write_note(note);
+        }
+    }
+
+    fn broken(&self) -> bool {
+        self.buffer.is_broken()
+    }
+
+    ghost broke = { λ t watch h before stands broken started. breaks_above K.facts t watch h before stands broken started };
+}
