@@ -1,0 +1,4 @@
+pub mod Courses
+pub mod Accepting
+pub mod Serving
+pub mod Accounts

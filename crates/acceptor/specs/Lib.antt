@@ -1,0 +1,7 @@
+pub mod Idle
+pub mod Accepting
+pub mod Numbering
+pub mod Acceptors
+pub mod Servers
+pub mod Steps
+pub mod Laws
