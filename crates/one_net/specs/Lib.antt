@@ -1,0 +1,5 @@
+pub mod OneEnd
+pub mod OneKeeps
+pub mod StoryOfEnd
+pub mod Watched
+pub mod OneNet
