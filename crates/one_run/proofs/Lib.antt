@@ -1,0 +1,10 @@
+pub mod Phases
+pub mod Ends
+pub mod Leaves
+pub mod Keeping
+pub mod Waiting
+pub mod Reading
+pub mod Turning
+pub mod Finishing
+pub mod Unserved
+pub mod Begins

@@ -1,0 +1,54 @@
+-- What is left of a reactor that had no handler.
+use Rattle.std.proofs.Common.{ℕ, zero, suc, ◌≡◌, ◌≤◌, true, false, List, [], ◌∷◌, ◌++◌, refl, sym, ap, ◌∙◌, subst, arith, Option, Some, None, ⊎_elim, ◌⊎◌, inr, drop}
+use Rattle.std.proofs.lemmas.Bool.{cases_Bool}
+use Rattle.std.proofs.lemmas.List.{append-nil}
+use Rattle.ev_base.specs.Sink.{SinkFacts, GrowsBy}
+use Rattle.ev_base.specs.Terms.{Terms}
+use Rattle.sink_buffer.specs.Gathers.{held_of}
+use Rattle.reactor_journal.specs.declared.entry.Entry.{Entry}
+use Rattle.reactor_journal.specs.declared.entry.Entry.TheVariants.{Ended}
+use Rattle.reactor_journal.specs.Past.{past_of}
+use Rattle.reactor_summary.specs.Summary.{summary}
+use Rattle.reactor_core.specs.Beginning.{IsOver}
+use Rattle.reactor_core.specs.Removing.{Stops}
+use Rattle.reactor_core.specs.Stands.{Meaning, Stands}
+use Rattle.reactor_core.specs.declared.reactor.Core.{Core}
+use Rattle.log_handler.specs.declared.note.ServerNote.{ServerNote}
+use Rattle.log_handler.specs.declared.line_sink.LineSink.{LineSink}
+use Rattle.log_handler.specs.LineSink.{PutsLines, sink_of}
+
+-- where nothing was put the text is what it was
+grows_nothing : (old new : Option (List ℕ)) (text more : List ℕ) → old ≡ Some text → more ≡ [] → GrowsBy old more new → new ≡ Some text
+grows_nothing old new text more was none grows = by new (subst (λ (old : Option (List ℕ)). GrowsBy old [] new) was (subst (λ (more : List ℕ). GrowsBy old more new) none grows))
+  where
+    by : (new : Option (List ℕ)) → GrowsBy (Some text) [] new → new ≡ Some text
+    by None grows = absurd grows
+    by (Some now) grows = ap Some (grows ∙ append-nil text)
+
+front_none : (xs ys : List ℕ) → xs ++ ys ≡ [] → xs ≡ []
+front_none [] ys q = refl
+front_none (x ∷ xs) ys q = cc
+
+ended_text : {K : Type 0} (facts : K → SinkFacts) (t : Terms) (sink : LineSink K) (text : List ℕ) → t.opening ≡ Some text → PutsLines facts t sink (Ended ∷ []) → (facts (sink_of sink)).text ≡ Some text
+ended_text facts t sink text told p =
+    ⊎_elim
+    (λ (broken : sink.buffer.broken ≡ true). let b = p.put.front broken in grows_nothing p.start.text (facts (sink_of sink)).text text b.front (p.opening text told) (front_none b.front b.is_front.0 (sym b.is_front.1)) b.text)
+    (λ (whole : sink.buffer.broken ≡ false). let w = p.put.whole whole in grows_nothing p.start.text (facts (sink_of sink)).text text w.written (p.opening text told) (front_none w.written (held_of sink.buffer) w.all) w.takes.text)
+    (cases_Bool sink.buffer.broken)
+
+pub at_nothing : {H M Q W V N E : Type 0} (m : Meaning H M Q W V N E) (t : Terms) (core : Core H M Q W V N E) (F : ℕ) (h : List (Entry N)) → h ≡ [] → Stands m t core F h → Stands m t core F []
+at_nothing m t core F h is stands = subst (λ h. Stands m t core F h) is stands
+
+pub same_text : {K : Type 0} (facts : K → SinkFacts) (t : Terms) (sink : LineSink K) (text : List ℕ) (journal : List (Entry ServerNote)) → journal ≡ Ended ∷ [] → t.opening ≡ Some text → PutsLines facts t sink journal
+    → (facts (sink_of sink)).text ≡ Some text
+same_text facts t sink text journal is told puts = ended_text facts t sink text told (subst (λ journal. PutsLines facts t sink journal) is puts)
+
+pub only_ended : {H M Q W V N E : Type 0} (m : Meaning H M Q W V N E) (t : Terms) (F : ℕ) (new : Core H M Q W V N E) (s : Stops m t F [] new) → ([] ++ Ended ∷ []) ++ s.entries ≡ Ended ∷ []
+only_ended m t F new s = ap (λ entries. ([] ++ Ended ∷ []) ++ entries) s.removals
+
+pub over_at_once : {N : Type 0} (journal : List (Entry N)) → journal ≡ Ended ∷ [] → IsOver (summary (past_of journal))
+over_at_once journal is = subst (λ journal. IsOver (summary (past_of journal))) (sym is) (record { ended = refl; none_live = refl })
+
+pub none_or_end : {N : Type 0} (F : ℕ) (entries journal : List (Entry N)) → journal ≡ Ended ∷ [] → F ≤ 0 → entries ≡ drop F journal → (entries ≡ []) ⊎ (entries ≡ Ended ∷ [])
+none_or_end zero entries journal is within held = inr (held ∙ is)
+none_or_end (suc F) entries journal is within held = absurd (omega (arith, within))

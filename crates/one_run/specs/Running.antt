@@ -1,0 +1,117 @@
+-- What a run of the reactor of `one` does to it, from call to call.
+use Rattle.std.specs.Prelude.{◌≡◌, ◌≤◌, ◌-◌, ℕ, suc, length, slice_get, Bool, true, false, List, Option, Some, None, Result, Ok, Err}
+use Rattle.ev_base.specs.Counts.{Rose}
+use Rattle.ev_base.specs.Source.{SourceFacts}
+use Rattle.ev_base.specs.Sink.{SinkFacts}
+use Rattle.ev_base.specs.Terms.{Terms}
+use Rattle.ev_base.specs.declared.end.PeerEnd.{Ghosts}
+use Rattle.timer_queue.specs.Content.{Content}
+use Rattle.reactor_journal.specs.declared.entry.Entry.{Entry}
+use Rattle.reactor_journal.specs.declared.entry.Entry.TheVariants as entry
+use Rattle.reactor_journal.specs.Follow.{Legal}
+use Rattle.reactor_model.specs.Volumes.{VolumesFacts}
+use Rattle.reactor_state.specs.State.{Shows, HasPlaces, IsPlaced}
+use Rattle.reactor_core.specs.Stands.{Meaning, meaning, Stands, StandsWith}
+use Rattle.reactor_core.specs.Polling.{FitsLimit}
+use Rattle.reactor_core.specs.declared.reactor.Core.{Core}
+use Rattle.reactor_core.specs.declared.reactor.Parts.{Parts}
+use Rattle.reactor_core.specs.Beginning.{PartsStand}
+use Rattle.ev_types.specs.declared.upcall.Why.TheVariants.{Own}
+use Rattle.log_lines.specs.declared.end_kind.EndKind.TheVariants as end
+use Rattle.log_handler.specs.declared.note.ServerNote.{ServerNote}
+use Rattle.log_handler.specs.declared.note.ServerNote.TheVariants as note
+use Rattle.log_handler.specs.declared.connection.LogConnection.{LogConnection}
+use Rattle.log_handler.specs.declared.line_sink.LineSink.{LineSink}
+use Rattle.log_handler.specs.Connections.{connections}
+use Rattle.log_handler.specs.LineSink.{PutsLines}
+use Rattle.one_net.specs.declared.one_end.OneEnd.{OneEnd}
+use Rattle.one_net.specs.declared.one_net.OneNet.{OneNet}
+use Rattle.one_net.specs.OneEnd.{one_end_facts}
+use Rattle.one_net.specs.OneKeeps.{OneEndKeeps}
+use Rattle.one_net.specs.OneNet.{one_net_facts, one_net_keeps}
+use Rattle.one_run.specs.Phases.{IsRead, IsShut, IsFinished, CanEnd, turns_in}
+use Rattle.one_run.specs.declared.serving.Halt.{Halt}
+use Rattle.one_run.specs.declared.serving.Halt.TheVariants as halt
+
+-- what the things outside mean and tell: a source, a sink and volumes tell these facts
+abbrev pub one_meaning : {S K V : Type 0} {G : Ghosts (OneEnd S)} → (S → SourceFacts) → (K → SinkFacts) → (V → VolumesFacts ServerNote)
+    → Meaning (LogConnection (OneEnd S) G) (OneNet S) Content (LineSink K) V ServerNote (OneEnd S)
+one_meaning source sink volumes =
+    meaning (connections (one_end_facts source) (OneEndKeeps source)) one_net_facts one_net_keeps (Shows (λ q. q.timers)) (HasPlaces (λ q. q.spare)) IsPlaced (PutsLines sink) volumes
+
+-- the terms of a run of `one`: a wait has no limit, and a connection is never closed for being quiet
+pub record AreOfOne (t : Terms) : Type 0 where
+  pub limit : FitsLimit t None
+  pub idle : t.idle ≡ Some None
+
+-- a call is right where the core stands for a history with P
+abbrev pub CanRun : {H M Q W V N E : Type 0} → Meaning H M Q W V N E → (List (Entry N) → Type 0) → Core H M Q W V N E → Type 0
+CanRun {N = N} m P core = StandsWith m (λ t h. AreOfOne t × P h) core
+
+-- the core stands for some history with P
+abbrev pub StandsIn : {H M Q W V N E : Type 0} → Meaning H M Q W V N E → Terms → (List (Entry N) → Type 0) → Core H M Q W V N E → Type 0
+StandsIn {N = N} m t P core = (F : ℕ) × (h : List (Entry N)) × Stands m t core F h × P h
+
+-- where the core stood for a history with P, it stands now for one that is R to it
+abbrev pub LeadsBy : {H M Q W V N E : Type 0} → Meaning H M Q W V N E → (List (Entry N) → Type 0) → (List (Entry N) → List (Entry N) → Type 0) → Core H M Q W V N E → Core H M Q W V N E → Type 0
+LeadsBy {N = N} m P R old new = (t : Terms) (F : ℕ) (h : List (Entry N)) → Stands m t old F h → AreOfOne t → P h → StandsIn m t (R h) new
+
+-- where it stood for a history with P, it stands now for one with Q
+abbrev pub Leads : {H M Q W V N E : Type 0} → Meaning H M Q W V N E → (List (Entry N) → Type 0) → (List (Entry N) → Type 0) → Core H M Q W V N E → Core H M Q W V N E → Type 0
+Leads m P Q old new = LeadsBy m P (λ before h. Q h) old new
+
+-- it stands for the same history
+abbrev pub KeepsHistory : {H M Q W V N E : Type 0} → Meaning H M Q W V N E → Core H M Q W V N E → Core H M Q W V N E → Type 0
+KeepsHistory {N = N} m old new = (t : Terms) (F : ℕ) (h : List (Entry N)) → Stands m t old F h → (now : ℕ) × Stands m t new now h
+
+-- the handler had one turn more, and reads on
+abbrev pub ReadsOneMore : {N : Type 0} → List (Entry N) → List (Entry N) → Type 0
+ReadsOneMore before h = IsRead h × (length (turns_in h) ≡ suc (length (turns_in before)))
+
+-- the handler had so many turns at least, and reads on
+abbrev pub HasRead : {N : Type 0} → ℕ → List (Entry N) → Type 0
+HasRead turns h = IsRead h × (turns ≤ length (turns_in h))
+
+-- the volumes' count of faults rose where the run was halted for them, and else stands
+abbrev pub VolumesSince : Option Halt → ℕ → ℕ → Type 0
+VolumesSince (Some halt.VolumesFailed) before now = Rose before now
+VolumesSince _ before now = now ≡ before
+
+abbrev pub halted : {A : Type 0} → Result A Halt → Option Halt
+halted (Ok value) = None
+halted (Err why) = Some why
+
+-- whether a note is that of a connection that was closed for want of memory
+abbrev pub is_lost : ServerNote → Bool
+is_lost (note.Finished conn end.NoMemory) = true
+is_lost _ = false
+
+-- the last entry, if there is one, and whether it is such a closing
+abbrev pub last_entry : {N : Type 0} → List (Entry N) → Option (Entry N)
+last_entry entries = slice_get entries (length entries - 1)
+
+abbrev pub closes_lost : Option (Entry ServerNote) → Bool
+closes_lost (Some (entry.Closed handle said)) = is_lost said
+closes_lost _ = false
+
+-- the handler closed itself, and this tells whether for want of memory
+abbrev pub IsShutAs : ℕ → Bool → List (Entry ServerNote) → Type 0
+IsShutAs waits lost h = (s : IsShut waits h) × (lost ≡ is_lost s.closed.note)
+
+-- a run was halted, or went on until its connection had closed itself and a wait behind that
+abbrev pub HasEnded : Option Halt → Bool → List (Entry ServerNote) → Type 0
+HasEnded None lost h = IsShutAs 1 lost h
+HasEnded (Some why) lost h = CanEnd h
+
+-- the handler closed itself, and this tells whether for want of memory
+abbrev pub ClosedItself : Bool → (h : List (Entry ServerNote)) → IsFinished h → Type 0
+ClosedItself lost h over = (over.closed.reason ≡ Own) × (lost ≡ is_lost over.closed.note)
+
+-- the parts of this reactor, which was stopped, stand for a history that is legal and finished
+pub record LeavesParts {H M W V E : Type 0} (m : Meaning H M Content W V ServerNote E) (t : Terms) (core : Core H M Content W V ServerNote E) (P : (h : List (Entry ServerNote)) → IsFinished h → Type 0) (parts : Parts ServerNote M Content W V) : Type 0 where
+  pub first : ℕ
+  pub journal : List (Entry ServerNote)
+  pub legal : Legal journal t.most
+  pub finished : IsFinished journal
+  pub so : P journal finished
+  pub stand : PartsStand m (λ q. q.timers) t first journal parts
