@@ -1,5 +1,5 @@
 -- What is left of a reactor that had no handler.
-use Rattle.std.proofs.Common.{ℕ, zero, suc, ◌≡◌, ◌≤◌, true, false, List, [], ◌∷◌, ◌++◌, refl, sym, ap, ◌∙◌, subst, arith, Option, Some, None, ⊎_elim, ◌⊎◌, inr, drop}
+use Rattle.std.proofs.Common.{Bool, ℕ, zero, suc, ◌≡◌, ◌≤◌, true, false, List, [], ◌∷◌, ◌++◌, refl, sym, ap, ◌∙◌, subst, arith, Option, Some, None, ⊎_elim, ◌⊎◌, inr, drop}
 use Rattle.std.proofs.lemmas.Bool.{cases_Bool}
 use Rattle.std.proofs.lemmas.List.{append-nil}
 use Rattle.ev_base.specs.Sink.{SinkFacts, GrowsBy}
@@ -15,7 +15,8 @@ use Rattle.reactor_core.specs.Stands.{Meaning, Stands}
 use Rattle.reactor_core.specs.declared.reactor.Core.{Core}
 use Rattle.log_handler.specs.declared.note.ServerNote.{ServerNote}
 use Rattle.log_handler.specs.declared.line_sink.LineSink.{LineSink}
-use Rattle.log_handler.specs.LineSink.{PutsLines, sink_of}
+use Rattle.log_handler.specs.LineSink.{PutsLines, is_broken, sink_of}
+use Rattle.one_net.specs.OneKeeps.{FaultsSince}
 
 -- where nothing was put the text is what it was
 grows_nothing : (old new : Option (List ℕ)) (text more : List ℕ) → old ≡ Some text → more ≡ [] → GrowsBy old more new → new ≡ Some text
@@ -52,3 +53,9 @@ over_at_once journal is = subst (λ journal. IsOver (summary (past_of journal)))
 pub none_or_end : {N : Type 0} (F : ℕ) (entries journal : List (Entry N)) → journal ≡ Ended ∷ [] → F ≤ 0 → entries ≡ drop F journal → (entries ≡ []) ⊎ (entries ≡ Ended ∷ [])
 none_or_end zero entries journal is within held = inr (held ∙ is)
 none_or_end (suc F) entries journal is within held = absurd (omega (arith, within))
+
+-- a sink of lines that holds nothing back broke where the count of faults rose, and else that stands
+pub sink_faults : {K : Type 0} (facts : K → SinkFacts) (t : Terms) (sink : LineSink K) (journal : List (Entry ServerNote)) (n : ℕ) → t.output_faults ≡ Some n → PutsLines facts t sink journal
+    → (broken : Bool) → broken ≡ is_broken sink → FaultsSince broken n (facts (sink_of sink)).faults
+sink_faults facts t sink journal n told p true is = subst (λ (n : ℕ). FaultsSince true n (facts (sink_of sink)).faults) (p.faults n told) (p.put.front (sym is)).rose
+sink_faults facts t sink journal n told p false is = (p.put.whole (sym is)).takes.faults ∙ p.faults n told

@@ -9,7 +9,7 @@ use Rattle.reactor_journal.specs.declared.entry.Entry.TheVariants as entry
 use Rattle.reactor_model.specs.Volumes.{VolumesFacts}
 use Rattle.reactor_core.specs.Ends.{WhereTold}
 use Rattle.log_handler.specs.declared.note.ServerNote.{ServerNote}
-use Rattle.one_net.specs.OneKeeps.{StartsAt}
+use Rattle.one_net.specs.OneKeeps.{StartsAt, FaultsSince}
 use Rattle.one_run.specs.Running.{AreOfOne}
 use Rattle.one_run.specs.declared.opening.Unopened.{Unopened}
 
@@ -46,10 +46,12 @@ terms_of_run i o v = record {
   volumes_faults = Some v.faults;
 }
 
--- No handler was registered: the journal is empty, or the end alone, and the text of the output is what it was.
+-- No handler was registered: the journal is empty, or the end alone, and the text of the output is what it was. The output's count
+-- of faults rose where a write failed.
 pub record LeavesNothing {S K V : Type 0} (sink : K → SinkFacts) (t : Terms) (left : Unopened S K V) : Type 0 where
   pub journal : (left.journal.entries ≡ []) ⊎ (left.journal.entries ≡ entry.Ended ∷ [])
   pub text : (text : List ℕ) → t.opening ≡ Some text → (sink left.output).text ≡ Some text
+  pub output_faults : (n : ℕ) → t.output_faults ≡ Some n → FaultsSince left.broken n (sink left.output).faults
 
 -- and the source was not read
 pub record LeavesUnopened {S K V : Type 0} (source : S → SourceFacts) (sink : K → SinkFacts) (input : S) (output : K) (left : Unopened S K V) : Type 0 where
@@ -57,3 +59,4 @@ pub record LeavesUnopened {S K V : Type 0} (source : S → SourceFacts) (sink : 
   pub text : (text : List ℕ) → (sink output).text ≡ Some text → (sink left.output).text ≡ Some text
   pub bytes : (source left.input).bytes ≡ (source input).bytes
   pub faults : (source left.input).faults ≡ (source input).faults
+  pub output_faults : FaultsSince left.broken (sink output).faults (sink left.output).faults

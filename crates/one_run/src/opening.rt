@@ -13,7 +13,7 @@ use ev_types::{Mask, Why};
 use log_handler::{LineSink, LogConnection, ServerNote};
 use one_net::{OneEnd, OneNet};
 use reactor_core::{Core, Parts};
-use reactor_model::{EventHandler, Journal, Volumes};
+use reactor_model::{EventHandler, Journal, Volumes, Watch};
 use std::alloc::Global;
 use timer_queue::SortedTimers;
 
@@ -37,6 +37,8 @@ pub struct Unopened<S, K, V> {
     pub output: K,
     /// The volumes.
     pub volumes: V,
+    /// Whether a write failed.
+    pub broken: bool,
 }
 
 /// A reactor for the one connection of a source, number 0, which is registered with it. It writes the lines of its notes to the
@@ -82,6 +84,7 @@ pub fn open<S: Source, K: Sink, V: Volumes<ServerNote>>(
                 input: end.into_input(),
                 output: watch.into_output(),
                 volumes,
+                broken: false,
             })
         }
     }
@@ -108,10 +111,12 @@ fn abandon<S: Source, K: Sink, V: Volumes<ServerNote>>(
         volumes,
     } = core.into_parts();
     net.close();
+    let broken = watch.broken();
     Unopened {
         journal,
         input: end.into_input(),
         output: watch.into_output(),
         volumes,
+        broken,
     }
 }

@@ -64,6 +64,7 @@ returns-in-Err-register-clause-err g c =
         text = left.text;
         bytes = ap (λ k. (g.S.Source.facts k).bytes) c.abandon.ensures.input ∙ source.0;
         faults = ap (λ k. (g.S.Source.facts k).faults) c.abandon.ensures.input ∙ source.1;
+        output_faults = left.output_faults o.faults refl;
       },
       c.abandon.ensures.volumes ∙ (c.in-Err-register.ensures.volumes ∙ c.in-Ok.ensures.parts.2),
     )
@@ -77,6 +78,7 @@ returns-in-Err-clause-err g c =
         text = λ text told. ap (λ k. (g.K.Sink.facts k).text) same ∙ told;
         bytes = ap (λ k. (g.S.Source.facts k).bytes) unread;
         faults = ap (λ k. (g.S.Source.facts k).faults) unread;
+        output_faults = ap (λ k. (g.K.Sink.facts k).faults) same;
       },
       c.in-Err.ensures.err.3,
     )

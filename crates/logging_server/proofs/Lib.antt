@@ -1,3 +1,0 @@
-pub mod Steps
-pub mod Endings
-pub mod Pieces
