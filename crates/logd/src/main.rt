@@ -2,7 +2,8 @@
 #![tactic(auto)]
 
 use ev_base::{StdSink, StdSource};
-use logging_server::{fault_line, logd_main};
+use logging_server::{NoHost, Served, fault_line, logd_main};
+use reactor_model::DropVolumes;
 use std::alloc::AllocError;
 use std::process::ExitCode;
 use std::{env, io};
@@ -20,8 +21,17 @@ fn main(rt: HostRuntime) -> ExitCode {
     };
     let input = StdSource::new(rt.reader());
     let output = StdSink::new(io::writer(&rt));
-    let served = logd_main(rt.alloc(), &words, input, output);
-    end_with(&rt, served.status, served.at)
+    let mut host = NoHost::new();
+    let Served { status, at, .. } = logd_main(
+        &rt,
+        rt.alloc(),
+        &words,
+        &mut host,
+        input,
+        output,
+        DropVolumes,
+    );
+    end_with(&rt, status, at)
 }
 
 /// The words after the program's name, or the status with which to end where there are none to be had: a word that is

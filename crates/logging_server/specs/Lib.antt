@@ -1,5 +1,6 @@
-pub mod One
 pub mod Words
+pub mod Written
+pub mod Outcome
+pub mod Journals
 pub mod Statuses
-pub mod Serving
-pub mod Pieces
+pub mod Ran

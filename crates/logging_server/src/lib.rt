@@ -1,13 +1,12 @@
-//! The logging server's commands, over any source and sink.
+//! The logging server's commands, over any source, sink, host and keeper of volumes.
 #![tactic(auto)]
 
 mod fault;
-mod laws;
+mod no_host;
 mod one;
-#[cfg(test)]
-mod tests;
+mod status;
 mod top;
 
 pub use fault::{FaultLine, fault_line};
-pub use laws::lines_of_a_piece_fit;
+pub use no_host::NoHost;
 pub use top::{Served, logd_main};

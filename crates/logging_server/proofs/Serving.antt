@@ -1,0 +1,116 @@
+-- What is left of the reactor of a run says what became of the run.
+use Rattle.std.proofs.Common.{ℕ, ◌≡◌, ◌≢◌, Bool, true, false, List, [], ◌∷◌, refl, sym, ap, ◌∙◌, subst, Option, Some, None}
+use Rattle.timer_queue.specs.Content.{Content}
+use Rattle.ev_types.specs.declared.upcall.Why.TheVariants.{Own}
+use Rattle.ev_base.specs.Source.{SourceFacts}
+use Rattle.ev_base.specs.Sink.{SinkFacts}
+use Rattle.ev_base.specs.declared.end.PeerEnd.{Ghosts}
+use Rattle.reactor_journal.specs.declared.entry.Entry.{Entry}
+use Rattle.reactor_journal.specs.Past.{past_of, origin_of}
+use Rattle.reactor_journal.specs.Follow.{Legal}
+use Rattle.reactor_model.specs.Volumes.{VolumesFacts}
+use Rattle.reactor_core.specs.Beginning.{PartsStand}
+use Rattle.reactor_core.specs.Stands.{Meaning}
+use Rattle.reactor_core.specs.declared.reactor.Core.{Core}
+use Rattle.reactor_core.specs.declared.reactor.Parts.{Parts}
+use Rattle.log_handler.specs.declared.note.ServerNote.{ServerNote}
+use Rattle.log_handler.specs.declared.note.ServerNote.TheVariants as note
+use Rattle.log_handler.specs.declared.connection.LogConnection.{LogConnection}
+use Rattle.log_handler.specs.declared.line_sink.LineSink.{LineSink}
+use Rattle.log_handler.specs.LineSink.{is_broken, sink_of}
+use Rattle.log_handler.specs.Connections.{ConnectionGone}
+use Rattle.log_handler.specs.Laws.{CoursesAccount}
+use Rattle.one_net.specs.declared.one_end.OneEnd.{OneEnd}
+use Rattle.one_net.specs.declared.one_net.OneNet.{OneNet}
+use Rattle.one_net.specs.OneEnd.{one_end_facts, extra_of, failed_of, input_of}
+use Rattle.one_net.specs.OneKeeps.{OneEndKeeps, most_input}
+use Rattle.one_net.specs.OneNet.{one_net_facts}
+use Rattle.one_run.specs.Phases.{IsOpened, IsFinished, CanEnd, turns_in}
+use Rattle.one_run.specs.Running.{one_meaning, StandsIn, VolumesSince, is_lost, LeavesParts, ClosedItself, IsShutAs, HasEnded}
+use Rattle.one_run.specs.Opening.{terms_of_run}
+use Rattle.one_run.specs.declared.serving.Halt.{Halt}
+use Rattle.one_run.specs.declared.serving.Halt.TheVariants as halt
+use Rattle.one_run.proofs.Begins.{starts}
+use Rattle.one_run.proofs.Leaves.{RetiresOne, retires_one}
+use Rattle.logging_server.specs.Journals.{StandsFor}
+use Rattle.logging_server.specs.Statuses.{HasStatus, code_of}
+use Rattle.logging_server.specs.Ran.{RunsOne, status_of}
+use Rattle.logging_server.specs.declared.status.Status.{Status}
+use Rattle.logging_server.proofs.Journals.{told_is}
+use Rattle.logging_server.proofs.Outcome.{Became, became}
+use Rattle.logging_server.proofs.Endings.{Known, wrote, has_status, stands_for}
+
+-- A run that ended so left these parts of its reactor, which stand for its history, under the terms that say all that the input, the
+-- output and the volumes told before it.
+pub record IsLeft {S K V : Type 0} (G : Ghosts (OneEnd S)) (source : S → SourceFacts) (sink : K → SinkFacts) (volumes : V → VolumesFacts ServerNote) (i : SourceFacts) (o : SinkFacts) (v : VolumesFacts ServerNote)
+    (parts : Parts ServerNote (OneNet S) Content (LineSink K) V) (why : Option Halt) (lost : Bool) : Type 0 where
+  pub first : ℕ
+  pub journal : List (Entry ServerNote)
+  pub legal : Legal journal 1
+  pub finished : IsFinished journal
+  pub stand : PartsStand (one_meaning {G = G} source sink volumes) (λ q. q.timers) (terms_of_run i o v) first journal parts
+  -- one that was not halted went on until its connection had closed itself
+  pub closed : why ≡ None → (finished.closed.reason ≡ Own) × (lost ≡ is_lost finished.closed.note)
+  pub taken : VolumesSince why v.faults (volumes parts.volumes).faults
+  pub broken : why ≡ Some halt.Broken → is_broken parts.watch ≡ true
+
+not_none : {A P : Type 0} {a : A} → ◌≡◌ {A = Option A} (Some a) None → P
+not_none q = cc
+
+-- by how the run ended
+pub left_of : {S K V : Type 0} (G : Ghosts (OneEnd S)) (source : S → SourceFacts) (sink : K → SinkFacts) (volumes : V → VolumesFacts ServerNote) (i : SourceFacts) (o : SinkFacts) (v : VolumesFacts ServerNote)
+    (core : Core (LogConnection (OneEnd S) G) (OneNet S) Content (LineSink K) V ServerNote (OneEnd S)) (parts : Parts ServerNote (OneNet S) Content (LineSink K) V) (why : Option Halt) (lost : Bool) (h : List (Entry ServerNote))
+    → HasEnded why lost h → (CanEnd h → LeavesParts (one_meaning {G = G} source sink volumes) (terms_of_run i o v) core (λ h over. Unit {0}) parts)
+    → ((lost : Bool) → IsShutAs 1 lost h → LeavesParts (one_meaning {G = G} source sink volumes) (terms_of_run i o v) core (ClosedItself lost) parts)
+    → VolumesSince why v.faults (volumes parts.volumes).faults → (why ≡ Some halt.Broken → is_broken parts.watch ≡ true) → IsLeft G source sink volumes i o v parts why lost
+left_of G source sink volumes i o v core parts None lost h ended ends closes taken broken =
+    let l = closes lost ended in
+    record { first = l.first; journal = l.journal; legal = l.legal; finished = l.finished; stand = l.stand; closed = λ none. l.so; taken = taken; broken = broken }
+left_of G source sink volumes i o v core parts (Some halt) lost h ended ends closes taken broken =
+    let l = ends ended in
+    record { first = l.first; journal = l.journal; legal = l.legal; finished = l.finished; stand = l.stand; closed = λ none. not_none none; taken = taken; broken = broken }
+
+module _ {S K V : Type 0} (G : Ghosts (OneEnd S)) (source : S → SourceFacts) (sink : K → SinkFacts) (volumes : V → VolumesFacts ServerNote) (account : CoursesAccount) (i : SourceFacts) (o : SinkFacts) (v : VolumesFacts ServerNote)
+    (parts : Parts ServerNote (OneNet S) Content (LineSink K) V) (why : Option Halt) (lost : Bool) (left : IsLeft G source sink volumes i o v parts why lost)
+    (last : OneEnd S) (is_last : (handle : ℕ) (end : OneEnd S) → (one_net_facts parts.net).retired ≡ Some ((handle, end) ∷ []) → last ≡ end) where
+  retired : RetiresOne (one_meaning {S = S} {K = K} {V = V} {G = G} source sink volumes).means (terms_of_run i o v) left.finished.closed parts.net.retired.items
+  retired = retires_one _ (terms_of_run i o v) left.journal left.finished.closed parts.net.retired.items left.stand.net.retired
+
+  gone : ConnectionGone (one_end_facts source) (OneEndKeeps source) (terms_of_run i o v) (origin_of (past_of left.finished.closed.before) 0) last (turns_in left.finished.closed.before) left.finished.closed.reason left.finished.closed.note
+  gone = subst (λ (end : OneEnd S). ConnectionGone (one_end_facts source) (OneEndKeeps source) (terms_of_run i o v) (origin_of (past_of left.finished.closed.before) 0) end (turns_in left.finished.closed.before) left.finished.closed.reason left.finished.closed.note)
+      (sym (is_last 0 retired.end (ap Some retired.is))) retired.gone
+
+  outcome : Became source i left.journal left.finished last
+  outcome = became source (terms_of_run i o v) i o v account (starts i o v) refl left.journal left.finished _ last gone
+
+  module _ (broken too_long : Bool) (is_broken_so : broken ≡ is_broken parts.watch) (met : too_long ≡ true → extra_of last ≢ []) (not_met : too_long ≡ false → extra_of last ≡ []) where
+    known : Known i o (source (input_of last)) (sink (sink_of parts.watch)) left.journal v.faults (volumes parts.volumes).faults last.extra (failed_of last) broken too_long lost why
+    known = record {
+      run = outcome.run;
+      extra_is = outcome.extra;
+      lines = outcome.lines;
+      written = wrote sink (terms_of_run i o v) o refl refl parts.watch left.journal left.stand.watch broken is_broken_so;
+      closed = λ none. (outcome.own (left.closed none).0, (left.closed none).1 ∙ ap is_lost outcome.said);
+      volumes = left.taken;
+      halted = λ why. is_broken_so ∙ left.broken why;
+      met = met;
+      not_met = not_met;
+    }
+
+    pub runs : (status : Status) (input : S) (output : K) → status ≡ status_of (failed_of last) broken too_long lost why → input ≡ input_of last → output ≡ sink_of parts.watch
+        → RunsOne source sink volumes most_input i o v (record { status = status; journal = parts.journal; first = parts.first; input = input; output = output; volumes = parts.volumes })
+    runs status input output is is_input is_output =
+        subst (λ (status : Status). RunsOne source sink volumes most_input i o v (record { status = status; journal = parts.journal; first = parts.first; input = input; output = output; volumes = parts.volumes })) (sym is)
+        (subst (λ (input : S). RunsOne source sink volumes most_input i o v (record { status = status_of (failed_of last) broken too_long lost why; journal = parts.journal; first = parts.first; input = input; output = output; volumes = parts.volumes })) (sym is_input)
+        (subst (λ (output : K). RunsOne source sink volumes most_input i o v (record { status = status_of (failed_of last) broken too_long lost why; journal = parts.journal; first = parts.first; input = input_of last; output = output; volumes = parts.volumes })) (sym is_output) (record {
+          status = has_status i o (source (input_of last)) (sink (sink_of parts.watch)) left.journal v.faults (volumes parts.volumes).faults last.extra (failed_of last) broken too_long lost why known;
+          journal = λ journal told.
+              subst (λ (entries : List (Entry ServerNote)). StandsFor most_input i o (source (input_of last)) (sink (sink_of parts.watch)) (code_of (status_of (failed_of last) broken too_long lost why)) entries)
+              (sym (told_is (terms_of_run i o v) v (volumes parts.volumes) left.first parts.first parts.journal.entries left.journal journal refl left.stand.volumes left.stand.first left.stand.journal told))
+              (stands_for i o (source (input_of last)) (sink (sink_of parts.watch)) left.journal v.faults (volumes parts.volumes).faults last.extra left.finished left.legal (failed_of last) broken too_long lost why known);
+        })))
+
+-- the terms say what the volumes of the reactor tell
+pub stands_with : {H M Q W V E : Type 0} (m : Meaning H M Q W V ServerNote E) (volumes : V → VolumesFacts ServerNote) (i : SourceFacts) (o : SinkFacts) (core : Core H M Q W V ServerNote E) (a b : V) → b ≡ a
+    → StandsIn m (terms_of_run i o (volumes a)) IsOpened core → StandsIn m (terms_of_run i o (volumes b)) IsOpened core
+stands_with m volumes i o core a b same stands = subst (λ volume. StandsIn m (terms_of_run i o (volumes volume)) IsOpened core) (sym same) stands

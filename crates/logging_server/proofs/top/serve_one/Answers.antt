@@ -1,0 +1,14 @@
+use Rattle.std.proofs.Common.{ℕ, ◌^◌, subst, sym, List}
+use Rattle.reactor_journal.specs.declared.entry.Entry.{Entry}
+use Rattle.log_handler.specs.declared.note.ServerNote.{ServerNote}
+use Rattle.logging_server.specs.Journals.{StandsFor}
+use Rattle.logging_server.proofs.top.serve_one.Goals as goal
+
+pub returns-clause-runs : goal.returns-clause-runs
+returns-clause-runs g c = record {
+  status = c.one-status.result.status;
+  code = c.code.ensures;
+  at = c.number.ensures;
+  has = c.one-status.ensures.status;
+  journal = λ journal told. subst (λ (code : ℕ). StandsFor (2 ^ 40) (g.S.Source.facts c.args.input) (g.K.Sink.facts c.args.output) (g.S.Source.facts c.one-status.result.input) (g.K.Sink.facts c.one-status.result.output) code journal) (sym c.code.ensures) (c.one-status.ensures.journal journal told);
+}

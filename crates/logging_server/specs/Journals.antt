@@ -1,0 +1,59 @@
+-- The journal of a run of the command `one`.
+use Rattle.std.specs.Prelude.{◌≡◌, ◌≢◌, ◌⊎◌, ℕ, Bool, true, List, [], ◌∷◌, ◌++◌, length, drop, Option, Some, None}
+use Rattle.ev_base.specs.Source.{SourceFacts}
+use Rattle.ev_base.specs.Sink.{SinkFacts}
+use Rattle.reactor_journal.specs.declared.entry.Entry.{Entry}
+use Rattle.reactor_journal.specs.declared.entry.Entry.TheVariants as entry
+use Rattle.reactor_journal.specs.Past.{past_of, opened, was_closed, all_below, ended}
+use Rattle.reactor_journal.specs.Follow.{Legal}
+use Rattle.reactor_model.specs.Volumes.{VolumesFacts}
+use Rattle.log_handler.specs.declared.note.ServerNote.{ServerNote}
+use Rattle.log_handler.specs.Notes.{journal_lines}
+use Rattle.one_run.specs.Phases.{first_entry, served_until_end}
+use Rattle.logging_server.specs.Written.{TookAll, TookFront}
+use Rattle.logging_server.specs.Outcome.{ComesTo}
+
+-- the entries that volumes tell that they took in a run, and those that are held
+abbrev pub IsTakenAndHeld : {N : Type 0} → Option (List (Entry N)) → Option (List (Entry N)) → List (Entry N) → List (Entry N) → Type 0
+IsTakenAndHeld (Some before) (Some after) held journal = journal ≡ drop (length before) after ++ held
+IsTakenAndHeld (Some before) None held journal = ⊥
+IsTakenAndHeld None after held journal = ⊥
+
+-- The journal of a run is told where the volumes tell what they took, before the run and after it; and where nothing was handed
+-- over, so that all entries are held.
+abbrev pub IsTold : VolumesFacts ServerNote → VolumesFacts ServerNote → ℕ → List (Entry ServerNote) → List (Entry ServerNote) → Type 0
+IsTold v w first held journal = IsTakenAndHeld v.taken w.taken held journal ⊎ ((first ≡ 0) × (journal ≡ held))
+
+-- The journal is legal for one live handler, the reactor was stopped, and every handle that was opened was closed.
+pub record IsOver (journal : List (Entry ServerNote)) : Type 0 where
+  pub legal : Legal journal 1
+  pub stopped : ended (past_of journal) ≡ true
+  pub closed : all_below (opened (past_of journal)) (was_closed (past_of journal)) ≡ true
+
+-- The one connection was opened on handle 0, to be read; and until the end there are only waits, reports, upcalls and closings.
+pub record ServesOne (journal : List (Entry ServerNote)) : Type 0 where
+  pub served : List (Entry ServerNote)
+  pub is : journal ≡ first_entry ∷ served
+  pub kinds : served_until_end served ≡ true
+
+-- no connection was opened, so the input was not read
+pub record OpensNothing (i j : SourceFacts) (journal : List (Entry ServerNote)) : Type 0 where
+  pub entries : (journal ≡ []) ⊎ (journal ≡ entry.Ended ∷ [])
+  pub bytes : j.bytes ≡ i.bytes
+  pub faults : j.faults ≡ i.faults
+
+-- the connection was served until it was closed
+pub record ServesConnection (limit : ℕ) (i j : SourceFacts) (journal : List (Entry ServerNote)) : Type 0 where
+  pub one : ServesOne journal
+  pub failed : Bool
+  pub comes_to : ComesTo limit failed i j journal
+
+-- What the journal of a run says, by the status with which it ended: the output has its lines, or a front of them where a write
+-- failed.
+pub record StandsFor (limit : ℕ) (i : SourceFacts) (o : SinkFacts) (j : SourceFacts) (p : SinkFacts) (code : ℕ) (journal : List (Entry ServerNote)) : Type 0 where
+  pub over : (journal ≡ []) ⊎ IsOver journal
+  pub some : code ≡ 0 → journal ≢ []
+  pub run : OpensNothing i j journal ⊎ ServesConnection limit i j journal
+  pub written : TookAll o (journal_lines journal) p ⊎ TookFront o (journal_lines journal) p
+  pub whole : code ≢ 3 → code ≢ 4 → TookAll o (journal_lines journal) p
+  pub broken : code ≡ 4 → TookFront o (journal_lines journal) p

@@ -1,0 +1,77 @@
+-- What became of the one connection of the command `one`, number 0, whose bytes are those of the input (C++NPv2 chapter 4: the
+-- networked logging server; how a connection ends is this project's own). The input told the facts i at the start of the run and
+-- tells j at its end.
+use Rattle.std.specs.Prelude.{◌≡◌, ◌≢◌, ◌≤◌, ◌+◌, ◌*◌, ◌⊎◌, ℕ, Bool, true, false, List, [], ◌∷◌, ◌++◌, length, flat_map, Option, Some, None}
+use Rattle.std.specs.List.{sum_by, AllByRecursion}
+use Rattle.ev_base.specs.Bytes.{ReaderBytes, MovesOn, NothingLeft}
+use Rattle.ev_base.specs.Source.{SourceFacts}
+use Rattle.cdr_record.specs.declared.record.LogRecord.{LogRecord}
+use Rattle.cdr_record.specs.Decoding.{Clean, Partial, Malformed, decode}
+use Rattle.sink_buffer.specs.Written.{IsPrefixOf}
+use Rattle.log_lines.specs.declared.end_kind.EndKind.{EndKind}
+use Rattle.log_lines.specs.declared.end_kind.EndKind.TheVariants as end
+use Rattle.log_lines.specs.Texts.{record_lines, closing_line}
+use Rattle.reactor_journal.specs.declared.entry.Entry.{Entry}
+use Rattle.log_handler.specs.declared.note.ServerNote.{ServerNote}
+use Rattle.log_handler.specs.declared.note.ServerNote.TheVariants as note
+use Rattle.log_handler.specs.Laws.{took_of, records_of_note}
+use Rattle.one_net.specs.OneKeeps.{FaultsSince}
+use Rattle.one_run.specs.Phases.{notes_in}
+
+-- the lines of the records of some bytes, and a closing line
+abbrev pub lines_of : List ℕ → EndKind → List ℕ
+lines_of bytes word = record_lines 0 (decode bytes).records ++ closing_line 0 word
+
+-- where the bytes are told, this holds
+abbrev pub WhereBytesAreTold : Option ReaderBytes → Type 0 → Type 0
+WhereBytesAreTold None P = Unit {0}
+WhereBytesAreTold (Some bytes) P = P
+
+-- a note of what a turn of connection 0 took
+abbrev pub IsPiece : ServerNote → Type 0
+IsPiece said = (took : ℕ) × (records : List LogRecord) × (said ≡ note.Piece 0 took records)
+
+-- no read failed, and no byte was met behind the limit
+abbrev pub IsSound : Bool → List ℕ → Type 0
+IsSound failed extra = (failed ≡ false) × (extra ≡ [])
+
+-- What stands behind the word with which the connection was closed, which took these bytes, met `extra` behind the limit, and
+-- noted the records of `decoded`: `end` and `partial` only where nothing is left of the input and reading stops so, `malformed` only
+-- where reading stops there, `failed` only where a read failed or a byte was met behind the limit, and `stopped` where the run was
+-- halted. For want of memory the records of the last bytes may lack.
+abbrev pub IsClosedWith : Option ReaderBytes → Bool → List ℕ → List ℕ → List ℕ → EndKind → Type 0
+IsClosedWith left failed taken extra decoded end.End = (decoded ≡ taken) × ((decode taken).stop ≡ Clean) × NothingLeft left × IsSound failed extra
+IsClosedWith left failed taken extra decoded (end.Partial n) = (decoded ≡ taken) × ((decode taken).stop ≡ Partial n) × NothingLeft left × IsSound failed extra
+IsClosedWith left failed taken extra decoded (end.Malformed at) = (decoded ≡ taken) × ((decode taken).stop ≡ Malformed at) × IsSound failed extra
+IsClosedWith left failed taken extra decoded end.Failed = (decoded ≡ taken) × ((failed ≡ true) ⊎ (extra ≢ []))
+IsClosedWith left failed taken extra decoded end.NoMemory = IsPrefixOf decoded taken × IsSound failed extra
+IsClosedWith left failed taken extra decoded end.Stopped = (decoded ≡ taken) × IsSound failed extra
+IsClosedWith left failed taken extra decoded end.Idle = ⊥
+IsClosedWith left failed taken extra decoded end.Refused = ⊥
+
+-- the connection took these bytes of the input, whose next is `extra` where one was met behind the limit
+pub record TakesInput (limit : ℕ) (failed : Bool) (i : SourceFacts) (j : SourceFacts) (taken extra : List ℕ) : Type 0 where
+  pub moves : MovesOn i.bytes (taken ++ extra) j.bytes
+  pub within : WhereBytesAreTold i.bytes (length taken ≤ limit)
+  pub behind : extra ≢ [] → WhereBytesAreTold i.bytes ((length taken ≡ limit) × (length extra ≡ 1))
+  pub faults : FaultsSince failed i.faults j.faults
+
+-- The connection, as a journal tells it: it took as many bytes as its notes say, which have the records of `decoded`, and one note
+-- more, the last, tells that it was closed with this word.
+pub record TellsConnection (journal : List (Entry ServerNote)) (taken decoded : List ℕ) (word : EndKind) : Type 0 where
+  pub pieces : List ServerNote
+  pub notes : notes_in journal ≡ pieces ++ note.Finished 0 word ∷ []
+  pub of_it : AllByRecursion IsPiece pieces
+  pub took : sum_by took_of pieces ≡ length taken
+  pub records : flat_map records_of_note pieces ≡ (decode decoded).records
+  pub entries : length journal ≤ 2 * length taken + 16
+
+-- The run of the connection up to its closing.
+pub record ComesTo (limit : ℕ) (failed : Bool) (i j : SourceFacts) (journal : List (Entry ServerNote)) : Type 0 where
+  pub taken : List ℕ
+  pub extra : List ℕ
+  pub decoded : List ℕ
+  pub word : EndKind
+  pub takes : TakesInput limit failed i j taken extra
+  pub closed : IsClosedWith j.bytes failed taken extra decoded word
+  pub tells : TellsConnection journal taken decoded word

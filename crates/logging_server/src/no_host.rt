@@ -1,0 +1,48 @@
+//! A host without a network.
+ghost use Rattle.std.specs.Prelude.{◌≡◌};
+
+use demux::{PlayEnd, PlayNet};
+use ev_base::{Host, ListenRefused, Wake};
+use std::alloc::Global;
+
+/// A host without a network: each `listen` fails.
+#[derive(Drop)]
+pub struct NoHost {
+    faults: u64,
+}
+
+/// What wakes nothing.
+#[derive(Clone, Copy, Debug)]
+pub struct NoWaker;
+
+impl Wake for NoWaker {
+    fn wake(&self) {}
+}
+
+impl NoHost {
+    /// A host on which nothing failed yet.
+    pub fn new() -> NoHost {
+        NoHost { faults: 0 }
+    }
+}
+
+impl Host for NoHost {
+    type End = PlayEnd;
+
+    type Net = PlayNet;
+
+    type Waker = NoWaker;
+
+    ghost faults = { λ host. host.faults };
+
+    ghost keeps = { λ t host. Unit {0} };
+
+    fn listen(
+        &mut self,
+        _alloc: Global,
+        _port: u16,
+    ) -> Result<(PlayNet, PlayEnd, NoWaker), ListenRefused> {
+        self.faults = self.faults.saturating_add(1);
+        Err(ListenRefused::Failed)
+    }
+}

@@ -1,0 +1,74 @@
+//! How a run ends.
+ghost use Rattle.std.specs.Prelude.{◌≡◌};
+ghost use Rattle.logging_server.specs.Statuses.{code_of, number_of};
+ghost use Rattle.logging_server.specs.Ran.{status_of};
+
+use one_run::{Ending, Halt};
+
+/// How a run ended.
+#[derive(Clone, Copy, PartialEq, Eq, Debug)]
+pub(crate) enum Status {
+    Done,
+    Usage,
+    ReadFault,
+    WriteFault,
+    NoMemory,
+    TooLong,
+    VolumeFault,
+}
+
+/// What went wrong outside a run: with its input, or with its output.
+#[derive(Clone, Copy, Debug)]
+pub(crate) struct Faults {
+    /// A read failed.
+    pub failed: bool,
+    /// A write failed.
+    pub broken: bool,
+    /// A byte follows the last that may be read.
+    pub too_long: bool,
+}
+
+impl Status {
+    /// The number that the program ends with.
+    pub(crate) fn code(self) -> u8
+        ensures { result ≡ code_of self }
+    {
+        match self {
+            Status::Done => 0,
+            Status::Usage => 1,
+            Status::ReadFault => 3,
+            Status::WriteFault => 4,
+            Status::NoMemory => 6,
+            Status::TooLong => 11,
+            Status::VolumeFault => 12,
+        }
+    }
+
+    /// The number that goes with it: how many bytes were read, where there were too many, else 0.
+    pub(crate) fn number(self, limit: u64) -> u64
+        ensures { result ≡ number_of limit self }
+    {
+        match self {
+            Status::TooLong => limit,
+            _ => 0,
+        }
+    }
+
+    /// The least of those of a run's faults.
+    pub(crate) fn least(faults: Faults, ending: Ending) -> Status
+        ensures { result ≡ status_of faults.failed faults.broken faults.too_long ending.lost ending.halt }
+    {
+        if faults.failed {
+            return Status::ReadFault;
+        }
+        if faults.broken {
+            return Status::WriteFault;
+        }
+        match (ending.lost, ending.halt) {
+            (true, _) | (false, Some(Halt::NoMemory)) => Status::NoMemory,
+            _ if faults.too_long => Status::TooLong,
+            (false, None) => Status::Done,
+            _ => Status::VolumeFault,
+        }
+    }
+}
