@@ -69,15 +69,15 @@ held-length now held put h = ap length h ∙ length-append held put
 -- bytes were put, room was made, and more were copied
 pub stands-more : {K : Type 0} (facts : K → SinkFacts) (old room new : SinkBuffer K) (put more : List ℕ) (since : Since K) → 1 ≤ length more →
     ((start : SinkFacts) (text : List ℕ) → Gathers facts start old text → Gathers facts start room text) →
-    (length (held_of old) < 294912 → held_of room ≡ held_of old) → (length (held_of old) < 294912 → output_of room ≡ output_of old) →
+    (length (held_of old) < 8192 → held_of room ≡ held_of old) → (length (held_of old) < 8192 → output_of room ≡ output_of old) →
     held_of new ≡ held_of room ++ more → output_of new ≡ output_of room → is_broken new ≡ is_broken room →
     HasPut facts since old put → HasPut facts since new (put ++ more)
 stands-more facts old room new put more (Told start) some text held output copied below broken h =
     gathers-more facts start room new put more copied below broken (text start put h)
 stands-more facts old room new put more (Held first front) some text held output copied below broken h = record {
-  fits = λ (fits : length front + length (put ++ more) ≤ 294912).
+  fits = λ (fits : length front + length (put ++ more) ≤ 8192).
       let before = h.fits (omega (arith, fits, length-append put more)) in
-      let free : length (held_of old) < 294912 = omega (arith, fits, some, length-append put more, held-length (held_of old) front put before.0) in (
+      let free : length (held_of old) < 8192 = omega (arith, fits, some, length-append put more, held-length (held_of old) front put before.0) in (
         copied ∙ ap (λ xs. xs ++ more) (held free ∙ before.0) ∙ append_assoc front put more,
         below ∙ output free ∙ before.1,
       );

@@ -31,7 +31,7 @@ pub record Gathers {K : Type 0} (facts : K → SinkFacts) (start : SinkFacts) (b
 -- Since these bytes were held back and the sink below was this: where there was room for what was put, it is held back behind
 -- them, and nothing was written.
 pub record Holds {K : Type 0} (output : K) (held : List ℕ) (buffer : SinkBuffer K) (put : List ℕ) : Type 0 where
-  pub fits : length held + length put ≤ 294912 → (held_of buffer ≡ held ++ put) × (output_of buffer ≡ output)
+  pub fits : length held + length put ≤ 8192 → (held_of buffer ≡ held ++ put) × (output_of buffer ≡ output)
 
 -- what was put is counted since the sink told some facts, or since it was this and these bytes were held back
 pub data Since (K : Type 0) : Type 0 where

@@ -6,20 +6,19 @@ ghost use Rattle.sink_buffer.specs.Written.{WritesAll};
 use crate::TextOut;
 use ev_base::{Sink, Wrote};
 
-/// How many bytes are gathered before a write: 288 KiB. The lines of the records that a piece of 4,096 bytes of input completes
-/// fit, whatever they are: four bytes for each byte of the piece and of an unfinished record before it, which has fewer than
-/// 65,568, are 278,656.
-const SIZE: usize = 294_912;
+/// How many bytes are gathered before a write: 8 KiB. Short lines are written together; a line that is longer is written in several
+/// writes.
+const SIZE: usize = 8_192;
 
-/// A sink that gathers what is put into it in a fixed buffer of 294,912 bytes. It writes the buffer when more is put than there is
-/// room for, and when it is flushed, and takes no memory. Once a write failed it writes nothing more.
+/// A sink that gathers what is put into it in a fixed buffer of 8,192 bytes. It writes the buffer each time it is full and more is
+/// put, and when it is flushed, and takes no memory. Once a write failed it writes nothing more.
 #[derive(Drop)]
 pub struct SinkBuffer<K> {
     output: K,
     bytes: [u8; SIZE],
     held: usize,
     broken: bool,
-    ghost within: { held ≤ 294912 },
+    ghost within: { held ≤ 8192 },
 }
 
 impl<K: Sink> SinkBuffer<K> {
@@ -43,9 +42,9 @@ impl<K: Sink> SinkBuffer<K> {
     /// Writes what is held where the buffer is full.
     fn make_room(&mut self)
         ensures text { (start : SinkFacts) (put : List ℕ) → Gathers K.facts start self.old put → Gathers K.facts start self.new put }
-        ensures room { self.new.held < 294912 }
-        ensures held { length (held_of self.old) < 294912 → held_of self.new ≡ held_of self.old }
-        ensures output { length (held_of self.old) < 294912 → output_of self.new ≡ output_of self.old }
+        ensures room { self.new.held < 8192 }
+        ensures held { length (held_of self.old) < 8192 → held_of self.new ≡ held_of self.old }
+        ensures output { length (held_of self.old) < 8192 → output_of self.new ≡ output_of self.old }
     {
         if self.held >= SIZE {
             self.flush();
@@ -54,8 +53,8 @@ impl<K: Sink> SinkBuffer<K> {
 
     /// Copies what there is room for, and tells how much that was.
     fn fill(&mut self, bytes: &[u8]) -> usize
-        requires { self.old.held < 294912 }
-        ensures count { result ≡ min (length bytes.now) (294912 - self.old.held) }
+        requires { self.old.held < 8192 }
+        ensures count { result ≡ min (length bytes.now) (8192 - self.old.held) }
         ensures held { held_of self.new ≡ held_of self.old ++ take result bytes.now }
         ensures output { output_of self.new ≡ output_of self.old }
         ensures broken { is_broken self.new ≡ is_broken self.old }
