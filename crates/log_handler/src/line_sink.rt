@@ -1,5 +1,5 @@
 //! The watch that writes the lines of a journal's notes.
-ghost use Rattle.std.specs.Prelude.{◌≡◌, ◌++◌, ℕ, List, [], Some, MatchOption, false};
+ghost use Rattle.std.specs.Prelude.{◌≡◌, ◌≤◌, ◌+◌, ◌++◌, ℕ, List, [], Some, MatchOption, false, length};
 ghost use Rattle.ev_base.specs.Terms.{Terms};
 ghost use Rattle.ev_base.specs.Sink.{SinkFacts};
 ghost use Rattle.sink_buffer.specs.Texts.{Puts};
@@ -14,8 +14,8 @@ use reactor_model::Watch;
 use sink_buffer::{SinkBuffer, TextOut};
 
 /// A watch that writes the lines of the notes of a journal as its entries are appended. It gathers the lines of a note in a fixed
-/// buffer, which has room for those of any piece of 4,096 bytes, and writes them together. It takes no memory, and writes nothing
-/// more once a write failed.
+/// buffer of 8,192 bytes: where they fit, they are written together, and else each time the buffer is full. It takes no memory, and
+/// writes nothing more once a write failed.
 #[derive(Drop)]
 pub struct LineSink<K> {
     buffer: SinkBuffer<K>,
@@ -49,8 +49,18 @@ impl<K: Sink> LineSink<K> {
             → Gathers K.facts start self.new.buffer (put ++ note_lines note.now) }
         ensures held { held_of self.new.buffer ≡ [] }
     {
-        put_note(&mut self.buffer, note);
+        self.hold_note(note);
         self.buffer.flush();
+    }
+
+    /// Puts the lines of a note. Where the buffer has room for all of them, it holds them, and nothing is written.
+    fn hold_note(&mut self, note: &ServerNote)
+        ensures text { (start : SinkFacts) (put : List ℕ) → Gathers K.facts start self.old.buffer put
+            → Gathers K.facts start self.new.buffer (put ++ note_lines note.now) }
+        ensures together { length (held_of self.old.buffer) + length (note_lines note.now) ≤ 8192
+            → (held_of self.new.buffer ≡ held_of self.old.buffer ++ note_lines note.now) × (sink_of self.new ≡ sink_of self.old) }
+    {
+        put_note(&mut self.buffer, note);
     }
 }
 
