@@ -38,13 +38,13 @@ use Rattle.one_run.specs.declared.opening.Unopened.{Unopened}
 use Rattle.one_run.specs.declared.serving.Halt.{Halt}
 use Rattle.one_run.specs.declared.serving.Halt.TheVariants as halt
 use Rattle.logging_server.specs.Written.{TookAll, TookFront, IsWritten}
-use Rattle.logging_server.specs.Outcome.{lines_of, IsClosedWith, TakesInput, ComesTo}
+use Rattle.logging_server.specs.Outcome.{lines_of, IsReadToEnd, IsClosedWith, TakesInput, ComesTo}
 use Rattle.logging_server.specs.Journals.{IsTold, IsTakenAndHeld, IsOver, StandsFor}
 use Rattle.logging_server.specs.Statuses.{IsMalformed, DecodesLeft, HasLines, IsDone, IsReadFault, IsWriteFault, IsNoMemory, IsTooLong, IsVolumeFault, HasStatus, code_of}
 use Rattle.logging_server.specs.Ran.{RunsOne, status_without_fault, status_of}
 use Rattle.logging_server.specs.declared.status.Status.{Status}
 use Rattle.logging_server.specs.declared.status.Status.TheVariants as status
-use Rattle.logging_server.proofs.Journals.{finished_is_over, end_is_over}
+use Rattle.logging_server.proofs.Journals.{finished_is_over, finished_refuses_none, none_handed_over, end_is_over}
 
 -- ---- what was written
 
@@ -89,45 +89,49 @@ same_stop taken more (Partial n) e m = absurd m
 same_stop taken more (Malformed at) e m = sym (bad_ends taken more at e)
 
 -- the bytes taken are read as all that were left
-decodes-left : (a b : Option ReaderBytes) (taken : List ℕ) → MovesOn a (taken ++ []) b → IsMalformed (decode taken).stop ⊎ NothingLeft b → DecodesLeft a taken
-decodes-left None b taken p q = tt
-decodes-left (Some a) None taken p q = absurd p
-decodes-left (Some a) (Some b) taken p (inl bad) = same_stop taken b.left (decode taken).stop refl bad ∙ ap decode (ap (λ (xs : List ℕ). xs ++ b.left) (sym (append-nil taken)) ∙ sym p.0)
-decodes-left (Some a) (Some b) taken p (inr none) = ap decode (sym (append-nil taken) ∙ (sym (append-nil (taken ++ [])) ∙ (ap (λ (xs : List ℕ). (taken ++ []) ++ xs) (sym none) ∙ sym p.0)))
+by_bytes : (a b : Option ReaderBytes) (taken : List ℕ) → MovesOn a (taken ++ []) b → IsMalformed (decode taken).stop ⊎ NothingLeft b → DecodesLeft a taken
+by_bytes None b taken p q = tt
+by_bytes (Some a) None taken p q = absurd p
+by_bytes (Some a) (Some b) taken p (inl bad) = same_stop taken b.left (decode taken).stop refl bad ∙ ap decode (ap (λ (xs : List ℕ). xs ++ b.left) (sym (append-nil taken)) ∙ sym p.0)
+by_bytes (Some a) (Some b) taken p (inr none) = ap decode (sym (append-nil taken) ∙ (sym (append-nil (taken ++ [])) ∙ (ap (λ (xs : List ℕ). (taken ++ []) ++ xs) (sym none) ∙ sym p.0)))
+
+decodes-left : (a : Option ReaderBytes) (j : SourceFacts) (taken : List ℕ) → MovesOn a (taken ++ []) j.bytes → IsMalformed (decode taken).stop ⊎ IsReadToEnd j → DecodesLeft a taken
+decodes-left a j taken p (inl bad) = by_bytes a j.bytes taken p (inl bad)
+decodes-left a j taken p (inr read) = by_bytes a j.bytes taken p (inr read.nothing_left)
 
 -- the word of a connection whose input failed
 abbrev IsFailing : List ℕ → List ℕ → EndKind → Type 0
 IsFailing taken decoded word = (word ≡ kind.Failed) × (decoded ≡ taken)
 
-failed_word : (left : Option ReaderBytes) (failed : Bool) (taken extra decoded : List ℕ) (word : EndKind) → IsClosedWith left failed taken extra decoded word → ((failed ≡ false) × (extra ≡ []) → ⊥) → IsFailing taken decoded word
-failed_word left failed taken extra decoded kind.End closed unsound = absurd (unsound closed.3)
-failed_word left failed taken extra decoded (kind.Partial n) closed unsound = absurd (unsound closed.3)
-failed_word left failed taken extra decoded (kind.Malformed at) closed unsound = absurd (unsound closed.2)
-failed_word left failed taken extra decoded kind.Failed closed unsound = (refl, closed.0)
-failed_word left failed taken extra decoded kind.NoMemory closed unsound = absurd (unsound closed.1)
-failed_word left failed taken extra decoded kind.Stopped closed unsound = absurd (unsound closed.1)
-failed_word left failed taken extra decoded kind.Idle closed unsound = absurd closed
-failed_word left failed taken extra decoded kind.Refused closed unsound = absurd closed
+failed_word : (j : SourceFacts) (failed : Bool) (taken extra decoded : List ℕ) (word : EndKind) → IsClosedWith j failed taken extra decoded word → ((failed ≡ false) × (extra ≡ []) → ⊥) → IsFailing taken decoded word
+failed_word j failed taken extra decoded kind.End closed unsound = absurd (unsound closed.3)
+failed_word j failed taken extra decoded (kind.Partial n) closed unsound = absurd (unsound closed.3)
+failed_word j failed taken extra decoded (kind.Malformed at) closed unsound = absurd (unsound closed.2)
+failed_word j failed taken extra decoded kind.Failed closed unsound = (refl, closed.0)
+failed_word j failed taken extra decoded kind.NoMemory closed unsound = absurd (unsound closed.1)
+failed_word j failed taken extra decoded kind.Stopped closed unsound = absurd (unsound closed.1)
+failed_word j failed taken extra decoded kind.Idle closed unsound = absurd closed
+failed_word j failed taken extra decoded kind.Refused closed unsound = absurd closed
 
 -- a connection that ended itself, with memory and without a fault, ended as reading stopped
-record EndsAsRead (left : Option ReaderBytes) (taken decoded : List ℕ) (word : EndKind) : Type 0 where
+record EndsAsRead (j : SourceFacts) (taken decoded : List ℕ) (word : EndKind) : Type 0 where
   same : decoded ≡ taken
   word_is : word ≡ end_of (decode taken).stop
-  all : IsMalformed (decode taken).stop ⊎ NothingLeft left
+  all : IsMalformed (decode taken).stop ⊎ IsReadToEnd j
 
-done_word : (left : Option ReaderBytes) (taken decoded : List ℕ) (word : EndKind) → IsClosedWith left false taken [] decoded word → (word ≡ kind.Stopped → ⊥) → is_lost (note.Finished 0 word) ≡ false → EndsAsRead left taken decoded word
-done_word left taken decoded kind.End closed own kept = record { same = closed.0; word_is = ap end_of (sym closed.1); all = inr closed.2 }
-done_word left taken decoded (kind.Partial n) closed own kept = record { same = closed.0; word_is = ap end_of (sym closed.1); all = inr closed.2 }
-done_word left taken decoded (kind.Malformed at) closed own kept = record { same = closed.0; word_is = ap end_of (sym closed.1); all = inl (subst IsMalformed (sym closed.1) tt) }
-done_word left taken decoded kind.Failed closed own kept = absurd (none_of closed.1)
+done_word : (j : SourceFacts) (taken decoded : List ℕ) (word : EndKind) → IsClosedWith j false taken [] decoded word → (word ≡ kind.Stopped → ⊥) → is_lost (note.Finished 0 word) ≡ false → EndsAsRead j taken decoded word
+done_word j taken decoded kind.End closed own kept = record { same = closed.0; word_is = ap end_of (sym closed.1); all = inr closed.2 }
+done_word j taken decoded (kind.Partial n) closed own kept = record { same = closed.0; word_is = ap end_of (sym closed.1); all = inr closed.2 }
+done_word j taken decoded (kind.Malformed at) closed own kept = record { same = closed.0; word_is = ap end_of (sym closed.1); all = inl (subst IsMalformed (sym closed.1) tt) }
+done_word j taken decoded kind.Failed closed own kept = absurd (none_of closed.1)
   where
     none_of : (false ≡ true) ⊎ (◌≢◌ {A = List ℕ} [] []) → ⊥
     none_of (inl q) = false≢true q
     none_of (inr some) = some refl
-done_word left taken decoded kind.NoMemory closed own kept = absurd (false≢true (sym kept))
-done_word left taken decoded kind.Stopped closed own kept = absurd (own refl)
-done_word left taken decoded kind.Idle closed own kept = absurd closed
-done_word left taken decoded kind.Refused closed own kept = absurd closed
+done_word j taken decoded kind.NoMemory closed own kept = absurd (false≢true (sym kept))
+done_word j taken decoded kind.Stopped closed own kept = absurd (own refl)
+done_word j taken decoded kind.Idle closed own kept = absurd closed
+done_word j taken decoded kind.Refused closed own kept = absurd closed
 
 one_more : (extra : Option ℕ) → option_to_list extra ≢ [] → (more : ℕ) × (option_to_list extra ≡ more ∷ [])
 one_more None some = absurd (some refl)
@@ -157,7 +161,7 @@ module _ (i : SourceFacts) (o : SinkFacts) (j : SourceFacts) (p : SinkFacts) (h 
   read_fault broken too_long lost why k = record { taken = k.run.taken; extra = k.run.extra; takes = k.run.takes; written = by broken k.written }
     where
       failing : IsFailing k.run.taken k.run.decoded k.run.word
-      failing = failed_word j.bytes true k.run.taken k.run.extra k.run.decoded k.run.word k.run.closed (λ sound. false≢true (sym sound.0))
+      failing = failed_word j true k.run.taken k.run.extra k.run.decoded k.run.word k.run.closed (λ sound. false≢true (sym sound.0))
 
       text : journal_lines h ≡ lines_of k.run.taken kind.Failed
       text = k.lines ∙ (ap (λ (word : EndKind). lines_of k.run.decoded word) failing.0 ∙ ap (λ (bytes : List ℕ). lines_of bytes kind.Failed) failing.1)
@@ -173,7 +177,7 @@ module _ (i : SourceFacts) (o : SinkFacts) (j : SourceFacts) (p : SinkFacts) (h 
   too_much lost why k =
       let behind = one_more extra (k.met refl) in
       let is : k.run.extra ≡ behind.0 ∷ [] = k.extra_is ∙ behind.1 in
-      let failing = failed_word j.bytes false k.run.taken k.run.extra k.run.decoded k.run.word k.run.closed (λ sound. k.met refl (sym k.extra_is ∙ sound.1)) in
+      let failing = failed_word j false k.run.taken k.run.extra k.run.decoded k.run.word k.run.closed (λ sound. k.met refl (sym k.extra_is ∙ sound.1)) in
       let text : journal_lines h ≡ lines_of k.run.taken kind.Failed = k.lines ∙ (ap (λ (word : EndKind). lines_of k.run.decoded word) failing.0 ∙ ap (λ (bytes : List ℕ). lines_of bytes kind.Failed) failing.1) in
       record {
         taken = k.run.taken;
@@ -186,14 +190,14 @@ module _ (i : SourceFacts) (o : SinkFacts) (j : SourceFacts) (p : SinkFacts) (h 
   done k =
       let none : k.run.extra ≡ [] = k.extra_is ∙ k.not_met refl in
       let takes = subst (λ (extra : List ℕ). TakesInput most_input false i j k.run.taken extra) none k.run.takes in
-      let closed = subst (λ (extra : List ℕ). IsClosedWith j.bytes false k.run.taken extra k.run.decoded k.run.word) none k.run.closed in
-      let ends = done_word j.bytes k.run.taken k.run.decoded k.run.word closed (k.closed refl).0 (sym (k.closed refl).1) in
+      let closed = subst (λ (extra : List ℕ). IsClosedWith j false k.run.taken extra k.run.decoded k.run.word) none k.run.closed in
+      let ends = done_word j k.run.taken k.run.decoded k.run.word closed (k.closed refl).0 (sym (k.closed refl).1) in
       let text : journal_lines h ≡ lines_of k.run.taken (end_of (decode k.run.taken).stop) = k.lines ∙ (ap (λ (word : EndKind). lines_of k.run.decoded word) ends.word_is ∙ ap (λ (bytes : List ℕ). lines_of bytes (end_of (decode k.run.taken).stop)) ends.same) in
       record {
         taken = k.run.taken;
         takes = takes;
         all = ends.all;
-        decodes = decodes-left i.bytes j.bytes k.run.taken takes.moves ends.all;
+        decodes = decodes-left i.bytes j k.run.taken takes.moves ends.all;
         written = subst (λ (text : List ℕ). TookAll o text p) text k.written;
       }
 
@@ -234,7 +238,7 @@ module _ (i : SourceFacts) (o : SinkFacts) (j : SourceFacts) (p : SinkFacts) (h 
   stands_for f legal failed broken too_long lost why k = record {
     over = inr (finished_is_over h legal f);
     some = λ code. not_empty first_entry h f.served f.is;
-    run = inr (record { one = record { served = f.served; is = f.is; kinds = f.kinds }; failed = failed; comes_to = k.run });
+    run = inr (record { one = record { served = f.served; is = f.is; kinds = f.kinds; none_refused = finished_refuses_none h legal f }; failed = failed; comes_to = k.run });
     written = either broken k.written;
     whole = λ not_three not_four. all failed broken k.written not_three not_four;
     broken = λ code. front failed broken k.written code;
@@ -328,6 +332,7 @@ unbegun source sink volumes input output left status is leaves = record {
       (subst (λ (entries : List (Entry ServerNote)). StandsFor most_input (source input) (sink output) (source left.input) (sink left.output) (code_of (status_unbegun left.broken)) entries)
       (sym (held_is (volumes left.volumes) left.journal.entries journal told))
       (unbegun_stands (source input) (sink output) (source left.input) (sink left.output) left.journal.entries left.broken leaves.bytes leaves.faults written leaves.journal));
+  first = none_handed_over (volumes left.volumes).taken;
 }
   where
     written : IsWritten left.broken (sink output) [] (sink left.output)

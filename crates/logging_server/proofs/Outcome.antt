@@ -1,15 +1,15 @@
 -- What became of the one connection, by what its end and its turns tell.
 use Rattle.std.proofs.Common.{ℕ, ◌≡◌, ◌≢◌, ◌≤◌, ◌+◌, ◌*◌, ◌⊎◌, inl, inr, Bool, true, false, List, [], ◌∷◌, ◌++◌, length, map, refl, sym, ap, ◌∙◌, subst, arith, Option, Some, None}
-use Rattle.std.specs.Prelude.{flat_map}
+use Rattle.std.specs.Prelude.{flat_map, nat_lt, is_none, ◌&&◌}
 use Rattle.std.specs.Option.{option_to_list}
 use Rattle.std.specs.List.{sum_by}
-use Rattle.std.proofs.lemmas.Bool.{false≢true}
+use Rattle.std.proofs.lemmas.Bool.{false≢true, and_parts}
 use Rattle.std.proofs.lemmas.List.{append-nil}
 use Rattle.std.proofs.lemmas.List.Sums.{sum_by-cons}
 use Rattle.std.proofs.lemmas.Grind.{flat_map-append}
 use Rattle.ev_types.specs.declared.upcall.Why.{Why}
 use Rattle.ev_types.specs.declared.upcall.Why.TheVariants.{Own, Removed, Refused}
-use Rattle.ev_base.specs.Bytes.{ReaderBytes, MovesOn, HasGiven, NothingLeft}
+use Rattle.ev_base.specs.Bytes.{ReaderBytes, MovesOn, HasGiven}
 use Rattle.ev_base.specs.Source.{SourceFacts}
 use Rattle.ev_base.specs.Sink.{SinkFacts}
 use Rattle.ev_base.specs.Terms.{Terms}
@@ -29,12 +29,12 @@ use Rattle.log_handler.specs.Connection.{Progress, is_idle}
 use Rattle.log_handler.specs.Connections.{ConnectionGone, HasFaults, IsClosing, found_end}
 use Rattle.log_handler.specs.Laws.{Accounts, CoursesAccount, EndedSo, HasRecords, WasIdle, records_of_note, records_in, took_of, took_in, took_last, last_turn}
 use Rattle.one_net.specs.declared.one_end.OneEnd.{OneEnd}
-use Rattle.one_net.specs.OneEnd.{one_end_facts, given_by, given_of, end_bytes, extra_of, failed_of, input_of, count_of}
+use Rattle.one_net.specs.OneEnd.{one_end_facts, is_over, given_by, given_of, end_bytes, extra_of, failed_of, input_of, count_of}
 use Rattle.one_net.specs.OneKeeps.{OneEndKeeps, FaultsSince, IsCountOf, most_input, bytes_at_start}
 use Rattle.one_run.specs.Phases.{EndsBy, AllReadOn, IsFinished, note_of, notes_in, turns_in}
 use Rattle.one_run.specs.Opening.{StartsRun}
 use Rattle.one_run.proofs.Leaves.{finished_notes}
-use Rattle.logging_server.specs.Outcome.{lines_of, WhereBytesAreTold, IsSound, IsClosedWith, TakesInput, TellsConnection, ComesTo}
+use Rattle.logging_server.specs.Outcome.{lines_of, WhereBytesAreTold, IsReadToEnd, IsClosedWith, TakesInput, TellsConnection, ComesTo}
 use Rattle.logging_server.proofs.Courses.{reads_on, few_turns}
 use Rattle.logging_server.proofs.Lines.{lines_by_notes, lines_of_pieces, pieces_of, records_of_turns}
 
@@ -63,10 +63,14 @@ one_byte (Some byte) some = refl
 -- ---- how it was closed
 
 -- how the connection was closed, by the word
-record Closes (left : Option ReaderBytes) (failed : Bool) (taken extra : List ℕ) (records : List LogRecord) (word : EndKind) : Type 0 where
+record Closes (j : SourceFacts) (failed : Bool) (taken extra : List ℕ) (records : List LogRecord) (word : EndKind) : Type 0 where
   decoded : List ℕ
-  closed : IsClosedWith left failed taken extra decoded word
+  closed : IsClosedWith j failed taken extra decoded word
   told : records ≡ (decode decoded).records
+
+-- an end that told that it was over has a source that is
+source_over : (reads : ℕ) (extra : Option ℕ) (over : Bool) → is_over reads extra over ≡ true → over ≡ true
+source_over reads extra over is = (and_parts (is_none extra) over (and_parts (nat_lt 0 reads) (is_none extra && over) is).1).1
 
 never_idle : (last : ℕ) (turn : Option (Item ServerNote)) → WasIdle None last turn → ⊥
 never_idle last None was = was
@@ -74,10 +78,10 @@ never_idle last (Some item) was = false≢true was
 
 module _ {S : Type 0} (source : S → SourceFacts) (t : Terms) (end : OneEnd S) (keeps : OneEndKeeps source t end) (p : Progress) (records : List LogRecord) (lost : ℕ) where
   abbrev Closed : EndKind → Type 0
-  Closed word = Closes (source (input_of end)).bytes (failed_of end) p.taken (extra_of end) records word
+  Closed word = Closes (source (input_of end)) (failed_of end) p.taken (extra_of end) records word
 
-  at_over : found_end p.last_read ≡ true → (one_end_facts source end).over ≡ found_end p.last_read → NothingLeft (source (input_of end)).bytes
-  at_over found over = (keeps.at_end (over ∙ found)).0
+  at_over : found_end p.last_read ≡ true → (one_end_facts source end).over ≡ found_end p.last_read → IsReadToEnd (source (input_of end))
+  at_over found over = record { over = source_over end.reads end.extra (source (input_of end)).over (over ∙ found); nothing_left = (keeps.at_end (over ∙ found)).0 }
 
   closes_itself : (turn : Option (Item ServerNote)) (word : EndKind) → EndedSo None turn p (Some word) → HasRecords records lost p.taken (Some word) → HasFaults (Some word) (one_end_facts source end).faults
       → (one_end_facts source end).over ≡ found_end p.last_read → Closed word
@@ -175,7 +179,7 @@ module _ {S : Type 0} (source : S → SourceFacts) (t : Terms) (i : SourceFacts)
     faults = gone.kept_end.source_faults i.faults faults;
   }
 
-  closed : Closes (source (input_of end)).bytes (failed_of end) gone.served.now.taken (extra_of end) (flat_map records_in (turns_in f.closed.before)) gone.word
+  closed : Closes (source (input_of end)) (failed_of end) gone.served.now.taken (extra_of end) (flat_map records_in (turns_in f.closed.before)) gone.word
   closed =
       closes source t end gone.kept_end gone.served.now (flat_map records_in (turns_in f.closed.before)) (took_last (last_turn (turns_in f.closed.before))) (last_turn (turns_in f.closed.before)) f.closed.reason
       (turns_in f.closed.before) gone.word f.closed.ends (λ all. reads_on gone.conn gone.idle _ (turns_in f.closed.before) gone.served.now refl gone.served.course all) gone.closing accounts.ended accounts.records

@@ -36,7 +36,7 @@ use Rattle.logging_server.specs.Journals.{StandsFor}
 use Rattle.logging_server.specs.Statuses.{HasStatus, code_of}
 use Rattle.logging_server.specs.Ran.{RunsOne, status_of}
 use Rattle.logging_server.specs.declared.status.Status.{Status}
-use Rattle.logging_server.proofs.Journals.{told_is}
+use Rattle.logging_server.proofs.Journals.{told_is, handed_over}
 use Rattle.logging_server.proofs.Outcome.{Became, became}
 use Rattle.logging_server.proofs.Endings.{Known, wrote, has_status, stands_for}
 
@@ -108,6 +108,7 @@ module _ {S K V : Type 0} (G : Ghosts (OneEnd S)) (source : S → SourceFacts) (
               subst (λ (entries : List (Entry ServerNote)). StandsFor most_input i o (source (input_of last)) (sink (sink_of parts.watch)) (code_of (status_of (failed_of last) broken too_long lost why)) entries)
               (sym (told_is (terms_of_run i o v) v (volumes parts.volumes) left.first parts.first parts.journal.entries left.journal journal refl left.stand.volumes left.stand.first left.stand.journal told))
               (stands_for i o (source (input_of last)) (sink (sink_of parts.watch)) left.journal v.faults (volumes parts.volumes).faults last.extra left.finished left.legal (failed_of last) broken too_long lost why known);
+          first = handed_over (terms_of_run i o v) v (volumes parts.volumes) left.first parts.first left.journal refl left.stand.volumes left.stand.first left.stand.within;
         })))
 
 -- the terms say what the volumes of the reactor tell

@@ -1,11 +1,12 @@
 -- The journal of a run of the command `one`.
-use Rattle.std.specs.Prelude.{◌≡◌, ◌≢◌, ◌⊎◌, ℕ, Bool, true, List, [], ◌∷◌, ◌++◌, length, drop, Option, Some, None}
+use Rattle.std.specs.Prelude.{◌≡◌, ◌≢◌, ◌⊎◌, ◌+◌, ℕ, Bool, true, List, [], ◌∷◌, ◌++◌, length, drop, Option, Some, None}
 use Rattle.ev_base.specs.Source.{SourceFacts}
 use Rattle.ev_base.specs.Sink.{SinkFacts}
 use Rattle.reactor_journal.specs.declared.entry.Entry.{Entry}
 use Rattle.reactor_journal.specs.declared.entry.Entry.TheVariants as entry
-use Rattle.reactor_journal.specs.Past.{past_of, opened, was_closed, all_below, ended}
+use Rattle.reactor_journal.specs.Past.{past_of, opened, was_closed, all_below, ended, count}
 use Rattle.reactor_journal.specs.Follow.{Legal}
+use Rattle.reactor_summary.specs.Tells.{is_refused}
 use Rattle.reactor_model.specs.Volumes.{VolumesFacts}
 use Rattle.log_handler.specs.declared.note.ServerNote.{ServerNote}
 use Rattle.log_handler.specs.Notes.{journal_lines}
@@ -24,17 +25,25 @@ IsTakenAndHeld None after held journal = ⊥
 abbrev pub IsTold : VolumesFacts ServerNote → VolumesFacts ServerNote → ℕ → List (Entry ServerNote) → List (Entry ServerNote) → Type 0
 IsTold v w first held journal = IsTakenAndHeld v.taken w.taken held journal ⊎ ((first ≡ 0) × (journal ≡ held))
 
+-- So many entries were handed over to the volumes in a run, where they tell what they took.
+abbrev pub AreHandedOver : {N : Type 0} → Option (List (Entry N)) → Option (List (Entry N)) → ℕ → Type 0
+AreHandedOver (Some before) (Some after) first = length after ≡ length before + first
+AreHandedOver (Some before) None first = Unit {0}
+AreHandedOver None after first = Unit {0}
+
 -- The journal is legal for one live handler, the reactor was stopped, and every handle that was opened was closed.
 pub record IsOver (journal : List (Entry ServerNote)) : Type 0 where
   pub legal : Legal journal 1
   pub stopped : ended (past_of journal) ≡ true
   pub closed : all_below (opened (past_of journal)) (was_closed (past_of journal)) ≡ true
 
--- The one connection was opened on handle 0, to be read; and until the end there are only waits, reports, upcalls and closings.
+-- The one connection was opened on handle 0, to be read; until the end there are only waits, reports, upcalls and closings; and no
+-- handler was refused.
 pub record ServesOne (journal : List (Entry ServerNote)) : Type 0 where
   pub served : List (Entry ServerNote)
   pub is : journal ≡ first_entry ∷ served
   pub kinds : served_until_end served ≡ true
+  pub none_refused : count is_refused (past_of journal) ≡ 0
 
 -- no connection was opened, so the input was not read
 pub record OpensNothing (i j : SourceFacts) (journal : List (Entry ServerNote)) : Type 0 where

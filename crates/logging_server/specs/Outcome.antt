@@ -35,19 +35,24 @@ IsPiece said = (took : ℕ) × (records : List LogRecord) × (said ≡ note.Piec
 abbrev pub IsSound : Bool → List ℕ → Type 0
 IsSound failed extra = (failed ≡ false) × (extra ≡ [])
 
+-- a read found the end of the input
+pub record IsReadToEnd (j : SourceFacts) : Type 0 where
+  pub over : j.over ≡ true
+  pub nothing_left : NothingLeft j.bytes
+
 -- What stands behind the word with which the connection was closed, which took these bytes, met `extra` behind the limit, and
--- noted the records of `decoded`: `end` and `partial` only where nothing is left of the input and reading stops so, `malformed` only
+-- noted the records of `decoded`: `end` and `partial` only where the input was read to its end and reading stops so, `malformed` only
 -- where reading stops there, `failed` only where a read failed or a byte was met behind the limit, and `stopped` where the run was
 -- halted. For want of memory the records of the last bytes may lack.
-abbrev pub IsClosedWith : Option ReaderBytes → Bool → List ℕ → List ℕ → List ℕ → EndKind → Type 0
-IsClosedWith left failed taken extra decoded end.End = (decoded ≡ taken) × ((decode taken).stop ≡ Clean) × NothingLeft left × IsSound failed extra
-IsClosedWith left failed taken extra decoded (end.Partial n) = (decoded ≡ taken) × ((decode taken).stop ≡ Partial n) × NothingLeft left × IsSound failed extra
-IsClosedWith left failed taken extra decoded (end.Malformed at) = (decoded ≡ taken) × ((decode taken).stop ≡ Malformed at) × IsSound failed extra
-IsClosedWith left failed taken extra decoded end.Failed = (decoded ≡ taken) × ((failed ≡ true) ⊎ (extra ≢ []))
-IsClosedWith left failed taken extra decoded end.NoMemory = IsPrefixOf decoded taken × IsSound failed extra
-IsClosedWith left failed taken extra decoded end.Stopped = (decoded ≡ taken) × IsSound failed extra
-IsClosedWith left failed taken extra decoded end.Idle = ⊥
-IsClosedWith left failed taken extra decoded end.Refused = ⊥
+abbrev pub IsClosedWith : SourceFacts → Bool → List ℕ → List ℕ → List ℕ → EndKind → Type 0
+IsClosedWith j failed taken extra decoded end.End = (decoded ≡ taken) × ((decode taken).stop ≡ Clean) × IsReadToEnd j × IsSound failed extra
+IsClosedWith j failed taken extra decoded (end.Partial n) = (decoded ≡ taken) × ((decode taken).stop ≡ Partial n) × IsReadToEnd j × IsSound failed extra
+IsClosedWith j failed taken extra decoded (end.Malformed at) = (decoded ≡ taken) × ((decode taken).stop ≡ Malformed at) × IsSound failed extra
+IsClosedWith j failed taken extra decoded end.Failed = (decoded ≡ taken) × ((failed ≡ true) ⊎ (extra ≢ []))
+IsClosedWith j failed taken extra decoded end.NoMemory = IsPrefixOf decoded taken × IsSound failed extra
+IsClosedWith j failed taken extra decoded end.Stopped = (decoded ≡ taken) × IsSound failed extra
+IsClosedWith j failed taken extra decoded end.Idle = ⊥
+IsClosedWith j failed taken extra decoded end.Refused = ⊥
 
 -- the connection took these bytes of the input, whose next is `extra` where one was met behind the limit
 pub record TakesInput (limit : ℕ) (failed : Bool) (i : SourceFacts) (j : SourceFacts) (taken extra : List ℕ) : Type 0 where
@@ -73,5 +78,5 @@ pub record ComesTo (limit : ℕ) (failed : Bool) (i j : SourceFacts) (journal : 
   pub decoded : List ℕ
   pub word : EndKind
   pub takes : TakesInput limit failed i j taken extra
-  pub closed : IsClosedWith j.bytes failed taken extra decoded word
+  pub closed : IsClosedWith j failed taken extra decoded word
   pub tells : TellsConnection journal taken decoded word

@@ -2,7 +2,7 @@
 -- `limit` is how many bytes may be read.
 use Rattle.std.specs.Prelude.{◌≡◌, ◌⊎◌, ℕ, Bool, true, false, List, [], ◌∷◌, Option, Some, None}
 use Rattle.ev_base.specs.Counts.{Rose}
-use Rattle.ev_base.specs.Bytes.{ReaderBytes, NothingLeft}
+use Rattle.ev_base.specs.Bytes.{ReaderBytes}
 use Rattle.ev_base.specs.Source.{SourceFacts}
 use Rattle.ev_base.specs.Sink.{SinkFacts}
 use Rattle.cdr_record.specs.Decoding.{Stop, Clean, Partial, Malformed, decode}
@@ -10,7 +10,7 @@ use Rattle.log_lines.specs.declared.end_kind.EndKind.{EndKind}
 use Rattle.log_lines.specs.declared.end_kind.EndKind.TheVariants as end
 use Rattle.log_handler.specs.Connection.{end_of}
 use Rattle.logging_server.specs.Written.{TookAll, TookFront}
-use Rattle.logging_server.specs.Outcome.{TakesInput, IsClosedWith, lines_of}
+use Rattle.logging_server.specs.Outcome.{TakesInput, IsClosedWith, IsReadToEnd, lines_of}
 use Rattle.logging_server.specs.declared.status.Status.{Status}
 use Rattle.logging_server.specs.declared.status.Status.TheVariants.{Done, Usage, ReadFault, WriteFault, NoMemory, TooLong, VolumeFault}
 
@@ -31,7 +31,7 @@ pub record HasLines (limit : ℕ) (i j : SourceFacts) (text : List ℕ) : Type 0
   pub decoded : List ℕ
   pub word : EndKind
   pub takes : TakesInput limit false i j taken extra
-  pub closed : IsClosedWith j.bytes false taken extra decoded word
+  pub closed : IsClosedWith j false taken extra decoded word
   pub is : text ≡ lines_of decoded word
 
 -- no connection was opened: the input was not read, and there are no lines
@@ -45,7 +45,7 @@ pub record HasNoLines (i j : SourceFacts) (text : List ℕ) : Type 0 where
 pub record IsDone (limit : ℕ) (i : SourceFacts) (o : SinkFacts) (j : SourceFacts) (p : SinkFacts) : Type 0 where
   pub taken : List ℕ
   pub takes : TakesInput limit false i j taken []
-  pub all : IsMalformed (decode taken).stop ⊎ NothingLeft j.bytes
+  pub all : IsMalformed (decode taken).stop ⊎ IsReadToEnd j
   pub decodes : DecodesLeft i.bytes taken
   pub written : TookAll o (lines_of taken (end_of (decode taken).stop)) p
 

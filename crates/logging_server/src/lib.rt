@@ -5,6 +5,8 @@ mod fault;
 mod no_host;
 mod one;
 mod status;
+#[cfg(test)]
+mod tests;
 mod top;
 
 pub use fault::{FaultLine, fault_line};

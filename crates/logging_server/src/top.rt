@@ -4,7 +4,7 @@ ghost use Rattle.reactor_journal.specs.declared.entry.Entry.{Entry};
 ghost use Rattle.log_handler.specs.declared.note.ServerNote.{ServerNote};
 ghost use Rattle.logging_server.specs.Words.{AreOne};
 ghost use Rattle.logging_server.specs.Ran.{HasRun};
-ghost use Rattle.logging_server.specs.Journals.{IsTold, StandsFor};
+ghost use Rattle.logging_server.specs.Journals.{IsTold, AreHandedOver, StandsFor};
 ghost use Rattle.logging_server.specs.Statuses.{IsStatus, IsDone, IsReadFault, IsWriteFault, IsNoMemory, IsTooLong, IsVolumeFault};
 
 use crate::one::{Ran, one};
@@ -75,6 +75,7 @@ pub fn logd_main<
     // Where the journal is told, it stands for the run, and the output for it.
     ensures journal { (journal : List (Entry ServerNote)) → IsTold (V.facts volumes) (V.facts result.volumes) result.first result.journal.entries journal
         → StandsFor (2 ^ 40) (S.facts input) (K.facts output) (S.facts result.input) (K.facts result.output) result.status journal }
+    ensures first { AreHandedOver (V.facts volumes).taken (V.facts result.volumes).taken result.first }
     ensures no_reactor { result.status ≡ 1 → (result.journal.entries ≡ []) × (result.first ≡ 0) }
 
     // The host is not asked.

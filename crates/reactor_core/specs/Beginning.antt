@@ -1,5 +1,5 @@
 -- How a reactor begins, and what it leaves when it is over.
-use Rattle.std.specs.Prelude.{ℕ, ◌≡◌, true, List, [], length, drop, map, Some}
+use Rattle.std.specs.Prelude.{ℕ, ◌≡◌, ◌≤◌, true, List, [], length, drop, map, Some}
 use Rattle.ev_base.specs.Terms.{Terms}
 use Rattle.ev_base.specs.Net.{NetFacts, IsNew}
 use Rattle.timer_queue.specs.declared.timer.Timer.{Timer}
@@ -30,6 +30,7 @@ pub record IsOver (s : Summary) : Type 0 where
 -- the parts of a reactor that is over: the journal's rest, the net, the timers, the watch and the volumes stand as they did
 pub record PartsStand {H M Q W V N E : Type 0} (m : Meaning H M Q W V N E) (armed : Q → List Timer) (t : Terms) (F : ℕ) (h : List (Entry N)) (parts : Parts N M Q W V) : Type 0 where
   pub first : parts.first ≡ F
+  pub within : F ≤ length h
   pub journal : parts.journal.entries ≡ drop F h
   pub net : NetStands m.means t (past_of h) [] (m.facts parts.net)
   pub net_keeps : m.keeps t parts.net

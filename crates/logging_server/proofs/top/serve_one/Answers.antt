@@ -11,4 +11,5 @@ returns-clause-runs g c = record {
   at = c.number.ensures;
   has = c.one-status.ensures.status;
   journal = λ journal told. subst (λ (code : ℕ). StandsFor (2 ^ 40) (g.S.Source.facts c.args.input) (g.K.Sink.facts c.args.output) (g.S.Source.facts c.one-status.result.input) (g.K.Sink.facts c.one-status.result.output) code journal) (sym c.code.ensures) (c.one-status.ensures.journal journal told);
+  first = c.one-status.ensures.first;
 }

@@ -11,6 +11,7 @@ close-requires g c =
 pub returns-clause-stands : goal.returns-clause-stands
 returns-clause-stands g c t F h st = record {
   first = st.tracks.journal.first;
+  within = st.tracks.journal.within;
   journal = st.tracks.journal.entries;
   net = st.tracks.net;
   net_keeps = st.tracks.keeps;
