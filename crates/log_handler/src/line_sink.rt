@@ -3,7 +3,7 @@ ghost use Rattle.std.specs.Prelude.{◌≡◌, ◌≤◌, ◌+◌, ◌++◌, ℕ
 ghost use Rattle.ev_base.specs.Terms.{Terms};
 ghost use Rattle.ev_base.specs.Sink.{SinkFacts};
 ghost use Rattle.sink_buffer.specs.Texts.{Puts};
-ghost use Rattle.sink_buffer.specs.Gathers.{Gathers, held_of};
+ghost use Rattle.sink_buffer.specs.Gathers.{Gathers, HasPut, held_of};
 ghost use Rattle.log_handler.specs.Notes.{note_lines, entry_lines};
 
 use crate::ServerNote;
@@ -55,8 +55,7 @@ impl<K: Sink> LineSink<K> {
 
     /// Puts the lines of a note. Where the buffer has room for all of them, it holds them, and nothing is written.
     fn hold_note(&mut self, note: &ServerNote)
-        ensures text { (start : SinkFacts) (put : List ℕ) → Gathers K.facts start self.old.buffer put
-            → Gathers K.facts start self.new.buffer (put ++ note_lines note.now) }
+        ensures puts { Puts (HasPut K.facts) self.old.buffer (note_lines note.now) self.new.buffer }
         ensures together { length (held_of self.old.buffer) + length (note_lines note.now) ≤ 8192
             → (held_of self.new.buffer ≡ held_of self.old.buffer ++ note_lines note.now) × (sink_of self.new ≡ sink_of self.old) }
     {

@@ -1,9 +1,6 @@
 use Rattle.std.proofs.Common.{[], refl, sym, append-nil}
-use Rattle.sink_buffer.specs.Gathers.{Told, Held, held_of, output_of}
+use Rattle.sink_buffer.specs.Gathers.{Held, held_of, output_of}
 use Rattle.log_handler.proofs.line_sink.LineSink.hold_note.Goals as goal
-
-pub returns-clause-text : goal.returns-clause-text
-returns-clause-text g c = λ start put h. c.put_note.ensures (Told start) put h
 
 pub returns-clause-together : goal.returns-clause-together
 returns-clause-together g c = λ fits.
