@@ -1,9 +1,10 @@
 #!/bin/sh
 # Compares `logd one` with a plain decoder in C that makes the same reads and writes: 100 MB of records with messages of 100
-# bytes. It prints the times, their ratio, and the most memory that logd took on 1 and on 100 MB. Needs cc and python3.
+# bytes. It prints the times, their ratio, and the most memory that logd took on 1 to 800 MB. Needs cc and python3.
 root=$(cd "$(dirname "$0")/.." && pwd)
 work=$(mktemp -d) || exit 1
 trap 'rm -rf "$work"' EXIT
+mkfifo "$work/pipe" || exit 1
 cc -O2 -o "$work/plain" "$root/bench/plain_decoder.c" || exit 1
 "$root/bin/logd" one </dev/null >/dev/null || exit 1
 python3 - "$work/records" <<'P'
@@ -32,10 +33,10 @@ assert same(plain) == same(logd), "the outputs differ"
 a, b = best(plain), best(logd)
 print(f"plain decoder {a:.3f} s, logd one {b:.3f} s, ratio {b / a:.2f}")
 P
-# the memory of logd at its most, which does not grow with the input
-for part in 1 100; do
-    head -c "$((part * 1000000))" "$work/records" >"$work/part"
-    "$root/crates/logd/out/logd" one <"$work/part" >/dev/null &
+# The memory of logd at its most: it holds up to 65,536 entries of its journal, with the records of 32,768 reads, and hands them over.
+for part in 1 100 200 400 800; do
+    for _ in $(seq 1 $(((part + 99) / 100))); do cat "$work/records"; done | head -c "$((part * 1000000))" >"$work/pipe" &
+    "$root/crates/logd/out/logd" one <"$work/pipe" >/dev/null &
     most=0
     while kill -0 $! 2>/dev/null; do
         now=$(sed -n 's/^VmHWM:[^0-9]*\([0-9]*\).*/\1/p' /proc/$!/status 2>/dev/null)
