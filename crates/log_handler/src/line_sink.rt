@@ -14,7 +14,7 @@ use reactor_model::Watch;
 use sink_buffer::{SinkBuffer, TextOut};
 
 /// A watch that writes the lines of the notes of a journal as its entries are appended. It gathers the lines of a note in a fixed
-/// buffer of 8,192 bytes: where they fit, they are written together, and else each time the buffer is full. It takes no memory, and
+/// buffer of 8,192 bytes: where they fit, they are written together, and else a full buffer at a time. It takes no memory, and
 /// writes nothing more once a write failed.
 #[derive(Drop)]
 pub struct LineSink<K> {

@@ -6,6 +6,3 @@ mod serving;
 
 pub use opening::{Unopened, open};
 pub use serving::{Ending, Halt, OneCore, finish, run};
-
-#[cfg(test)]
-mod tests;
