@@ -103,7 +103,7 @@ abbrev pub HasEnded : Option Halt → Bool → List (Entry ServerNote) → Type 
 HasEnded None lost h = IsShutAs 1 lost h
 HasEnded (Some why) lost h = CanEnd h
 
--- the handler closed itself, and this tells whether for want of memory
+-- the handler of a journal that is finished had closed itself, and this tells whether for want of memory
 abbrev pub ClosedItself : Bool → (h : List (Entry ServerNote)) → IsFinished h → Type 0
 ClosedItself lost h over = (over.closed.reason ≡ Own) × (lost ≡ is_lost over.closed.note)
 
