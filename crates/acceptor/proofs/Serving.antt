@@ -1,6 +1,5 @@
 -- Turns of the server's handlers.
-use Rattle.std.proofs.Common.{◌≡◌, List, [], ◌∷◌, ◌++◌, ℕ, false, Option, None, sym, subst, ap}
-use Rattle.std.specs.List.{AllByRecursion}
+use Rattle.std.proofs.Common.{◌≡◌, List, [], ◌∷◌, ◌++◌, ℕ, Option, None, sym, subst}
 use Rattle.ev_types.specs.declared.upcall.Answer.{Answer}
 use Rattle.ev_types.specs.declared.upcall.Upcall.{Upcall}
 use Rattle.ev_base.specs.Terms.{Terms}
@@ -12,18 +11,13 @@ use Rattle.reactor_model.specs.declared.handler.Turn.{Turn}
 use Rattle.reactor_model.specs.declared.handler.Act.{Act}
 use Rattle.log_handler.specs.declared.note.ServerNote.{ServerNote}
 use Rattle.log_handler.specs.declared.connection.LogConnection.{LogConnection}
-use Rattle.log_handler.specs.Connections.{ConnectionFits, connections, number_of_connection, idle_of_connection}
-use Rattle.log_handler.specs.Laws.{CoursesAccount, IsPieceOf}
+use Rattle.log_handler.specs.Connections.{ConnectionFits, connections}
 use Rattle.acceptor.specs.declared.acceptor.Acceptor.{Acceptor}
 use Rattle.acceptor.specs.declared.server.ServerHandler.{ServerHandler}
 use Rattle.acceptor.specs.declared.server.ServerHandler.TheVariants.{Listen, Talk}
 use Rattle.acceptor.specs.Acceptors.{AcceptorFits}
-use Rattle.acceptor.specs.Servers.{servers, is_accepted}
+use Rattle.acceptor.specs.Servers.{servers}
 use Rattle.acceptor.specs.Steps.{TakesAcceptorTurn}
-
-all-last : (conn : ℕ) (had : List (Item ServerNote)) (item : Item ServerNote) → AllByRecursion (IsPieceOf conn) (had ++ item ∷ []) → IsPieceOf conn item
-all-last conn [] item h = h.0
-all-last conn (first ∷ had) item h = all-last conn had item h.1
 
 abbrev item-of : Upcall → ℕ → Answer → ServerNote → Item ServerNote
 item-of up now answer said = record { upcall = up; moment = now; answer = answer; note = said }
@@ -35,21 +29,12 @@ module _ {E : Type 0} {G : Ghosts E} (tells : E → EndFacts) (keeps : Terms →
       AcceptorFits tells keeps t origin old had → TakesTurn (servers tells keeps) t origin up now had (Listen new) turn
   takes-acceptor old new turn m h = record { fits = m.fits t origin had h; act = m.act t origin had h }
 
-  -- a connection notes no `Accepted`
-  notes-piece : CoursesAccount → (new : LogConnection E G) (item : Item ServerNote) → ConnectionFits tells keeps t origin new (had ++ item ∷ []) → is_accepted item.note ≡ false
-  notes-piece law new item h =
-      let s = h.served in
-      let accounts = law (number_of_connection new) (idle_of_connection new) s.moment s.telling (had ++ item ∷ []) s.now s.course in
-      let piece = all-last (number_of_connection new) had item accounts.notes in
-      ap (λ (n : ServerNote). is_accepted n) piece.2
-
   -- a turn of a connection
-  pub takes-connection : CoursesAccount → (new : LogConnection E G) (turn : Turn (LogConnection E G) ServerNote E) (out : Turn (ServerHandler E G) ServerNote E) →
-      TakesTurn (connections tells keeps) t origin up now had new turn → out.answer ≡ turn.answer → (is_accepted turn.note ≡ false → out.note ≡ turn.note) → out.act ≡ None →
+  pub takes-connection : (new : LogConnection E G) (turn : Turn (LogConnection E G) ServerNote E) (out : Turn (ServerHandler E G) ServerNote E) →
+      TakesTurn (connections tells keeps) t origin up now had new turn → out.answer ≡ turn.answer → out.note ≡ turn.note → out.act ≡ None →
       TakesTurn (servers tells keeps) t origin up now had (Talk new) out
-  takes-connection law new turn out m answers notes none =
-      let said = notes (notes-piece law new (item-of up now turn.answer turn.note) m.fits) in record {
-        fits = subst (λ (a : Answer). ConnectionFits tells keeps t origin new (had ++ item-of up now a out.note ∷ [])) (sym answers)
-            (subst (λ (n : ServerNote). ConnectionFits tells keeps t origin new (had ++ item-of up now turn.answer n ∷ [])) (sym said) m.fits);
-        act = subst (λ (a : Option (Act (ServerHandler E G) ServerNote E)). MayAct (servers {E = E} {G = G} tells keeps) t up (record { note = out.note; moment = now }) a) (sym none) tt;
-      }
+  takes-connection new turn out m answers said none = record {
+    fits = subst (λ (a : Answer). ConnectionFits tells keeps t origin new (had ++ item-of up now a out.note ∷ [])) (sym answers)
+        (subst (λ (n : ServerNote). ConnectionFits tells keeps t origin new (had ++ item-of up now turn.answer n ∷ [])) (sym said) m.fits);
+    act = subst (λ (a : Option (Act (ServerHandler E G) ServerNote E)). MayAct (servers {E = E} {G = G} tells keeps) t up (record { note = out.note; moment = now }) a) (sym none) tt;
+  }

@@ -1,5 +1,5 @@
 //! The handlers of the server.
-ghost use Rattle.std.specs.Prelude.{◌≡◌, ◌≢◌, ℕ, List, Option, Some, None, false};
+ghost use Rattle.std.specs.Prelude.{◌≡◌, ◌≢◌, ℕ, List, Option, Some, None, true, false};
 ghost use Rattle.ev_types.specs.declared.upcall.Upcall.TheVariants.{Input};
 ghost use Rattle.ev_types.specs.declared.upcall.Why.TheVariants.{Own};
 ghost use Rattle.ev_base.specs.Terms.{Terms};
@@ -7,13 +7,13 @@ ghost use Rattle.reactor_journal.specs.Event.{Item, Origin};
 ghost use Rattle.reactor_model.specs.Handling.{NoClose, EndsInClose, Names};
 ghost use Rattle.reactor_model.specs.Turns.{TakesTurn, KeepsPromises};
 ghost use Rattle.log_handler.specs.Connections.{serial_named, connections};
+ghost use Rattle.log_handler.specs.Notes.{is_piece};
 ghost use Rattle.acceptor.specs.Servers.{ServerFits, ServerGone, servers, is_accepted, end_of_server};
 ghost use Rattle.acceptor.specs.Steps.{TellsInput, ActsSo, NotesShut};
 
 use crate::acceptor::Acceptor;
 use ev_base::{Net, PeerEnd};
 use ev_types::{Handle, Mask, NetFailed, Upcall, Why};
-use log_handler::laws::courses_account;
 use log_handler::{LogConnection, ServerNote};
 use reactor_model::{EventHandler, Turn};
 
@@ -25,11 +25,13 @@ pub enum ServerHandler<E: PeerEnd> {
     Talk(LogConnection<E>),
 }
 
-/// The turn of a connection as one of the server's handlers.
+/// The turn of a connection as one of the server's handlers. It notes what it took, and so never `Accepted`, whose turn always offers a
+/// connection.
 fn talked<E: PeerEnd>(turn: Turn<LogConnection<E>>) -> Turn<ServerHandler<E>>
     requires quiet { turn.act ≡ None }
+    requires piece { is_piece turn.note ≡ true }
     ensures answers { result.answer ≡ turn.answer }
-    ensures notes { is_accepted turn.note ≡ false → result.note ≡ turn.note }
+    ensures notes { result.note ≡ turn.note }
     ensures never { is_accepted result.note ≡ false }
     ensures quiet { result.act ≡ None }
 {
@@ -37,21 +39,10 @@ fn talked<E: PeerEnd>(turn: Turn<LogConnection<E>>) -> Turn<ServerHandler<E>>
     match act {
         None => Turn {
             answer,
-            note: unless_accepted(note),
+            note,
             act: None,
         },
         Some(_) => unreachable!(),
-    }
-}
-
-/// The note, unless it is `Accepted`, whose turn always offers a connection. No connection notes that.
-fn unless_accepted(note: ServerNote) -> ServerNote
-    ensures same { is_accepted note ≡ false → result ≡ note }
-    ensures never { is_accepted result ≡ false }
-{
-    match note {
-        ServerNote::Accepted { .. } => ServerNote::NoneWaiting,
-        other => other,
     }
 }
 
@@ -75,10 +66,7 @@ impl<E: PeerEnd> EventHandler for ServerHandler<E> {
     {
         match self {
             ServerHandler::Listen(acceptor) => acceptor.serve(up, now),
-            ServerHandler::Talk(connection) => {
-                courses_account();
-                talked(connection.upcall(up, now))
-            }
+            ServerHandler::Talk(connection) => talked(connection.upcall(up, now)),
         }
     }
 

@@ -1,5 +1,5 @@
 //! The event handler of one connection.
-ghost use Rattle.std.specs.Prelude.{◌≡◌, ◌≢◌, ◌<◌, ◌≤◌, ◌↔◌, ℕ, List, [], false, Some, None, IsSome, Option, length};
+ghost use Rattle.std.specs.Prelude.{◌≡◌, ◌≢◌, ◌<◌, ◌≤◌, ◌↔◌, ℕ, List, [], true, false, Some, None, IsSome, Option, length};
 ghost use Rattle.ev_types.specs.declared.upcall.Answer.TheVariants.{Keep, Again, Close};
 ghost use Rattle.ev_types.specs.declared.upcall.Upcall.TheVariants.{Input, Timeout};
 ghost use Rattle.ev_types.specs.declared.upcall.Why.TheVariants.{Own};
@@ -12,6 +12,7 @@ ghost use Rattle.reactor_model.specs.Turns.{TakesTurn, KeepsPromises};
 ghost use Rattle.log_handler.specs.Connection.{Progress, end_of};
 ghost use Rattle.log_handler.specs.Connections.{MayComeFrom, ConnectionFits, ConnectionGone, HasDecoder, IsClosing, connections, end_of_connection, serial_named};
 ghost use Rattle.log_handler.specs.Steps.{IsTurn, IsSame, Serves, TellsPiece, item_of};
+ghost use Rattle.log_handler.specs.Notes.{is_piece};
 
 use crate::ServerNote;
 use crate::peer::Peer;
@@ -64,6 +65,7 @@ impl<E: PeerEnd> LogConnection<E> {
         ensures same { IsSame E.tells E.keeps self.old self.new }
         ensures serves { Serves E.tells Input now self.old self.new result }
         ensures pauses { (result.answer ≡ Keep) ↔ ((E.tells (end_of_connection self.new)).last_read ≡ Some Paused) }
+        ensures noted { is_piece result.note ≡ true }
         ensures quiet { result.act ≡ None }
     {
         let mut buffer = [0u8; PIECE];
@@ -87,6 +89,7 @@ impl<E: PeerEnd> LogConnection<E> {
         ensures idle { self.new.idle ≡ self.old.idle }
         ensures end { end_of_connection self.new ≡ end_of_connection self.old }
         ensures goes_on { result.answer ≢ Keep }
+        ensures noted { is_piece result.note ≡ true }
         ensures quiet { result.act ≡ None }
     {
         self.last = now;
@@ -111,6 +114,7 @@ impl<E: PeerEnd> LogConnection<E> {
         ensures same { IsSame E.tells E.keeps self.old self.new }
         ensures serves { (timer : ℕ) → Serves E.tells (Timeout timer) now self.old self.new result }
         ensures waits { result.answer ≢ Again }
+        ensures noted { is_piece result.note ≡ true }
         ensures quiet { result.act ≡ None }
     {
         match self.idle {
@@ -199,8 +203,9 @@ impl<E: PeerEnd> EventHandler for LogConnection<E> {
             → ConnectionFits E.tells E.keeps t origin self.old had → TakesTurn (connections E.tells E.keeps) t origin up now had self.new result }
         ensures promises { KeepsPromises (connections E.tells E.keeps) up result }
 
-        // No turn carries an act.
+        // No turn carries an act, and each notes what it took.
         ensures quiet { result.act ≡ None }
+        ensures noted { is_piece result.note ≡ true }
 
         // Input is answered Keep exactly where its one read paused.
         ensures pauses { up ≡ Input → (result.answer ≡ Keep) ↔ ((E.tells (end_of_connection self.new)).last_read ≡ Some Paused) }

@@ -11,6 +11,6 @@ returns-in-Listen-clause-turn g c = λ t origin had going h.
 
 pub returns-in-Talk-clause-turn : goal.returns-in-Talk-clause-turn
 returns-in-Talk-clause-turn g c = λ t origin had going h.
-    takes-connection g.E.PeerEnd.tells g.E.PeerEnd.keeps t origin c.args.up c.args.now had c.courses_account.ensures c.upcall.new.self c.upcall.result c.talked.result
+    takes-connection g.E.PeerEnd.tells g.E.PeerEnd.keeps t origin c.args.up c.args.now had c.upcall.new.self c.upcall.result c.talked.result
     (c.upcall.ensures.turn t origin had going (subst (λ (s : ServerHandler g.row.E.Denot g.E.PeerEnd). ServerFits g.E.PeerEnd.tells g.E.PeerEnd.keeps t origin s had) c.in-Talk.is h))
     c.talked.ensures.answers c.talked.ensures.notes c.talked.ensures.quiet
