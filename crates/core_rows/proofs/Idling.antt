@@ -8,22 +8,23 @@ use Rattle.ev_base.specs.Terms.{Terms}
 use Rattle.demux.specs.declared.play_end.PlayEnd.{PlayEnd}
 use Rattle.timer_queue.specs.Content.{Content}
 use Rattle.reactor_journal.specs.declared.entry.Entry.{Entry}
-use Rattle.reactor_journal.specs.declared.entry.Entry.TheVariants.{Opened, Scheduled, Posted, Stale, Removed, Ended}
+use Rattle.reactor_journal.specs.declared.entry.Entry.TheVariants.{Scheduled, Posted, Stale, Removed, Ended}
 use Rattle.reactor_summary.specs.Summary.{Summary, step, is_alive}
 use Rattle.reactor_model.specs.declared.watch.NoWatch.{NoWatch}
-use Rattle.reactor_core.specs.Stands.{Meaning, Stands, StandsAsBefore}
-use Rattle.reactor_core.specs.Requests.{GoesOnBy}
-use Rattle.reactor_core.specs.Postings.{posting}
+use Rattle.reactor_core.specs.Stands.{Meaning, Stands, StandsAsBefore, HasRoom}
+use Rattle.reactor_core.specs.Requests.{GoesOnBy, WhereStanding}
+use Rattle.reactor_core.specs.Postings.{posting, post_places}
 use Rattle.reactor_core.specs.Polling.{FitsLimit, Polls}
 use Rattle.reactor_core.specs.HandingOver.{HandsDue, HandsOver}
 use Rattle.reactor_core.specs.declared.polling.Polled.{Polled}
 use Rattle.reactor_core.specs.Offering.{RegisterGives}
+use Rattle.reactor_core.specs.Registering.{registered}
 use Rattle.reactor_core.specs.Removing.{Removes, StopsOnce}
 use Rattle.reactor_core.specs.declared.registering.RegisterRefused.{RegisterRefused}
 use Rattle.reactor_core.specs.declared.registering.RegisterRefused.TheVariants.{Stopped, Full, NoMemory, NetFailed}
 use Rattle.core_rows.specs.declared.handler.Steady.{Steady}
 use Rattle.core_rows.specs.Idle.{RowsOf, IsIdle, WasStopped}
-use Rattle.core_rows.proofs.Keeping.{sum, sum_more, Keeps, keeps_one, keeps_removed, keeps_closing, keeps_removals, none_live, keeps_polled}
+use Rattle.core_rows.proofs.Keeping.{sum, sum_more, Keeps, keeps_one, keeps_removed, keeps_closing, keeps_removals, none_live, keeps_polled, keeps_registered}
 
 -- what the parts of a reactor of steady handlers mean
 abbrev pub MeaningOf : Type 0 → Type 0 → Type 1
@@ -56,12 +57,13 @@ posting_ended s handle kind from seq = by_cases (is_alive s handle.0)
     by_cases true q = q
     by_cases false q = q
 
-pub registers : {M V : Type 0} {m : MeaningOf M V} (old new : RowsOf M V) (result : Result Handle (Steady × RegisterRefused)) (mask : Mask) (i : IsIdle m old) → RegisterGives m i.terms i.first i.history mask None old result new → IsIdle m new
-registers old new (Ok handle) mask i g = idle_keeps old new i (Opened handle mask ∷ []) (keeps_one i.history (Opened handle mask) refl (λ q. q)) g.2
-registers old new (Err (back, Stopped)) mask i g = idle_same old new i g.1.stands
-registers old new (Err (back, Full l o)) mask i g = idle_same old new i g.4.stands
-registers old new (Err (back, NoMemory)) mask i g = idle_same old new i g.1.stands
-registers old new (Err (back, NetFailed)) mask i g = idle_same old new i g.2.stands
+pub registers : {M V : Type 0} {m : MeaningOf M V} (old new : RowsOf M V) (result : Result Handle (Steady × RegisterRefused)) (mask : Mask) (timer : Option (ℕ × ℕ)) (i : IsIdle m old)
+    → RegisterGives m i.terms i.first i.history mask timer old result new → IsIdle m new
+registers old new (Ok handle) mask timer i g = idle_keeps old new i (registered (sum i.history) handle mask timer) (keeps_registered i.history (sum i.history) handle mask timer) g.2
+registers old new (Err (back, Stopped)) mask timer i g = idle_same old new i g.1.stands
+registers old new (Err (back, Full l o)) mask timer i g = idle_same old new i g.4.stands
+registers old new (Err (back, NoMemory)) mask timer i g = idle_same old new i g.1.stands
+registers old new (Err (back, NetFailed)) mask timer i g = idle_same old new i g.2.stands
 
 pub removes : {M V : Type 0} {m : MeaningOf M V} (old new : RowsOf M V) (handle : Handle) (i : IsIdle m old) → Removes m i.terms i.first i.history handle new → IsIdle m new
 removes old new handle i r =
@@ -131,3 +133,12 @@ pub hands_over : {M V : Type 0} {m : MeaningOf M V} {E : Type 0} (old new : Rows
     → OnErr result (StandsAsBefore m old new) → IsIdle m old → IsIdle m new
 hands_over old new (Ok n) ok err i = hands_due old new i n _ (ok i.terms i.first i.history i.stands).handed
 hands_over old new (Err x) ok err i = idle_same old new i (err i.terms i.first i.history i.stands)
+
+-- a notification was posted for which there was room
+pub posts_in_room : {M V : Type 0} {m : MeaningOf M V} (old between new : RowsOf M V) (handle : Handle) (kind : Kind) (from seq : ℕ) (i : IsIdle m old) → (sum i.history).ended ≡ false
+    → StandsAsBefore m old between → WhereStanding m old (λ s. HasRoom m 1 post_places between s)
+    → ((t : Terms) (F : ℕ) (h : List (Entry ℕ)) → Stands m t between F h → HasRoom m 1 post_places between (sum h) → (sum h).ended ≡ false → Stands m t new F (h ++ posting (sum h) handle kind from seq ∷ [])) → IsIdle m new
+posts_in_room old between new handle kind from seq i going same room posted =
+    let s : Summary = sum i.history in
+    idle_keeps old new i (posting s handle kind from seq ∷ []) (keeps_one i.history (posting s handle kind from seq) (posting_opens s handle kind from seq) (posting_ended s handle kind from seq))
+    (posted i.terms i.first i.history (same i.terms i.first i.history i.stands) (room i.terms i.first i.history i.stands) going)

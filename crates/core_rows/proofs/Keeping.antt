@@ -1,10 +1,11 @@
 -- Entries that change neither which events are open nor that a reactor was stopped.
-use Rattle.std.proofs.Common.{map, ℕ, ◌≡◌, Bool, true, false, not, ◌&&◌, ◌||◌, ◌==◌, List, [], ◌∷◌, ◌++◌, refl, sym, ap, ◌∙◌, subst}
+use Rattle.std.proofs.Common.{map, ℕ, ◌≡◌, Bool, true, false, not, ◌&&◌, ◌||◌, ◌==◌, List, [], ◌∷◌, ◌++◌, refl, sym, ap, ◌∙◌, subst, Option, Some, None}
 use Rattle.std.proofs.lemmas.List.{append-nil, append_assoc}
 use Rattle.std.specs.List.{list_any}
 use Rattle.ev_types.specs.declared.upcall.Handle.{Handle}
+use Rattle.ev_types.specs.declared.upcall.Mask.{Mask}
 use Rattle.reactor_journal.specs.declared.entry.Entry.{Entry}
-use Rattle.reactor_journal.specs.declared.entry.Entry.TheVariants.{Polled, Due, Removed, Closed}
+use Rattle.reactor_journal.specs.declared.entry.Entry.TheVariants.{Opened, Polled, Due, Removed, Closed}
 use Rattle.reactor_journal.specs.Past.{past_of}
 use Rattle.reactor_journal.proofs.Turning.{past_of-more}
 use Rattle.reactor_summary.specs.Summary.{Summary, summary, step}
@@ -13,6 +14,7 @@ use Rattle.reactor_summary.specs.declared.parts.OpenEvent.{OpenEvent}
 use Rattle.ev_base.specs.declared.net.Report.{Report}
 use Rattle.reactor_core.specs.Polling.{due_of, ready_of}
 use Rattle.reactor_core.specs.Settling.{IsClosing}
+use Rattle.reactor_core.specs.Registering.{registered}
 use Rattle.reactor_core.specs.Removing.{AreRemovals}
 
 abbrev pub sum : List (Entry ℕ) → Summary
@@ -78,3 +80,8 @@ keeps_polled h now timers reports =
     let g : List (Entry ℕ) = h ++ Polled now ∷ [] in
     keeps_both h (Polled now ∷ []) (map due_of timers ++ map ready_of reports) (keeps_one h (Polled now) refl (λ q. q))
     (keeps_both g (map due_of timers) (map ready_of reports) (keeps_dues g timers) (keeps_readies (g ++ map due_of timers) reports))
+
+pub keeps_registered : (h : List (Entry ℕ)) (s : Summary) (handle : Handle) (mask : Mask) (timer : Option (ℕ × ℕ)) → Keeps h (registered s handle mask timer)
+keeps_registered h s handle mask None = keeps_one h (Opened handle mask) refl (λ q. q)
+keeps_registered h s handle mask (Some timer) =
+    keeps_both h (Opened handle mask ∷ []) _ (keeps_one h (Opened handle mask) refl (λ q. q)) (keeps_one (h ++ Opened handle mask ∷ []) _ refl (λ q. q))

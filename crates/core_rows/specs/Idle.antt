@@ -1,5 +1,5 @@
 -- When a reactor of steady handlers stands for a history in which no upcall is on its way, and when it does while one is.
-use Rattle.std.specs.Prelude.{ℕ, ◌≡◌, ◌≤◌, List, [], length, Option, Some, None}
+use Rattle.std.specs.Prelude.{ℕ, ◌≡◌, ◌≢◌, ◌≤◌, List, [], length, Option, Some, None}
 use Rattle.ev_base.specs.Net.{NetFacts}
 use Rattle.ev_base.specs.Terms.{Terms}
 use Rattle.demux.specs.declared.play_end.PlayEnd.{PlayEnd}
@@ -49,6 +49,23 @@ pub record IsOut {M V : Type 0} (m : Meaning Steady M Content NoWatch V ℕ Play
 abbrev pub IsOutOrIdle : {M V : Type 0} → Meaning Steady M Content NoWatch V ℕ PlayEnd → RowsOf M V → Option (Done Steady ℕ PlayEnd) → Type 0
 IsOutOrIdle m core (Some done) = IsOut m core done
 IsOutOrIdle m core None = IsIdle m core
+
+-- it stands for such a history, and no events are open but those of two upcalls that were made, which are to be settled
+pub record AreOut {M V : Type 0} (m : Meaning Steady M Content NoWatch V ℕ PlayEnd) (core : RowsOf M V) (done other : Done Steady ℕ PlayEnd) : Type 0 where
+  pub terms : Terms
+  pub limit : terms.limit ≡ None
+  pub first : ℕ
+  pub history : List (Entry ℕ)
+  pub stands : Stands m terms core first history
+  pub fits : DoneFits m.means terms (past_of history) done
+  pub other_fits : DoneFits m.means terms (past_of history) other
+  pub differ : done.event ≢ other.event
+  pub two_open : length (summary (past_of history)).opens ≤ 2
+
+-- it stands so while the second is out, and with the first alone where there is no second
+abbrev pub AreOutOrOne : {M V : Type 0} → Meaning Steady M Content NoWatch V ℕ PlayEnd → RowsOf M V → Done Steady ℕ PlayEnd → Option (Done Steady ℕ PlayEnd) → Type 0
+AreOutOrOne m core done (Some other) = AreOut m core done other
+AreOutOrOne m core done None = IsOut m core done
 
 -- it stands for a history that is over
 abbrev pub WasStopped : {M V : Type 0} → Meaning Steady M Content NoWatch V ℕ PlayEnd → RowsOf M V → Type 0

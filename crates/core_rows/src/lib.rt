@@ -8,10 +8,13 @@ mod round_robin;
 mod rows;
 #[cfg(test)]
 mod tests;
+#[cfg(test)]
+mod two_upcalls;
 
 pub use handler::Steady;
 pub use round_robin::RoundRobinNet;
 pub use rows::{
-    Left, Rows, cancel, cancel_meanwhile, close, hand_over, poll, post, register, remove,
-    remove_meanwhile, resume, schedule, set_mask, settle, start, stop, suspend, turn,
+    Left, Rows, cancel, cancel_meanwhile, close, hand_over, poll, post, post_in_room, register,
+    register_timed, remove, remove_meanwhile, resume, schedule, set_mask, settle, settle_one,
+    start, start_meanwhile, stop, suspend, turn,
 };

@@ -1,15 +1,16 @@
 //! Reactors of steady handlers, and their calls.
-ghost use Rattle.std.specs.Prelude.{◌≤◌, IfOk, OnErr};
-ghost use Rattle.core_rows.specs.Idle.{rows, IsIdle, IsOut, IsOutOrIdle, WasStopped};
+ghost use Rattle.std.specs.Prelude.{◌≤◌, IfOk, OnErr, Some};
+ghost use Rattle.reactor_model.specs.Turns.{IsTimer};
+ghost use Rattle.core_rows.specs.Idle.{rows, AreOut, AreOutOrOne, IsIdle, IsOut, IsOutOrIdle, WasStopped};
 
 use crate::Steady;
 use demux::PlayEnd;
 use ev_base::Net;
-use ev_types::{Handle, Kind, Mask};
+use ev_types::{Handle, Kind, Mask, NoMemory};
 use reactor_core::laws::settled_later;
 use reactor_core::{
     CancelRefused, Core, Done, HandOverRefused, LiveRefused, NotLive, Parts, PollRefused, Polled,
-    PostRefused, RegisterRefused, StartRefused, StateRefused,
+    PostRefused, RegisterRefused, Settled, StartRefused, StateRefused,
 };
 use reactor_model::{NoWatch, Volumes};
 use timer_queue::SortedTimers;
@@ -32,6 +33,20 @@ pub fn register<M: Net<End = PlayEnd>, V: Volumes<u64>>(
     core.register(handler, mask, None)
 }
 
+/// Registers a handler with a timer: its first delay and its period.
+pub fn register_timed<M: Net<End = PlayEnd>, V: Volumes<u64>>(
+    core: &mut Rows<M, V>,
+    handler: Steady,
+    mask: Mask,
+    timer: (u64, u64),
+) -> Result<Handle, (Steady, RegisterRefused)>
+    requires idle { IsIdle (rows M.facts M.keeps V.facts) core.old }
+    requires timer { IsTimer (Some timer) }
+    ensures { IsIdle (rows M.facts M.keeps V.facts) core.new }
+{
+    core.register(handler, mask, Some(timer))
+}
+
 /// Posts a notification.
 pub fn post<M: Net<End = PlayEnd>, V: Volumes<u64>>(
     core: &mut Rows<M, V>,
@@ -44,6 +59,29 @@ pub fn post<M: Net<End = PlayEnd>, V: Volumes<u64>>(
     ensures { IsIdle (rows M.facts M.keeps V.facts) core.new }
 {
     core.post(handle, kind, from, seq)
+}
+
+/// Posts a notification, for which room is made before; a reactor that was stopped takes none.
+pub fn post_in_room<M: Net<End = PlayEnd>, V: Volumes<u64>>(
+    core: &mut Rows<M, V>,
+    handle: Handle,
+    kind: Kind,
+    from: u64,
+    seq: u64,
+) -> Result<(), PostRefused>
+    requires { IsIdle (rows M.facts M.keeps V.facts) core.old }
+    ensures { IsIdle (rows M.facts M.keeps V.facts) core.new }
+{
+    if core.is_ended() {
+        return Err(PostRefused::Stopped);
+    }
+    match core.reserve_post() {
+        Ok(()) => {
+            core.post_reserved(handle, kind, from, seq);
+            Ok(())
+        }
+        Err(NoMemory) => Err(PostRefused::NoMemory),
+    }
 }
 
 /// Starts the next upcall and makes it. It is to be settled.
@@ -62,11 +100,44 @@ pub fn start<M: Net<End = PlayEnd>, V: Volumes<u64>>(
 }
 
 /// Settles the upcall that is on its way.
-pub fn settle<M: Net<End = PlayEnd>, V: Volumes<u64>>(core: &mut Rows<M, V>, done: Done<Steady>)
+pub fn settle<M: Net<End = PlayEnd>, V: Volumes<u64>>(
+    core: &mut Rows<M, V>,
+    done: Done<Steady>,
+) -> Settled
     requires { IsOut (rows M.facts M.keeps V.facts) core.old done }
     ensures { IsIdle (rows M.facts M.keeps V.facts) core.new }
 {
-    core.settle(done);
+    core.settle(done)
+}
+
+/// Starts the next upcall while one is on its way, and makes it.
+pub fn start_meanwhile<M: Net<End = PlayEnd>, V: Volumes<u64>>(
+    core: &mut Rows<M, V>,
+    done: &Done<Steady>,
+) -> Result<Option<Done<Steady>>, StartRefused>
+    requires { IsOut (rows M.facts M.keeps V.facts) core.old done.now }
+    ensures ok { IfOk result (λ other. AreOutOrOne (rows M.facts M.keeps V.facts) core.new done.entry.now other) }
+    ensures err { OnErr result (IsOut (rows M.facts M.keeps V.facts) core.new done.entry.now) }
+{
+    settled_later::<Steady>();
+    match core.start() {
+        Ok(Some(job)) => Ok(Some(job.run())),
+        Ok(None) => Ok(None),
+        Err(refused) => Err(refused),
+    }
+}
+
+/// Settles one of two upcalls that are on their way.
+pub fn settle_one<M: Net<End = PlayEnd>, V: Volumes<u64>>(
+    core: &mut Rows<M, V>,
+    done: Done<Steady>,
+    other: &Done<Steady>,
+) -> Settled
+    requires { AreOut (rows M.facts M.keeps V.facts) core.old done other.now }
+    ensures { IsOut (rows M.facts M.keeps V.facts) core.new other.entry.now }
+{
+    settled_later::<Steady>();
+    core.settle(done)
 }
 
 /// Starts the next upcall, makes it and settles it, and gives the number of its event.
