@@ -1,16 +1,19 @@
 //! What an event costs in the one-thread reactor: to wait for it, to start its upcall, to make it and to settle it. The handles are
 //! reported or notified in turn, 256 for each wait, and the journal is handed over in volumes of 65,536 entries, which are let go.
-//! Without an argument it serves few events and prints how many entries there were; with the argument `time` it serves about
-//! 1,000,000 events and prints nanoseconds for each; with the argument `long` it serves about 1,000,000 of each kind with 4,000
-//! handles, and with `longer` about 10,000,000, and prints how many entries there were. A call that is refused is made once more.
+//! Without an argument it serves few events and prints how many entries there were, and then the journal of a short run that makes
+//! every call; with the argument `calls` it prints that journal alone. With the argument `time` it serves about 1,000,000 events and
+//! prints nanoseconds for each; with the argument `long` it serves about 1,000,000 of each kind with 4,000 handles, and with `longer`
+//! about 10,000,000, and prints how many entries there were. A call that is refused is made once more.
 #![tactic(auto)]
 
 ghost use Rattle.std.specs.Prelude.{◌≤◌};
 ghost use Rattle.core_rows.specs.Idle.{IsIdle};
 ghost use Rattle.core_rows.specs.RoundRobin.{round_robin_rows};
 
+mod calls;
 mod runs;
 
+use calls::run_calls;
 use runs::{
     BenchRows, EVENTS_OF_WAIT, Refused, entries_of, reactor, register_all, serve_posts,
     serve_reports,
@@ -50,6 +53,7 @@ fn main(rt: HostRuntime) -> io::Result<()> {
             "time" => timed = true,
             "long" => waits = LONG,
             "longer" => waits = LONGER,
+            "calls" => return report_calls(&rt),
             _ => {}
         }
     }
@@ -63,7 +67,28 @@ fn main(rt: HostRuntime) -> io::Result<()> {
         report(&rt, timed, by, 100, waits)?;
         report(&rt, timed, by, 4_000, waits)?;
     }
-    Ok(())
+    if timed {
+        return Ok(());
+    }
+    report_calls(&rt)
+}
+
+/// Prints the journal of the short run that makes every call, first the entries that were handed over.
+fn report_calls(rt: &HostRuntime) -> io::Result<()> {
+    let calls = match run_calls(rt.alloc()) {
+        Ok(calls) => calls,
+        Err(Refused) => return println!(rt; "no reactor was made"),
+    };
+    for entry in calls.volumes.entries() {
+        println!(rt; "{entry:?}")?;
+    }
+    for entry in calls.journal.as_slice() {
+        println!(rt; "{entry:?}")?;
+    }
+    match calls.made {
+        Ok(()) => Ok(()),
+        Err(Refused) => println!(rt; "a call was refused twice"),
+    }
 }
 
 /// Serves the events of so many waits, with all handlers registered.
