@@ -1,14 +1,16 @@
 #!/bin/sh
 # Runs crates/bench_core on about 2,000,000 and on about 20,000,000 events with 4,000 handles, and prints the most memory that each run
 # took, in kilobytes, and its processor time. With the words `refused FROM TO` it has instead each allocation from number FROM to
-# number TO of the short run refused, one in each run, and says whether the output is the same: the program makes each call of the
-# reactor that was refused once more. A refusal outside the reactor, as where the arguments are read, ends the program. Needs GNU time,
-# and rt.
+# number TO refused, one in each run, of the short run that makes every call of the reactor, and says whether the journal is the same:
+# the program makes each call that was refused once more. It has 36 allocations, of which the first four read the arguments; a refusal
+# there ends the program. Needs GNU time, and rt.
 root=$(cd "$(dirname "$0")/.." && pwd)
 cd "$root/crates/bench_core" || exit 1
 if [ "$1" = refused ]; then
+    journal=$(grep -v ' handles, ' stdout)
     for number in $(seq "$2" "$3"); do
-        rt try --fail-alloc "$number" 2>/dev/null </dev/null | grep handles | cmp -s - stdout && said=same || said=differs
+        found=$(rt try --fail-alloc "$number" -- calls 2>/dev/null </dev/null)
+        [ "$found" = "$journal" ] && said=same || said=differs
         echo "$number: $said"
     done
     exit
