@@ -2,7 +2,7 @@
 # Runs crates/bench_core on about 2,000,000 and on about 20,000,000 events with 4,000 handles, and prints the most memory that each run
 # took, in kilobytes, and its processor time. With the words `refused FROM TO` it has instead each allocation from number FROM to
 # number TO refused, one in each run, of the short run that makes every call of the reactor, and says whether the journal is the same:
-# the program makes each call that was refused once more. It has 36 allocations, of which the first four read the arguments; a refusal
+# the program makes each call that was refused once more. It has 70 allocations, of which the first four read the arguments; a refusal
 # there ends the program. Needs GNU time, and rt.
 root=$(cd "$(dirname "$0")/.." && pwd)
 cd "$root/crates/bench_core" || exit 1

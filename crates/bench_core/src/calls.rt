@@ -35,10 +35,11 @@ const NONE: Mask = Mask {
     except: false,
 };
 
-/// How many handlers may be live, and how many entries a volume has at least.
+/// How many handlers may be live.
 const MOST: u64 = 5;
 
-const VOLUME: u64 = 8;
+/// How many entries a volume has at least: a volume is due as soon as there is an entry.
+const VOLUME: u64 = 1;
 
 /// One call of the reactor, or two upcalls that are on their way at once.
 #[derive(Clone, Copy)]
@@ -60,8 +61,9 @@ enum Call {
     Remove(Handle),
 }
 
-/// The calls of the run, in order.
-const CALLS: [Call; 22] = [
+/// The calls of the run, in order. A volume is handed over before each, so that the journal has no more room than what is owed, and
+/// each call that appends an entry has to ask for memory.
+const CALLS: [Call; 20] = [
     Call::RegisterAgain,
     Call::RegisterOffering,
     Call::RegisterTimed,
@@ -69,7 +71,6 @@ const CALLS: [Call; 22] = [
     Call::Turn,
     Call::Turn,
     Call::TwoTurns,
-    Call::HandOver,
     Call::Suspend(Handle(1)),
     Call::Post {
         handle: Handle(1),
@@ -88,7 +89,6 @@ const CALLS: [Call; 22] = [
     Call::Turn,
     Call::Turn,
     Call::Remove(Handle(1)),
-    Call::HandOver,
     Call::Turn,
 ];
 
@@ -214,12 +214,13 @@ fn make(core: &mut CallRows, call: Call) -> Result<(), Refused>
     }
 }
 
-/// Makes the calls of the run.
+/// Makes the calls of the run, and hands a volume over before each.
 fn make_all(core: &mut CallRows) -> Result<(), Refused>
     requires { IsIdle play_rows core.old }
     ensures { IsIdle play_rows core.new }
 {
     for call in CALLS {
+        make(core, Call::HandOver)?;
         make(core, call)?;
     }
     Ok(())
