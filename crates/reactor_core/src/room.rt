@@ -1,5 +1,5 @@
 //! Room for what a call appends, and for what is owed.
-ghost use Rattle.std.specs.Prelude.{◌≡◌, ◌≤◌, ◌+◌, ◌^◌, ℕ, List, OnOk, IfSome, true, false};
+ghost use Rattle.std.specs.Prelude.{◌≡◌, ◌≤◌, ◌+◌, ◌<◌, ◌^◌, max, ℕ, List, OnOk, IfSome, IfNone, true, false};
 ghost use Rattle.ev_base.specs.Counts.{Rose};
 ghost use Rattle.ev_base.specs.Terms.{Terms};
 ghost use Rattle.reactor_journal.specs.declared.entry.Entry.{Entry};
@@ -19,9 +19,10 @@ use timer_queue::TimerQueue;
 /// How many entries a history has at most.
 pub(crate) const MOST_ENTRIES: u64 = 1 << 62;
 
-/// Places for so many more beside those for the open events, or None where there are too many.
+/// Places for so many more beside those for the open events, or None exactly where some of them are too many.
 fn places_for(opened: usize, more: Places) -> Option<Places>
-    ensures { IfSome result (λ places. places ≡ places_for opened more) }
+    ensures places { IfSome result (λ places. places ≡ places_for opened more) }
+    ensures beyond { IfNone result (2 ^ 64 ≤ opened + max (max more.handles more.timers) (max more.timeouts more.events)) }
 {
     Some(Places {
         handles: opened.checked_add(more.handles)?,
@@ -32,10 +33,11 @@ fn places_for(opened: usize, more: Places) -> Option<Places>
     })
 }
 
-/// How many entries there must be room for, beside those that there are, or None where they are too many.
+/// How many entries there must be room for, beside those that there are, or None exactly where they are too many.
 fn entries_for(owed: usize, more: usize, held: u64) -> Option<usize>
     ensures entries { IfSome result (λ entries. entries ≡ owed + more) }
     ensures within { IfSome result (λ entries. held + entries ≤ 2 ^ 62) }
+    ensures beyond { IfNone result (2 ^ 62 < held + (owed + more)) }
 {
     let entries = owed.checked_add(more)?;
     let all = held.checked_add(entries as u64)?;

@@ -12,7 +12,7 @@ returns-clause-room g c t F h o =
     let open_is : c.open_count-open.result ≡ length s.opens = c.open_count-open.ensures s o.tracks.state in
     let owed_is : c.owed.result ≡ owed s = c.owed.ensures s o.tracks.state in
     let held : c.entries.result ≡ s.entries = c.entries.ensures s o.tracks.state in
-    let places : c.in-Some-places_for.places ≡ places_for (length s.opens) c.args.more = c.in-Some-places_for.ensures ∙ ap (λ n. places_for n c.args.more) open_is in
+    let places : c.in-Some-places_for.places ≡ places_for (length s.opens) c.args.more = c.in-Some-places_for.ensures.places ∙ ap (λ n. places_for n c.args.more) open_is in
     let more : c.in-Some-places_for.places.handles ≡ length s.opens + c.args.more.handles = ap (λ (p : Places). p.handles) places in
     record {
       journal = omega (arith, c.in_ok-reserve.ensures.room, c.in-Some.ensures.entries, owed_is);
