@@ -1,5 +1,6 @@
 //! What an event costs in the one-thread reactor: to wait for it, to start its upcall, to make it and to settle it. The handles are
-//! reported or notified in turn, 256 for each wait, and the journal is handed over in volumes of 65,536 entries, which are let go.
+//! reported or notified in turn, 256 for each wait, also where handles between them were closed, and the journal is handed over in
+//! volumes of 65,536 entries, which are let go.
 //! Without an argument it serves few events and prints how many entries there were, and then the journal of a short run that makes
 //! every call; with the argument `calls` it prints that journal alone. With the argument `time` it serves about 1,000,000 events and
 //! prints nanoseconds for each; with the argument `long` it serves about 1,000,000 of each kind with 4,000 handles, and with `longer`
@@ -11,9 +12,12 @@ ghost use Rattle.core_rows.specs.Idle.{IsIdle};
 ghost use Rattle.core_rows.specs.RoundRobin.{round_robin_rows};
 
 mod calls;
+mod gaps;
 mod runs;
 
 use calls::run_calls;
+use ev_types::Handle;
+use gaps::Gaps;
 use runs::{
     BenchRows, EVENTS_OF_WAIT, Refused, entries_of, reactor, register_all, serve_posts,
     serve_reports,
@@ -26,8 +30,8 @@ use std::{env, io};
 enum By {
     /// The net reports them.
     Reports,
-    /// They are posted.
-    Posts,
+    /// They are posted to handles with such gaps between them.
+    Posts(Gaps),
 }
 
 /// How many events a run had, how many nanoseconds they took, and how many entries it handed over and held in the end.
@@ -59,13 +63,16 @@ fn main(rt: HostRuntime) -> io::Result<()> {
     }
     if waits > 0 {
         report(&rt, false, By::Reports, 4_000, waits)?;
-        return report(&rt, false, By::Posts, 4_000, waits);
+        return report(&rt, false, By::Posts(Gaps::None), 4_000, waits);
     }
     let waits = if timed { LONG } else { 4 };
-    for by in [By::Reports, By::Posts] {
+    for by in [By::Reports, By::Posts(Gaps::None)] {
         report(&rt, timed, by, 1, waits)?;
         report(&rt, timed, by, 100, waits)?;
         report(&rt, timed, by, 4_000, waits)?;
+    }
+    for gaps in [Gaps::EveryOther, Gaps::Random, Gaps::BehindFirst] {
+        report(&rt, timed, By::Posts(gaps), 4_000, waits)?;
     }
     if timed {
         return Ok(());
@@ -91,14 +98,28 @@ fn report_calls(rt: &HostRuntime) -> io::Result<()> {
     }
 }
 
-/// Serves the events of so many waits, with all handlers registered.
-fn serve(core: &mut BenchRows, by: By, handles: u64, waits: u64) -> Result<u64, Refused>
+/// The gaps between the handles of a run.
+fn gaps_of(by: By) -> Gaps {
+    match by {
+        By::Reports => Gaps::None,
+        By::Posts(gaps) => gaps,
+    }
+}
+
+/// Serves the events of so many waits, where handlers were registered: at these handles.
+fn serve(
+    core: &mut BenchRows,
+    by: By,
+    registered: Result<Vec<Handle>, Refused>,
+    waits: u64,
+) -> Result<u64, Refused>
     requires { IsIdle round_robin_rows core.old }
     ensures { IsIdle round_robin_rows core.new }
 {
+    let live = registered?;
     match by {
         By::Reports => serve_reports(core, waits),
-        By::Posts => serve_posts(core, handles, waits),
+        By::Posts(_) => serve_posts(core, &live, waits),
     }
 }
 
@@ -110,27 +131,38 @@ fn run(rt: &HostRuntime, by: By, handles: u64, waits: u64) -> io::Result<Result<
     let start = Instant::now(rt)?;
     let each = match by {
         By::Reports => EVENTS_OF_WAIT,
-        By::Posts => 0,
+        By::Posts(_) => 0,
     };
     let mut core = match reactor(rt.alloc(), handles, each) {
         Ok(core) => core,
         Err(refused) => return Ok(Err(refused)),
     };
-    let registered = register_all(&mut core, handles);
+    let registered = register_all(&mut core, rt.alloc(), handles, gaps_of(by));
     let before = start.elapsed(rt);
-    let served = serve(&mut core, by, handles, waits);
+    let served = serve(&mut core, by, registered, waits);
     let after = start.elapsed(rt);
     let (handed, held) = entries_of(core);
     let nanos = after?.as_nanos().saturating_sub(before?.as_nanos());
-    Ok(match (registered, served) {
-        (Ok(()), Ok(events)) => Ok(Served {
+    Ok(match served {
+        Ok(events) => Ok(Served {
             events,
             nanos,
             handed,
             held,
         }),
-        _ => Err(Refused),
+        Err(refused) => Err(refused),
     })
+}
+
+/// How the events of a run come about, in words.
+fn name_of(by: By) -> &'static str {
+    match by {
+        By::Reports => "reported",
+        By::Posts(Gaps::None) => "posted",
+        By::Posts(Gaps::EveryOther) => "posted, every other handle closed",
+        By::Posts(Gaps::Random) => "posted, random handles closed",
+        By::Posts(Gaps::BehindFirst) => "posted, 10000 handles behind the first closed",
+    }
 }
 
 /// Prints what a run came to: nanoseconds for each event, or how many entries there were.
@@ -138,10 +170,7 @@ fn report(rt: &HostRuntime, timed: bool, by: By, handles: u64, waits: u64) -> io
     requires least { 1 ≤ handles }
     requires greatest { handles ≤ 4097 }
 {
-    let name = match by {
-        By::Reports => "reported",
-        By::Posts => "posted",
-    };
+    let name = name_of(by);
     match run(rt, by, handles, waits)? {
         Ok(run) if timed && run.events > 0 => {
             println!(rt;

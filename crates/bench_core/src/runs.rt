@@ -3,7 +3,10 @@ ghost use Rattle.std.specs.Prelude.{◌≤◌, IfOk};
 ghost use Rattle.core_rows.specs.Idle.{IsIdle};
 ghost use Rattle.core_rows.specs.RoundRobin.{round_robin_rows};
 
-use core_rows::{Left, RoundRobinNet, Rows, Steady, close, hand_over, poll, post, register, turn};
+use crate::gaps::{Gaps, next_random};
+use core_rows::{
+    Left, RoundRobinNet, Rows, Steady, close, hand_over, poll, post, register, remove, turn,
+};
 use ev_types::{Handle, Kind, Mask};
 use reactor_core::Core;
 use reactor_model::{DropVolumes, NoWatch};
@@ -55,37 +58,73 @@ pub fn reactor(alloc: Global, handles: u64, each: usize) -> Result<BenchRows, Re
     }
 }
 
-/// Registers a handler.
-fn register_one(core: &mut BenchRows) -> Result<(), Refused>
+/// Registers a handler, and tells its handle.
+fn register_one(core: &mut BenchRows) -> Result<Handle, Refused>
     requires { IsIdle round_robin_rows core.old }
     ensures { IsIdle round_robin_rows core.new }
 {
     match register(core, Steady::new(), READ) {
-        Ok(_) => Ok(()),
+        Ok(handle) => Ok(handle),
         Err(_) => Err(Refused),
     }
 }
 
-/// Registers a handler. Where it is refused it is asked for once more.
-fn register_one_or_again(core: &mut BenchRows) -> Result<(), Refused>
+/// Registers a handler, and tells its handle. Where it is refused it is asked for once more.
+fn register_one_or_again(core: &mut BenchRows) -> Result<Handle, Refused>
     requires { IsIdle round_robin_rows core.old }
     ensures { IsIdle round_robin_rows core.new }
 {
     match register_one(core) {
-        Ok(done) => Ok(done),
+        Ok(handle) => Ok(handle),
         Err(Refused) => register_one(core),
     }
 }
 
-/// Registers so many handlers.
-pub fn register_all(core: &mut BenchRows, handles: u64) -> Result<(), Refused>
+/// Registers so many handlers one after the other, each removed before the next.
+fn register_and_remove(core: &mut BenchRows, count: u32) -> Result<(), Refused>
     requires { IsIdle round_robin_rows core.old }
     ensures { IsIdle round_robin_rows core.new }
 {
-    for _ in 0..handles {
-        register_one_or_again(core)?;
+    for _ in 0..count {
+        let handle = register_one_or_again(core)?;
+        match remove(core, handle) {
+            Ok(()) => {}
+            Err(_) => return Err(Refused),
+        }
     }
     Ok(())
+}
+
+/// Appends a handle. Where there is no memory it is asked for once more.
+fn append_or_again(live: &mut Vec<Handle>, handle: Handle) -> Result<(), Refused> {
+    match live.push(handle) {
+        Ok(()) => Ok(()),
+        Err(_) => match live.push(handle) {
+            Ok(()) => Ok(()),
+            Err(_) => Err(Refused),
+        },
+    }
+}
+
+/// Registers so many handlers that stay, with such gaps between them, and tells their handles.
+pub fn register_all(
+    core: &mut BenchRows,
+    alloc: Global,
+    handles: u64,
+    gaps: Gaps,
+) -> Result<Vec<Handle>, Refused>
+    requires { IsIdle round_robin_rows core.old }
+    ensures { IsIdle round_robin_rows core.new }
+{
+    let mut live = Vec::new(alloc);
+    let mut random = 0;
+    for at in 0..handles {
+        random = next_random(random);
+        register_and_remove(core, gaps.closed_before(at, random))?;
+        let handle = register_one_or_again(core)?;
+        append_or_again(&mut live, handle)?;
+    }
+    Ok(live)
 }
 
 /// Waits once, a volume handed over before where one is due.
@@ -190,27 +229,36 @@ fn post_one_or_again(core: &mut BenchRows, handle: Handle, seq: u64) -> Result<(
     }
 }
 
+/// The handle whose turn it is at this number.
+fn in_turn(live: &[Handle], seq: u64) -> Option<Handle> {
+    let place = seq.checked_rem(live.len() as u64)?;
+    live.get(place as usize).copied()
+}
+
 /// Posts as many notifications as a wait may have reports, from this number on, to the handles in turn.
-fn post_all(core: &mut BenchRows, handles: u64, from: u64) -> Result<(), Refused>
+fn post_all(core: &mut BenchRows, live: &[Handle], from: u64) -> Result<(), Refused>
     requires { IsIdle round_robin_rows core.old }
     ensures { IsIdle round_robin_rows core.new }
 {
     for at in 0..EVENTS_OF_WAIT {
         let seq = from.saturating_add(at as u64);
-        post_one_or_again(core, Handle(seq % handles.max(1)), seq)?;
+        match in_turn(live, seq) {
+            Some(handle) => post_one_or_again(core, handle, seq)?,
+            None => return Ok(()),
+        }
     }
     Ok(())
 }
 
 /// Waits so many times, each time with as many notifications as a wait may have reports, and serves them. It tells how many there
 /// were.
-pub fn serve_posts(core: &mut BenchRows, handles: u64, waits: u64) -> Result<u64, Refused>
+pub fn serve_posts(core: &mut BenchRows, live: &[Handle], waits: u64) -> Result<u64, Refused>
     requires { IsIdle round_robin_rows core.old }
     ensures { IsIdle round_robin_rows core.new }
 {
     let mut served: u64 = 0;
     for _ in 0..waits {
-        post_all(core, handles, served)?;
+        post_all(core, live, served)?;
         wait_or_again(core)?;
         served = served.saturating_add(serve_all(core)?);
     }

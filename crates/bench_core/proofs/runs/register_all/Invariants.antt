@@ -2,5 +2,5 @@ use Rattle.core_rows.specs.Idle.{IsIdle}
 use Rattle.core_rows.specs.RoundRobin.{round_robin_rows}
 use Rattle.bench_core.proofs.runs.register_all.Given as goal
 
-abbrev pub invariant-loop : goal.invariant-loop
-invariant-loop l = IsIdle round_robin_rows l.core
+abbrev pub invariant-loop-at : goal.invariant-loop-at
+invariant-loop-at l = IsIdle round_robin_rows l.core
