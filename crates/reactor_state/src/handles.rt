@@ -36,27 +36,58 @@ fn bisected(handles: &[LiveHandle], handle: Handle) -> Option<usize>
     }
 }
 
-/// The place of this handle, sought where it can stand: no two handles have one number, so at most as many stand before it as there are
-/// numbers from the first to it, and behind it as from it to the last. Where no number between them is missing that is one place.
+/// How many probes `sought` makes at most: each at least halves how many places are left.
+const PROBES: u32 = 64;
+
+/// The place of this handle, sought between two places with the guess first. No two handles have one number, so it stands at most as
+/// many places from a probe as its number is from the number there. Within that it is sought by bisection.
+fn sought(
+    handles: &[LiveHandle],
+    handle: Handle,
+    guess: usize,
+    low: usize,
+    high: usize,
+) -> Option<usize>
+    ensures { IfSome result (λ place. (place < length handles.now) × HoldsAt (λ h. h.handle.0 ≡ handle.0) handles.now place) }
+{
+    let (mut low, mut high, mut place) = (low, high, guess);
+    for _ in 0..PROBES {
+        let number = handles.get(place)?.handle.0;
+        if number == handle.0 {
+            return Some(place);
+        }
+        if number < handle.0 {
+            low = place.saturating_add(1);
+            high = high.min(place.saturating_add((handle.0 - number) as usize));
+        } else {
+            high = place.checked_sub(1)?;
+            low = low.max(place.saturating_sub((number - handle.0) as usize));
+        }
+        place = low + high.checked_sub(low)? / 2;
+    }
+    None
+}
+
+/// The place of this handle, guessed. No two handles have one number, so it stands at most as many places from the first and from the
+/// last handle as its number is from theirs: just so many, where no number between is missing. Else the guess is where it would stand
+/// if the missing numbers were spread evenly, and it is sought from there.
 fn near(handles: &[LiveHandle], handle: Handle) -> Option<usize>
     ensures { IfSome result (λ place. (place < length handles.now) × HoldsAt (λ h. h.handle.0 ≡ handle.0) handles.now place) }
 {
-    let before = handle.0.checked_sub(handles.first()?.handle.0)?;
-    let behind = handles.last()?.handle.0.checked_sub(handle.0)?;
-    let end = handles.len().min((before as usize).saturating_add(1));
-    let start = handles
-        .len()
-        .saturating_sub((behind as usize).saturating_add(1));
-    if start >= end {
-        return None;
+    let last = handles.len().checked_sub(1)?;
+    let before = handle.0.checked_sub(handles[0].handle.0)?;
+    let behind = handles[last].handle.0.checked_sub(handle.0)?;
+    let high = last.min(before as usize);
+    if handles[high].handle.0 == handle.0 {
+        return Some(high);
     }
-    let place = start + handles[start..end].partition_point(|h| h.handle.0 < handle.0);
-    let found = handles.get(place)?;
-    if found.handle.0 == handle.0 {
-        Some(place)
-    } else {
-        None
+    let low = last.saturating_sub(behind as usize);
+    if handles[low].handle.0 == handle.0 {
+        return Some(low);
     }
+    let numbers = before.saturating_add(behind);
+    let guess = before.saturating_mul(last as u64).checked_div(numbers)? as usize;
+    sought(handles, handle, guess, low, high)
 }
 
 /// The place of this handle.
