@@ -42,7 +42,7 @@ fn bisected(index: &[Registered], handle: Handle) -> Option<usize>
     }
 }
 
-// How many probes `sought` makes at most: each at least halves how many places are left.
+// How many probes `sought` makes at most: each behind the first at least halves how many places are left.
 const PROBES: u32 = 64;
 
 // The place of this handle, sought between two places with the guess first. No two handles have one number, so it stands at most as
@@ -76,7 +76,7 @@ fn sought(
 
 // The place of this handle, guessed. No two handles have one number, so it stands at most as many places from the first and from the
 // last handle as its number is from theirs: just so many, where no number between is missing. Else the guess is where it would stand
-// if the missing numbers were spread evenly, and it is sought from there.
+// if the missing numbers were spread evenly, and it is sought from there. A guess that is far off costs probes and nothing else.
 fn near(index: &[Registered], handle: Handle) -> Option<usize>
     ensures { IfSome result (λ place. (place < length index.now) × HoldsAt (λ r. r.handle.0 ≡ handle.0) index.now place) }
 {
