@@ -21,6 +21,7 @@ use Rattle.log_lines.specs.declared.end_kind.EndKind.{EndKind}
 use Rattle.log_lines.specs.declared.end_kind.EndKind.TheVariants as kind
 use Rattle.reactor_journal.specs.Event.{Item, Origin}
 use Rattle.reactor_journal.specs.declared.entry.Entry.{Entry}
+use Rattle.reactor_journal.specs.declared.entry.Entry.TheVariants.{Closed as ClosedEntry}
 use Rattle.reactor_model.specs.Volumes.{VolumesFacts}
 use Rattle.log_handler.specs.declared.note.ServerNote.{ServerNote}
 use Rattle.log_handler.specs.declared.note.ServerNote.TheVariants as note
@@ -31,10 +32,10 @@ use Rattle.log_handler.specs.Laws.{Accounts, CoursesAccount, EndedSo, HasRecords
 use Rattle.one_net.specs.declared.one_end.OneEnd.{OneEnd}
 use Rattle.one_net.specs.OneEnd.{one_end_facts, is_over, given_by, given_of, end_bytes, extra_of, failed_of, input_of, count_of}
 use Rattle.one_net.specs.OneKeeps.{OneEndKeeps, FaultsSince, IsCountOf, most_input, bytes_at_start}
-use Rattle.one_run.specs.Phases.{EndsBy, AllReadOn, IsFinished, note_of, notes_in, turns_in}
+use Rattle.one_run.specs.Phases.{one_handle, EndsBy, AllReadOn, IsFinished, note_of, notes_in, turns_in}
 use Rattle.one_run.specs.Opening.{StartsRun}
 use Rattle.one_run.proofs.Leaves.{finished_notes}
-use Rattle.logging_server.specs.Outcome.{lines_of, WhereBytesAreTold, IsReadToEnd, IsClosedWith, TakesInput, TellsConnection, ComesTo}
+use Rattle.logging_server.specs.Outcome.{lines_of, WhereBytesAreTold, IsReadToEnd, IsClosedWith, TakesInput, TellsConnection, IsWordFor, IsClosedIn, ComesTo}
 use Rattle.logging_server.proofs.Courses.{reads_on, few_turns}
 use Rattle.logging_server.proofs.Lines.{lines_by_notes, lines_of_pieces, pieces_of, records_of_turns}
 
@@ -112,6 +113,23 @@ module _ {S : Type 0} (source : S → SourceFacts) (t : Terms) (end : OneEnd S) 
 not_stopped : (reason : Why) (kept : Option EndKind) (turn : Option (Item ServerNote)) (p : Progress) (word : EndKind) → reason ≡ Own → IsClosing reason kept word → EndedSo None turn p kept → word ≡ kind.Stopped → ⊥
 not_stopped reason kept turn p word own closing ended stopped =
     subst (λ kept. EndedSo None turn p kept) (subst (λ why. IsClosing why kept word) own closing ∙ ap Some stopped) ended
+
+removed_word : (kept : Option EndKind) (word : EndKind) → IsClosing Removed kept word → (word ≡ kind.NoMemory) ⊎ (word ≡ kind.Stopped)
+removed_word None word closing = inr closing
+removed_word (Some kind.End) word closing = inr closing
+removed_word (Some (kind.Partial n)) word closing = inr closing
+removed_word (Some (kind.Malformed at)) word closing = inr closing
+removed_word (Some kind.Failed) word closing = inr closing
+removed_word (Some kind.NoMemory) word closing = inl closing
+removed_word (Some kind.Idle) word closing = inr closing
+removed_word (Some kind.Stopped) word closing = inr closing
+removed_word (Some kind.Refused) word closing = inr closing
+
+-- the word is one for the reason
+word_for : (reason : Why) (had : List (Item ServerNote)) (kept : Option EndKind) (turn : Option (Item ServerNote)) (p : Progress) (word : EndKind) → EndsBy reason had → IsClosing reason kept word → EndedSo None turn p kept → IsWordFor reason word
+word_for Own had kept turn p word ends closing ended = λ stopped. not_stopped Own kept turn p word refl closing ended stopped
+word_for Removed had kept turn p word ends closing ended = removed_word kept word closing
+word_for Refused had kept turn p word ends closing ended = absurd ends
 
 -- ---- the notes
 
@@ -201,9 +219,18 @@ module _ {S : Type 0} (source : S → SourceFacts) (t : Terms) (i : SourceFacts)
     entries = omega (arith, f.closed.size, f.few, few_turns f.closed.reason (turns_in f.closed.before) f.closed.ends, accounts.again, accounts.took);
   }
 
+  closes_in : IsClosedIn h gone.word
+  closes_in = record {
+    before = f.closed.before;
+    rest = f.closed.rest;
+    is = f.closed.is ∙ ap (λ (said : ServerNote). (f.closed.before ++ ClosedEntry one_handle said ∷ []) ++ f.closed.rest) said;
+    reason = subst (λ (why : Why). IsWordFor why gone.word) (sym f.closed.closed_for)
+        (word_for f.closed.reason (turns_in f.closed.before) gone.served.now.kept (last_turn (turns_in f.closed.before)) gone.served.now gone.word f.closed.ends gone.closing accounts.ended);
+  }
+
   pub became : Became source i h f end
   became = record {
-    run = record { taken = gone.served.now.taken; extra = extra_of end; decoded = closed.decoded; word = gone.word; takes = takes; closed = closed.closed; tells = tells };
+    run = record { taken = gone.served.now.taken; extra = extra_of end; decoded = closed.decoded; word = gone.word; takes = takes; closed = closed.closed; tells = tells; closes = closes_in };
     extra = refl;
     said = said;
     own = λ own stopped. not_stopped f.closed.reason gone.served.now.kept (last_turn (turns_in f.closed.before)) gone.served.now gone.word own gone.closing accounts.ended stopped;

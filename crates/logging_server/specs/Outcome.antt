@@ -3,6 +3,8 @@
 -- tells j at its end.
 use Rattle.std.specs.Prelude.{◌≡◌, ◌≢◌, ◌≤◌, ◌+◌, ◌*◌, ◌⊎◌, ℕ, Bool, true, false, List, [], ◌∷◌, ◌++◌, length, flat_map, Option, Some, None}
 use Rattle.std.specs.List.{sum_by, AllByRecursion}
+use Rattle.ev_types.specs.declared.upcall.Why.{Why}
+use Rattle.ev_types.specs.declared.upcall.Why.TheVariants.{Own, Removed, Refused}
 use Rattle.ev_base.specs.Bytes.{ReaderBytes, MovesOn, NothingLeft}
 use Rattle.ev_base.specs.Source.{SourceFacts}
 use Rattle.cdr_record.specs.declared.record.LogRecord.{LogRecord}
@@ -12,11 +14,13 @@ use Rattle.log_lines.specs.declared.end_kind.EndKind.{EndKind}
 use Rattle.log_lines.specs.declared.end_kind.EndKind.TheVariants as end
 use Rattle.log_lines.specs.Texts.{record_lines, closing_line}
 use Rattle.reactor_journal.specs.declared.entry.Entry.{Entry}
+use Rattle.reactor_journal.specs.declared.entry.Entry.TheVariants as entry
+use Rattle.reactor_journal.specs.Past.{past_of, reason_of}
 use Rattle.log_handler.specs.declared.note.ServerNote.{ServerNote}
 use Rattle.log_handler.specs.declared.note.ServerNote.TheVariants as note
 use Rattle.log_handler.specs.Laws.{took_of, records_of_note}
 use Rattle.one_net.specs.OneKeeps.{FaultsSince}
-use Rattle.one_run.specs.Phases.{notes_in}
+use Rattle.one_run.specs.Phases.{notes_in, one_handle}
 
 -- the lines of the records of some bytes, and a closing line
 abbrev pub lines_of : List ℕ → EndKind → List ℕ
@@ -71,6 +75,20 @@ pub record TellsConnection (journal : List (Entry ServerNote)) (taken decoded : 
   pub records : flat_map records_of_note pieces ≡ (decode decoded).records
   pub entries : length journal ≤ 2 * length taken + 16
 
+-- The word by the reason for which a connection is closed: one that closed itself was not stopped, and one that was removed was, or
+-- there was no memory.
+abbrev pub IsWordFor : Why → EndKind → Type 0
+IsWordFor Own word = word ≢ end.Stopped
+IsWordFor Removed word = (word ≡ end.NoMemory) ⊎ (word ≡ end.Stopped)
+IsWordFor Refused word = ⊥
+
+-- The closing of the connection stands behind these entries, for the reason that they tell, and behind it stand these.
+pub record IsClosedIn (journal : List (Entry ServerNote)) (word : EndKind) : Type 0 where
+  pub before : List (Entry ServerNote)
+  pub rest : List (Entry ServerNote)
+  pub is : journal ≡ (before ++ entry.Closed one_handle (note.Finished 0 word) ∷ []) ++ rest
+  pub reason : IsWordFor (reason_of (past_of before) 0) word
+
 -- The run of the connection up to its closing.
 pub record ComesTo (limit : ℕ) (failed : Bool) (i j : SourceFacts) (journal : List (Entry ServerNote)) : Type 0 where
   pub taken : List ℕ
@@ -80,3 +98,4 @@ pub record ComesTo (limit : ℕ) (failed : Bool) (i j : SourceFacts) (journal : 
   pub takes : TakesInput limit failed i j taken extra
   pub closed : IsClosedWith j failed taken extra decoded word
   pub tells : TellsConnection journal taken decoded word
+  pub closes : IsClosedIn journal word
