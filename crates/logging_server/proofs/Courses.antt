@@ -1,23 +1,21 @@
 -- How many turns a connection has, and how it ended that reads on.
-use Rattle.std.proofs.Common.{refl, ℕ, suc, ◌≡◌, ◌≤◌, ◌+◌, ◌*◌, ◌⊎◌, inl, inr, List, [], ◌∷◌, ◌++◌, length, sym, ap, ◌∙◌, subst, arith, Option, Some, None, Bool, true, cond, ⊎_elim}
+use Rattle.std.proofs.Common.{refl, ℕ, ◌≡◌, ◌≤◌, ◌+◌, List, [], ◌∷◌, ◌++◌, length, sym, ap, ◌∙◌, subst, arith, Option, None, cond, ⊎_elim}
 use Rattle.std.specs.List.{count_by}
 use Rattle.std.proofs.lemmas.List.Sums.{sum_by-cons}
 use Rattle.ev_types.specs.declared.upcall.Answer.{Answer}
 use Rattle.ev_types.specs.declared.upcall.Answer.TheVariants.{Keep, Again, Close}
 use Rattle.ev_types.specs.declared.upcall.Upcall.{Upcall}
-use Rattle.ev_types.specs.declared.upcall.Upcall.TheVariants.{Input}
 use Rattle.ev_types.specs.declared.upcall.Why.{Why}
 use Rattle.ev_types.specs.declared.upcall.Why.TheVariants.{Own, Removed, Refused}
 use Rattle.ev_base.specs.Story.{Telling}
 use Rattle.ev_base.specs.declared.source.Got.{Got}
 use Rattle.ev_base.specs.declared.source.Got.TheVariants as got
 use Rattle.cdr_record.specs.Decoding.{Stop, Clean, Partial, Malformed, decode}
-use Rattle.log_lines.specs.declared.end_kind.EndKind.{EndKind}
 use Rattle.reactor_journal.specs.Event.{Item}
 use Rattle.log_handler.specs.declared.note.ServerNote.{ServerNote}
 use Rattle.log_handler.specs.Connection.{Progress, Course, ServesUpcall, ServesRead, DecodesPiece, LosesPiece, answer_to, kept_at}
 use Rattle.log_handler.specs.Laws.{asks_again, is_again}
-use Rattle.one_run.specs.Phases.{ReadsOn, AllReadOn, EndsItself, EndsBy}
+use Rattle.one_run.specs.Phases.{AllReadOn, EndsItself, EndsBy}
 
 -- ---- how it ended
 

@@ -1,11 +1,9 @@
 -- How a run ends: what was written, and what its status says.
-use Rattle.std.proofs.Common.{ℕ, ◌≡◌, ◌≢◌, ◌≤◌, ◌⊎◌, inl, inr, Bool, true, false, List, [], ◌∷◌, ◌++◌, length, drop, refl, sym, ap, ◌∙◌, subst, arith, Option, Some, None}
-use Rattle.std.specs.Prelude.{option_map}
+use Rattle.std.proofs.Common.{ℕ, ◌≡◌, ◌≢◌, ◌⊎◌, inl, inr, Bool, true, false, List, [], ◌∷◌, ◌++◌, refl, sym, ap, ◌∙◌, subst, arith, Option, Some, None}
 use Rattle.std.specs.Option.{option_to_list}
 use Rattle.std.proofs.lemmas.Bool.{false≢true}
 use Rattle.std.proofs.lemmas.List.{append-nil}
 use Rattle.std.proofs.Math.Seq.{drop-length}
-use Rattle.ev_types.specs.declared.upcall.Why.TheVariants.{Own}
 use Rattle.ev_base.specs.Counts.{Rose}
 use Rattle.ev_base.specs.Bytes.{ReaderBytes, MovesOn, NothingLeft}
 use Rattle.ev_base.specs.Source.{SourceFacts}
@@ -15,21 +13,16 @@ use Rattle.cdr_record.specs.Decoding.{Stop, Clean, Partial, Malformed, decode}
 use Rattle.cdr_record.proofs.Runs.{bad_ends}
 use Rattle.log_lines.specs.declared.end_kind.EndKind.{EndKind}
 use Rattle.log_lines.specs.declared.end_kind.EndKind.TheVariants as kind
-use Rattle.sink_buffer.specs.Gathers.{held_of}
 use Rattle.reactor_journal.specs.declared.entry.Entry.{Entry}
 use Rattle.reactor_journal.specs.declared.entry.Entry.TheVariants.{Ended}
 use Rattle.reactor_journal.specs.Follow.{Legal}
 use Rattle.reactor_model.specs.Volumes.{VolumesFacts}
-use Rattle.reactor_core.specs.Ends.{WhereTold}
-use Rattle.reactor_core.specs.Stands.{HasTaken}
 use Rattle.log_handler.specs.declared.note.ServerNote.{ServerNote}
 use Rattle.log_handler.specs.declared.note.ServerNote.TheVariants as note
 use Rattle.log_handler.specs.declared.line_sink.LineSink.{LineSink}
 use Rattle.log_handler.specs.Notes.{journal_lines}
 use Rattle.log_handler.specs.Connection.{end_of}
 use Rattle.log_handler.specs.LineSink.{PutsLines, is_broken, sink_of}
-use Rattle.one_net.specs.declared.one_end.OneEnd.{OneEnd}
-use Rattle.one_net.specs.OneEnd.{extra_of, failed_of, input_of}
 use Rattle.one_net.specs.OneKeeps.{FaultsSince, most_input}
 use Rattle.one_run.specs.Phases.{first_entry, IsFinished}
 use Rattle.one_run.specs.Running.{VolumesSince, is_lost}
@@ -40,7 +33,7 @@ use Rattle.one_run.specs.declared.serving.Halt.TheVariants as halt
 use Rattle.logging_server.specs.Written.{TookAll, TookFront, IsWritten}
 use Rattle.logging_server.specs.Outcome.{lines_of, IsReadToEnd, IsClosedWith, TakesInput, ComesTo}
 use Rattle.logging_server.specs.Journals.{IsTold, IsTakenAndHeld, IsOver, StandsFor}
-use Rattle.logging_server.specs.Statuses.{IsMalformed, DecodesLeft, HasLines, IsDone, IsReadFault, IsWriteFault, IsNoMemory, IsTooLong, IsVolumeFault, HasStatus, code_of}
+use Rattle.logging_server.specs.Statuses.{IsMalformed, DecodesLeft, HasLines, IsDone, IsReadFault, IsNoMemory, IsTooLong, IsVolumeFault, HasStatus, code_of}
 use Rattle.logging_server.specs.Ran.{RunsOne, status_without_fault, status_of}
 use Rattle.logging_server.specs.declared.status.Status.{Status}
 use Rattle.logging_server.specs.declared.status.Status.TheVariants as status

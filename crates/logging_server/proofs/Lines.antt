@@ -1,17 +1,16 @@
 -- The lines of a journal whose notes are those of one connection.
 use Rattle.std.proofs.Common.{ℕ, ◌≡◌, List, [], ◌∷◌, ◌++◌, map, refl, sym, ap, ◌∙◌}
 use Rattle.std.specs.Prelude.{flat_map}
-use Rattle.std.specs.List.{sum_by, AllByRecursion}
-use Rattle.std.proofs.lemmas.List.{append-nil, append_assoc}
+use Rattle.std.specs.List.{AllByRecursion}
+use Rattle.std.proofs.lemmas.List.{append-nil}
 use Rattle.std.proofs.lemmas.Grind.{flat_map-append}
 use Rattle.reactor_journal.specs.Event.{Item}
 use Rattle.reactor_journal.specs.declared.entry.Entry.{Entry}
 use Rattle.reactor_journal.specs.declared.entry.Entry.TheVariants.{Opened, Scheduled, Cancelled, Polled, Due, Ready, Posted, Stale, Started, Returned, Masked, Suspended, Resumed, Refused, Removed, Closed, Ended}
 use Rattle.log_lines.specs.Texts.{record_line, record_lines}
 use Rattle.log_handler.specs.declared.note.ServerNote.{ServerNote}
-use Rattle.log_handler.specs.declared.note.ServerNote.TheVariants as note
 use Rattle.log_handler.specs.Notes.{note_lines, entry_lines, journal_lines}
-use Rattle.log_handler.specs.Laws.{IsPieceOf, records_of_note, records_in, took_of, took_in}
+use Rattle.log_handler.specs.Laws.{IsPieceOf, records_of_note, records_in}
 use Rattle.one_run.specs.Phases.{entry_notes, notes_in, note_of}
 use Rattle.logging_server.specs.Outcome.{IsPiece}
 

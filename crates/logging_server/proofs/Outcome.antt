@@ -1,5 +1,5 @@
 -- What became of the one connection, by what its end and its turns tell.
-use Rattle.std.proofs.Common.{ℕ, ◌≡◌, ◌≢◌, ◌≤◌, ◌+◌, ◌*◌, ◌⊎◌, inl, inr, Bool, true, false, List, [], ◌∷◌, ◌++◌, length, map, refl, sym, ap, ◌∙◌, subst, arith, Option, Some, None}
+use Rattle.std.proofs.Common.{ℕ, ◌≡◌, ◌≢◌, ◌+◌, ◌⊎◌, inl, inr, Bool, true, List, [], ◌∷◌, ◌++◌, length, map, refl, sym, ap, ◌∙◌, subst, arith, Option, Some, None}
 use Rattle.std.specs.Prelude.{flat_map, nat_lt, is_none, ◌&&◌}
 use Rattle.std.specs.Option.{option_to_list}
 use Rattle.std.specs.List.{sum_by}
@@ -13,7 +13,6 @@ use Rattle.ev_base.specs.Bytes.{ReaderBytes, MovesOn, HasGiven}
 use Rattle.ev_base.specs.Source.{SourceFacts}
 use Rattle.ev_base.specs.Sink.{SinkFacts}
 use Rattle.ev_base.specs.Terms.{Terms}
-use Rattle.ev_base.specs.End.{WasOver}
 use Rattle.cdr_record.specs.declared.record.LogRecord.{LogRecord}
 use Rattle.cdr_record.specs.Decoding.{decode}
 use Rattle.log_lines.specs.Texts.{record_lines, closing_line}
@@ -26,12 +25,12 @@ use Rattle.reactor_model.specs.Volumes.{VolumesFacts}
 use Rattle.log_handler.specs.declared.note.ServerNote.{ServerNote}
 use Rattle.log_handler.specs.declared.note.ServerNote.TheVariants as note
 use Rattle.log_handler.specs.Notes.{note_lines, journal_lines}
-use Rattle.log_handler.specs.Connection.{Progress, is_idle}
+use Rattle.log_handler.specs.Connection.{Progress}
 use Rattle.log_handler.specs.Connections.{ConnectionGone, HasFaults, IsClosing, found_end}
 use Rattle.log_handler.specs.Laws.{Accounts, CoursesAccount, EndedSo, HasRecords, WasIdle, records_of_note, records_in, took_of, took_in, took_last, last_turn}
 use Rattle.one_net.specs.declared.one_end.OneEnd.{OneEnd}
 use Rattle.one_net.specs.OneEnd.{one_end_facts, is_over, given_by, given_of, end_bytes, extra_of, failed_of, input_of, count_of}
-use Rattle.one_net.specs.OneKeeps.{OneEndKeeps, FaultsSince, IsCountOf, most_input, bytes_at_start}
+use Rattle.one_net.specs.OneKeeps.{OneEndKeeps, IsCountOf, most_input}
 use Rattle.one_run.specs.Phases.{one_handle, EndsBy, AllReadOn, IsFinished, note_of, notes_in, turns_in}
 use Rattle.one_run.specs.Opening.{StartsRun}
 use Rattle.one_run.proofs.Leaves.{finished_notes}

@@ -14,7 +14,6 @@ use Rattle.reactor_core.specs.Stands.{Meaning}
 use Rattle.reactor_core.specs.declared.reactor.Core.{Core}
 use Rattle.reactor_core.specs.declared.reactor.Parts.{Parts}
 use Rattle.log_handler.specs.declared.note.ServerNote.{ServerNote}
-use Rattle.log_handler.specs.declared.note.ServerNote.TheVariants as note
 use Rattle.log_handler.specs.declared.connection.LogConnection.{LogConnection}
 use Rattle.log_handler.specs.declared.line_sink.LineSink.{LineSink}
 use Rattle.log_handler.specs.LineSink.{is_broken, sink_of}
@@ -33,7 +32,7 @@ use Rattle.one_run.specs.declared.serving.Halt.TheVariants as halt
 use Rattle.one_run.proofs.Begins.{starts}
 use Rattle.one_run.proofs.Leaves.{RetiresOne, retires_one}
 use Rattle.logging_server.specs.Journals.{StandsFor}
-use Rattle.logging_server.specs.Statuses.{HasStatus, code_of}
+use Rattle.logging_server.specs.Statuses.{code_of}
 use Rattle.logging_server.specs.Ran.{RunsOne, status_of}
 use Rattle.logging_server.specs.declared.status.Status.{Status}
 use Rattle.logging_server.proofs.Journals.{told_is, handed_over}

@@ -1,6 +1,6 @@
 -- What the statuses of `one` say. The input told the facts i before and tells j now, the output o and p, the volumes v and w;
 -- `limit` is how many bytes may be read.
-use Rattle.std.specs.Prelude.{◌≡◌, ◌⊎◌, ℕ, Bool, true, false, List, [], ◌∷◌, Option, Some, None}
+use Rattle.std.specs.Prelude.{◌≡◌, ◌⊎◌, ℕ, true, false, List, [], ◌∷◌, Option, Some, None}
 use Rattle.ev_base.specs.Counts.{Rose}
 use Rattle.ev_base.specs.Bytes.{ReaderBytes}
 use Rattle.ev_base.specs.Source.{SourceFacts}

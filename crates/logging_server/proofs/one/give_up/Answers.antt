@@ -1,5 +1,4 @@
 use Rattle.std.proofs.Common.{◌≡◌, ◌∙◌, ap, sym}
-use Rattle.logging_server.specs.declared.status.Status.TheVariants as status
 use Rattle.logging_server.proofs.Endings.{status_unbegun, unbegun}
 use Rattle.logging_server.proofs.one.give_up.Goals as goal
 use Rattle.logging_server.proofs.one.give_up.Goals.{in-true, in-false}

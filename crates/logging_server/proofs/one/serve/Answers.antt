@@ -1,4 +1,4 @@
-use Rattle.std.proofs.Common.{ℕ, ◌≡◌, ◌∙◌, ap, sym, subst, refl}
+use Rattle.std.proofs.Common.{ℕ, ◌∙◌, ap, sym, subst, refl}
 use Rattle.one_run.specs.Opening.{terms_of_run}
 use Rattle.one_run.proofs.Begins.{starts}
 use Rattle.one_run.proofs.Finishing.{ended_can}

@@ -1,6 +1,4 @@
-use Rattle.std.proofs.Common.{ℕ, ◌^◌, subst, sym, List}
-use Rattle.reactor_journal.specs.declared.entry.Entry.{Entry}
-use Rattle.log_handler.specs.declared.note.ServerNote.{ServerNote}
+use Rattle.std.proofs.Common.{ℕ, ◌^◌, subst, sym}
 use Rattle.logging_server.specs.Journals.{StandsFor}
 use Rattle.logging_server.proofs.top.serve_one.Goals as goal
 
