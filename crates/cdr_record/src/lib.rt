@@ -17,8 +17,6 @@ mod encoding;
 mod grammar;
 pub mod laws;
 mod record;
-#[cfg(test)]
-mod tests;
 
 pub use bad::{Bad, BadWhy};
 pub use bytes::Bytes;

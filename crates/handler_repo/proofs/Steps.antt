@@ -1,14 +1,12 @@
 -- What each change of the two tables makes of the map that they stand for.
-use Rattle.std.proofs.Common.{ℕ, suc, ◌≡◌, ◌≢◌, ◌+◌, ◌<◌, ◌≤◌, ◌==◌, true, cond, List, ◌∷◌, length, get_or, set, Option, Some, None, IsSome, unwrap_or, refl, sym, ap, ◌∙◌, subst, arith, rules, take, drop, ◌⊎◌, inl, inr}
-use Rattle.std.proofs.lemmas.Bool.{cond-true, cond-false, lt-ltb, ltb-true, eq-eqb, ne_eqb, cases_eq, cases_lt}
+use Rattle.std.proofs.Common.{ℕ, suc, ◌≡◌, ◌≢◌, ◌+◌, ◌<◌, ◌≤◌, ◌==◌, cond, List, ◌∷◌, length, get_or, set, Option, Some, None, IsSome, unwrap_or, refl, sym, ap, ◌∙◌, subst, arith, rules, take, drop, ◌⊎◌, inl, inr}
+use Rattle.std.proofs.lemmas.Bool.{cond-true, cond-false, eq-eqb, ne_eqb, cases_eq, cases_lt}
 use Rattle.std.proofs.lemmas.List.{get_or-map, length-map, get_or-set_same, get_or-set_other, get_or_default, length-set, same_lists}
 use Rattle.std.proofs.lemmas.List.Edits.{get_or-remove_below, get_or-remove_above, length-remove, length-insert}
 use Rattle.std.proofs.lemmas.List.Elements.{All-map, All-cons, All-append, All-take, All-drop}
 use Rattle.std.proofs.lemmas.List.Quantifiers.{all_pairs_remove}
 use Rattle.std.proofs.lemmas.List.Sorted.{All-permutation, IsPermutation-insert}
 use Rattle.std.specs.List.{insert, remove, All, AllPairs, AllWithin, HoldsAt}
-use Rattle.std.specs.List.Sorted.{IsPartitionedBy}
-use Rattle.std.specs.Prelude.{nat_lt}
 use Rattle.std.specs.Mem.{manually_drop_value}
 use Rattle.std.specs.Option.{option_map}
 use Rattle.std.specs.declared.mem.ManuallyDrop.{ManuallyDrop}
@@ -54,34 +52,6 @@ remaining_key index place k d e pairs l within same =
     elim (cases_lt k place) [
       | inl below ↦ other_key index k place d pairs (omega arith) (omega arith) l (sym (ap (λ r. r.key) (get_or-remove_below index place d k below l)) ∙ same')
       | inr above ↦ other_key index (k + 1) place d pairs (omega arith) (omega arith) l (sym (ap (λ r. r.key) (get_or-remove_above index place d k above l)) ∙ same')
-    ]
-
--- in a rising index the handles below one stand in front
-pub rising_parted : (index : List Registered) (handle : ℕ) → IsRising index → IsPartitionedBy (λ r. nat_lt r.handle.0 handle) index
-rising_parted index handle rising i j d l m less =
-    elim (cases_lt i j) [
-      | inl before ↦
-          let r : (get_or index i d).handle.0 < (get_or index j d).handle.0 = rising i j d before m in
-          let b : (get_or index j d).handle.0 < handle = ltb-true _ _ less in
-          lt-ltb _ _ (omega arith)
-      | inr other ↦
-          let e : j ≡ i = omega arith in
-          subst (λ k. nat_lt (get_or index k d).handle.0 handle ≡ true) e less
-    ]
-
--- a handle that is not at its place is nowhere
-pub not_registered : (index : List Registered) (handle place : ℕ) → IsRising index → AllWithin (λ r. r.handle.0 < handle) index 0 place → AllWithin (λ r. handle ≤ r.handle.0) index place (length index)
-    → (place < length index → HoldsAt (λ r. r.handle.0 ≢ handle) index place) → All (λ r. r.handle.0 ≢ handle) index
-not_registered index handle place rising below above other k d l e =
-    elim (cases_lt k place) [
-      | inl before ↦ let b : (get_or index k d).handle.0 < handle = below k d (omega arith) before in omega arith
-      | inr after ↦ elim (cases_eq k place) [
-        | inl same ↦ other (omega arith) d (subst (λ i. (get_or index i d).handle.0 ≡ handle) same e)
-        | inr differs ↦
-            let r : (get_or index place d).handle.0 < (get_or index k d).handle.0 = rising place k d (omega arith) l in
-            let b : handle ≤ (get_or index place d).handle.0 = above place d (omega arith) (omega arith) in
-            omega arith
-      ]
     ]
 
 module _ {H : Type 0} where

@@ -1,8 +1,9 @@
 -- How a repository keeps its map: an index in rising order of handle, whose keys name the places of a slab.
-use Rattle.std.specs.Prelude.{ℕ, ◌≡◌, ◌≢◌, ◌<◌, ◌≤◌, ◌+◌, List, length, map, Option, All, AllPairs, unwrap_or}
+use Rattle.std.specs.Prelude.{ℕ, ◌≡◌, ◌≢◌, ◌≤◌, ◌+◌, List, length, map, Option, All, AllPairs, unwrap_or}
 use Rattle.std.specs.Option.{option_map}
 use Rattle.std.specs.Mem.{manually_drop_value}
 use Rattle.std.specs.declared.mem.ManuallyDrop.{ManuallyDrop}
+use Rattle.sorted_handles.specs.Rising as R
 use Rattle.slab.specs.Slab.{Slab, get, ContainsKey, slab_len}
 use Rattle.handler_repo.specs.declared.index.Registered.{Registered}
 use Rattle.handler_repo.specs.declared.seat.Seat.{Seat}
@@ -11,7 +12,7 @@ use Rattle.handler_repo.specs.Seats.{Entry}
 
 -- the handles rise, so none is there twice
 abbrev pub IsRising : List Registered → Type 0
-IsRising index = AllPairs (λ r s. r.handle.0 < s.handle.0) index
+IsRising index = R.IsRising (λ r. r.handle.0) index
 
 module _ {H : Type 0} where
   -- what the slab has at a key

@@ -8,6 +8,3 @@ mod seat;
 
 pub use repository::Repo;
 pub use seat::Seat;
-
-#[cfg(test)]
-mod tests;

@@ -3,10 +3,11 @@ ghost use Rattle.std.specs.Prelude.{◌≡◌, ◌≤◌, ◌+◌, [], Some, Non
 ghost use Rattle.handler_repo.specs.declared.seat.Seat.TheVariants.{Home, Out};
 ghost use Rattle.handler_repo.specs.Seats.{seat_of, home_of, with_entry, with_seat, without_handle};
 
-use crate::index::{Registered, exchange, first_from, place_of};
+use crate::index::{Registered, exchange};
 use crate::seat::{Seat, kept};
 use ev_types::{Handle, NoMemory};
 use slab::Slab;
+use sorted_handles::{first_from, place_of};
 use std::alloc::Global;
 use std::marker::Model;
 use std::mem::ManuallyDrop;

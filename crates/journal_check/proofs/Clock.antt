@@ -14,17 +14,3 @@ pub with_timer_more : (a : ArmedTimer) (xs : List ArmedTimer) (i : ℕ) (d : Arm
 with_timer_more a xs i d lt h =
     let cut : drop i xs ≡ get_or xs i d ∷ drop (i + 1) xs = rw add-one (drop-cons xs i d lt) in
     ap (S.with_timer a) cut ∙ cond-false _ _ _ h
-
--- a search goes on behind what does not pass, and ends at what passes
-pub find_step : {A : Type 0} (p : A → Bool) (xs : List A) (i : ℕ) (d : A) → i < length xs → find p (drop i xs) ≡ cond (p (get_or xs i d)) (Some (get_or xs i d)) (find p (drop (i + 1) xs))
-find_step p xs i d lt =
-    let cut : drop i xs ≡ get_or xs i d ∷ drop (i + 1) xs = rw add-one (drop-cons xs i d lt) in
-    ap (find p) cut
-
-pub find_none : {A : Type 0} (p : A → Bool) (xs : List A) (i : ℕ) → length xs ≤ i → find p (drop i xs) ≡ None
-find_none p [] zero h = refl
-find_none p [] (suc i) h = refl
-find_none p (x ∷ xs) zero h = absurd (omega arith)
-find_none p (x ∷ xs) (suc i) h = find_none p xs i (omega arith)
-
-pub ruleset find_more = (find_step, find_none)

@@ -9,9 +9,8 @@ ghost use Rattle.reactor_summary.specs.Tells.{Each};
 ghost use Rattle.reactor_summary.specs.declared.parts.LiveHandle.{LiveHandle};
 ghost use Rattle.journal_check.specs.Numbered.{handle_number, IsNumbered, IsTheOne, passes};
 
-use crate::words::has_kind;
 use ev_types::{Handle, Kind, Mask, NoMemory};
-use reactor_summary::LiveHandle;
+use reactor_summary::{LiveHandle, has_kind};
 use std::alloc::Global;
 use std::collections::BTreeMap;
 use std::marker::Model;

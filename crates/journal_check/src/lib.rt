@@ -19,6 +19,3 @@ mod waiting;
 mod words;
 
 pub use reading::{CheckRefused, check};
-
-#[cfg(test)]
-mod tests;

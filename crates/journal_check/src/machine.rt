@@ -19,10 +19,10 @@ use crate::handles::Handles;
 use crate::opens::Opens;
 use crate::timers::Timers;
 use crate::waiting::Waiting;
-use crate::words::{class_of, is_number, upcall_of, winds_up};
+use crate::words::{class_of, is_number, winds_up};
 use ev_types::{Answer, Handle, Kind, Mask, NoMemory, Upcall};
 use reactor_journal::Entry;
-use reactor_summary::{ArmedTimer, DueTimer, LiveHandle, OpenEvent, WaitingEvent};
+use reactor_summary::{ArmedTimer, DueTimer, LiveHandle, OpenEvent, WaitingEvent, upcall_of};
 use std::alloc::Global;
 use std::marker::Model;
 

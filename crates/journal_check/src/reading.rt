@@ -2,6 +2,11 @@
 
 ghost use Rattle.std.specs.Prelude.{◌≡◌, ◌∷◌, ℕ, List, Ok, Err, OnOk};
 ghost use Rattle.reactor_journal.specs.declared.entry.Entry.{Entry};
+ghost use Rattle.std.specs.BTreeSet.{contains};
+ghost use Rattle.std.specs.Ordering.{nat_cmp};
+ghost use Rattle.reactor_summary.specs.Summary as S;
+ghost use Rattle.journal_check.specs.Fronts.{IsUpToDate};
+ghost use Rattle.journal_check.specs.Index.{pair_cmp};
 ghost use Rattle.reactor_journal.specs.Follow as F;
 ghost use Rattle.journal_check.specs.Refusal.{RefusesAt, IsUnlessNoMemory};
 
@@ -68,11 +73,12 @@ fn admits_ready<N>(entry: &Entry<N>) -> bool
     }
 }
 
-fn read<N>(alloc: Global, journal: &[Entry<N>], most: u64) -> Result<(), CheckRefused>
+fn read_by<N>(checker: &mut Checker, journal: &[Entry<N>], most: u64) -> Result<(), CheckRefused>
+    requires machine { checker.old.machine ≡ S.nothing }
+    requires index { IsUpToDate checker.old.machine (contains pair_cmp checker.old.fronts) (contains nat_cmp checker.old.closing) }
     ensures ok { OnOk result (F.Legal journal.now most) }
     ensures illegal { (at : ℕ) → result ≡ Err (CheckRefused.Illegal at) → RefusesAt journal.now most at }
 {
-    let mut checker = Checker::new(alloc);
     let mut due = false;
     let mut ready = false;
     for (k, entry) in journal.iter().enumerate() {
@@ -84,6 +90,14 @@ fn read<N>(alloc: Global, journal: &[Entry<N>], most: u64) -> Result<(), CheckRe
         ready = admits_ready(entry);
     }
     Ok(())
+}
+
+fn read<N>(alloc: Global, journal: &[Entry<N>], most: u64) -> Result<(), CheckRefused>
+    ensures ok { OnOk result (F.Legal journal.now most) }
+    ensures illegal { (at : ℕ) → result ≡ Err (CheckRefused.Illegal at) → RefusesAt journal.now most at }
+{
+    let mut checker = Checker::new(alloc);
+    read_by(&mut checker, journal, most)
 }
 
 /// Whether the journal is legal where at most `most` handles may be live at once: Ok exactly where it is, and else

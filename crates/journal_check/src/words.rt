@@ -5,31 +5,9 @@ ghost use Rattle.reactor_journal.specs.Past as P;
 ghost use Rattle.reactor_journal.specs.Follow as F;
 ghost use Rattle.journal_check.specs.Queue as Q;
 
-use ev_types::{Kind, Mask, Upcall};
+use ev_types::Upcall;
 use reactor_journal::Entry;
 use reactor_summary::WaitingEvent;
-
-/// Whether the mask has the kind.
-pub fn has_kind(mask: Mask, kind: Kind) -> bool
-    ensures { result ≡ P.has_kind mask kind }
-{
-    match kind {
-        Kind::Read => mask.read,
-        Kind::Write => mask.write,
-        Kind::Except => mask.except,
-    }
-}
-
-/// The upcall that a report of the kind asks for.
-pub fn upcall_of(kind: Kind) -> Upcall
-    ensures { result ≡ P.upcall_of kind }
-{
-    match kind {
-        Kind::Read => Upcall::Input,
-        Kind::Write => Upcall::Output,
-        Kind::Except => Upcall::Except,
-    }
-}
 
 /// The class of an upcall: the smaller goes first.
 pub fn class_of(upcall: Upcall) -> usize

@@ -9,6 +9,3 @@ pub mod laws;
 
 pub use entry::Entry;
 pub use journal::Journal;
-
-#[cfg(test)]
-mod tests;

@@ -3,8 +3,9 @@ use Rattle.std.proofs.Common.{ℕ, zero, suc, ◌≡◌, ◌≢◌, ◌<◌, ◌
 use Rattle.std.proofs.lemmas.Bool.{cond-true, cond-false, or_parts, eqb-true, eqb-false, eq-eqb, ne_eqb, ltb-true, lt-ltb, cases_lt, cases_eq}
 use Rattle.std.proofs.lemmas.List.Folds.{list_any_none}
 use Rattle.std.specs.Prelude.{nat_lt}
-use Rattle.std.specs.List.{find, list_any, filter, insert, remove, AllWithin, HoldsAt}
+use Rattle.std.specs.List.{find, list_any, filter, insert, remove, All, AllWithin, HoldsAt}
 use Rattle.std.specs.List.Sorted.{IsPartitionedBy}
+use Rattle.sorted_handles.specs.Rising.{IsRising}
 use Rattle.reactor_state.specs.Rises.{RisesIn}
 use Rattle.reactor_state.proofs.Lists.{passes, any_and, filter_place}
 
@@ -25,6 +26,14 @@ module _ {A : Type 0} (key : A → ℕ) where
       let rest : suc (key x) ≤ key (get_or xs j d) = rises_least (suc (key x)) hi xs j d h.2 (omega arith) in
       omega arith
   rises_apart lo hi (x ∷ xs) (suc i) (suc j) d h l m = rises_apart (suc (key x)) hi xs i j d h.2 (omega arith) (omega arith)
+
+  -- what rises between two bounds rises
+  pub rises : (hi : ℕ) (xs : List A) → RisesIn key 0 hi xs → IsRising key xs
+  rises hi xs rising i j d l m = rises_apart 0 hi xs i j d rising l m
+
+  -- a number that no element has is not found
+  pub absent_from : (n : ℕ) (xs : List A) → (IsRising key xs → All (λ x. key x ≢ n) xs) → (hi : ℕ) → RisesIn key 0 hi xs → list_any (λ x. key x == n) xs ≡ false
+  absent_from n xs none hi rising = list_any_none (λ x. key x == n) xs (λ k d l. ne_eqb (key (get_or xs k d)) n (none (rises hi xs rising) k d l))
 
   -- other places have other numbers
   pub other_place : (lo hi : ℕ) (xs : List A) (i j : ℕ) (d : A) → RisesIn key lo hi xs → i ≢ j → i < length xs → j < length xs → key (get_or xs i d) ≢ key (get_or xs j d)

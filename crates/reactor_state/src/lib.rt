@@ -12,10 +12,6 @@ mod state;
 mod steps;
 mod timing;
 mod waiting;
-mod words;
 
 pub use places::{Pick, Places};
 pub use state::ReactorState;
-
-#[cfg(test)]
-mod tests;

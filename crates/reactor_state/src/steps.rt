@@ -15,9 +15,8 @@ use crate::handles::{close, end_life, is_alive};
 use crate::opens::{find_open, settle};
 use crate::places::Pick;
 use crate::state::ReactorState;
-use crate::words::upcall_of;
 use ev_types::{Answer, Handle, Kind, Mask, Upcall};
-use reactor_summary::{DueTimer, LiveHandle, OpenEvent, WaitingEvent};
+use reactor_summary::{DueTimer, LiveHandle, OpenEvent, WaitingEvent, upcall_of};
 use timer_queue::{Timer, TimerQueue};
 
 /// How many are alive where one of them, or none, is no more.

@@ -13,9 +13,8 @@ ghost use Rattle.reactor_state.specs.Tables.{is_free, queues, by_class, queue_of
 use crate::handles::is_resumed;
 use crate::opens::is_busy;
 use crate::places::Pick;
-use crate::words::is_timeout_of;
 use ev_types::{Handle, Mask, NoMemory, Upcall};
-use reactor_summary::{LiveHandle, OpenEvent, WaitingEvent};
+use reactor_summary::{LiveHandle, OpenEvent, WaitingEvent, is_timeout_of};
 use std::alloc::Global;
 use std::collections::VecDeque;
 

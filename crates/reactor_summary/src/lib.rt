@@ -5,8 +5,7 @@
 
 pub mod laws;
 mod parts;
+mod words;
 
 pub use parts::{ArmedTimer, DueTimer, LiveHandle, OpenEvent, WaitingEvent};
-
-#[cfg(test)]
-mod tests;
+pub use words::{has_kind, is_timeout_of, upcall_of};

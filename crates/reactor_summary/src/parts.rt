@@ -1,6 +1,9 @@
 //! The parts of a summary.
 
+ghost use Rattle.std.specs.Prelude.{ℕ};
+
 use ev_types::{Handle, Mask, Upcall};
+use sorted_handles::HasHandle;
 
 /// A registration that was opened and not closed.
 #[derive(Clone, Copy, PartialEq, Eq, Debug)]
@@ -13,6 +16,14 @@ pub struct LiveHandle {
     pub suspended: bool,
     /// Whether it is alive. One that is not waits for its upcall to end, and then for its close.
     pub alive: bool,
+}
+
+impl HasHandle for LiveHandle {
+    ghost number = { λ h. h.handle.0 };
+
+    fn handle(&self) -> Handle {
+        self.handle
+    }
 }
 
 /// A timer that came due.

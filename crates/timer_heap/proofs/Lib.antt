@@ -1,6 +1,5 @@
-pub mod Swaps
 pub mod Moves
 pub mod Sifts
 pub mod Entries
-pub mod Contents
+pub mod Firsts
 pub mod Removals

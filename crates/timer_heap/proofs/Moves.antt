@@ -6,7 +6,7 @@ use Rattle.std.specs.List.{swap}
 use Rattle.timer_queue.specs.declared.timer.Timer.{Timer}
 use Rattle.timer_queue.specs.Timers.{AreApart}
 use Rattle.timer_heap.specs.Tree.{AreMoved}
-use Rattle.timer_heap.proofs.Swaps.{brought, brought_within, get_or-swap, apart_permutation}
+use Rattle.timer_queue.proofs.Swaps.{brought, brought_within, get_or-swap, apart_permutation}
 
 pub moved_nowhere : (slots : List Timer) (keys : List ℕ) → AreMoved slots slots keys keys
 moved_nowhere slots keys = record { slots = IsPermutation-refl slots; pairs = λ k l. (k, l, λ d. refl, refl); keys = refl }

@@ -19,9 +19,9 @@ use Rattle.timer_queue.proofs.Places.{none_at}
 use Rattle.timer_heap.specs.declared.index.Numbered.{Numbered}
 use Rattle.timer_heap.specs.Heap.{parent, IsHeap}
 use Rattle.timer_heap.specs.Tree.{ArePairs, IsHeapAround, IsIndex, IsKeyed, matched, found_at, place_in, IsSound}
-use Rattle.timer_heap.proofs.Swaps.{brought, brought_within, get_or-swap}
+use Rattle.timer_queue.proofs.Swaps.{brought, brought_within, get_or-swap}
 use Rattle.timer_heap.proofs.Sifts.{other_is}
-use Rattle.timer_heap.proofs.Contents.{apart_removed}
+use Rattle.timer_queue.proofs.Contents.{apart_removed}
 
 -- the list after the exchange with the last, and that one taken off
 module _ (slots : List Timer) (place : ℕ) (l : place < length slots) where

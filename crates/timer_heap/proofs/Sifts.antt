@@ -9,7 +9,7 @@ use Rattle.timer_queue.proofs.Schedules.{before_trans, before_other}
 use Rattle.timer_heap.specs.Heap.{parent, IsHeap, OnPath}
 use Rattle.timer_heap.specs.Heap.OnPath.{here, above}
 use Rattle.timer_heap.specs.Tree.{IsHeapBelow, IsHeapAbove, IsHeapAround}
-use Rattle.timer_heap.proofs.Swaps.{brought_here, brought_there, brought_other, get_or-swap, apart_at}
+use Rattle.timer_queue.proofs.Swaps.{brought_here, brought_there, brought_other, get_or-swap, apart_at}
 
 parent_below : (k : ℕ) → 0 < k → parent k < k
 parent_below k l = omega arith

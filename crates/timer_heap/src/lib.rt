@@ -6,6 +6,3 @@ mod index;
 mod tree;
 
 pub use heap::HeapTimers;
-
-#[cfg(test)]
-mod tests;

@@ -1,3 +1,5 @@
 pub mod Schedules
 pub mod Places
 pub mod Members
+pub mod Swaps
+pub mod Contents

@@ -9,6 +9,3 @@ mod timer;
 pub use queue::TimerQueue;
 pub use sorted::SortedTimers;
 pub use timer::Timer;
-
-#[cfg(test)]
-mod tests;

@@ -59,4 +59,6 @@ pub fn reply_to<Q: TimerQueue>(queue: &mut Q, call: Call) -> Result<Reply, NoMem
 }
 
 #[cfg(test)]
+mod shapes;
+#[cfg(test)]
 mod tests;

@@ -17,9 +17,9 @@ use Rattle.timer_queue.proofs.Members.{Among, among_at, all_at, among_filtered, 
 use Rattle.timer_wheel.specs.declared.place.Place.{Place}
 use Rattle.timer_wheel.specs.Spokes.{spoke_of, timers_of, Follows}
 use Rattle.timer_wheel.specs.Chains.{AreChains, IsWheel, earlier_at, earlier_of, first_of, is_behind, place_timer, head_timer, heads_of}
-use Rattle.timer_wheel.proofs.Swaps.{apart_at}
+use Rattle.timer_queue.proofs.Swaps.{apart_at}
 use Rattle.timer_wheel.proofs.Links.{among_left, among_right}
-use Rattle.timer_wheel.proofs.Contents.{apart_push, in_order-added, permutation_pushed, in_order-removed, apart_removed, length_removed, length-in_order}
+use Rattle.timer_queue.proofs.Contents.{apart_push, in_order-added, permutation_pushed, in_order-removed, apart_removed, length_removed, length-in_order}
 use Rattle.timer_wheel.proofs.Steps.{among_places}
 
 -- one timer more

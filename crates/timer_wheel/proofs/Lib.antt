@@ -3,6 +3,4 @@ pub mod Links
 pub mod Spokes
 pub mod Changes
 pub mod Steps
-pub mod Swaps
-pub mod Contents
 pub mod Firsts

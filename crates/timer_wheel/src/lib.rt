@@ -8,6 +8,3 @@ mod wheel;
 
 pub use place::Place;
 pub use wheel::WheelTimers;
-
-#[cfg(test)]
-mod tests;

@@ -1,6 +1,6 @@
 use Rattle.std.proofs.lemmas.List.Sorted.{IsPermutation-trans, IsPermutation-cons}
 use Rattle.std.proofs.Common.{◌∷◌}
-use Rattle.timer_heap.proofs.Contents.{apart_removed}
+use Rattle.timer_queue.proofs.Contents.{apart_removed}
 use Rattle.timer_heap.proofs.Removals.{pairs_then}
 use Rattle.timer_heap.proofs.tree.take_out.Goals as goal
 

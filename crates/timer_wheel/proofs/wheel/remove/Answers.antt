@@ -2,7 +2,7 @@ use Rattle.std.proofs.Common.{length, ap, sym, ◌∙◌, subst}
 use Rattle.timer_queue.specs.Timers.{in_order, AreApart}
 use Rattle.timer_wheel.specs.Spokes.{timers_of}
 use Rattle.timer_wheel.specs.Chains.{AreChains, first_of}
-use Rattle.timer_wheel.proofs.Contents.{apart_removed}
+use Rattle.timer_queue.proofs.Contents.{apart_removed}
 use Rattle.timer_wheel.proofs.Firsts.{wheel_removed, chains_removed_in_order, first_stays, behind}
 use Rattle.timer_wheel.proofs.wheel.remove.Goals as goal
 

@@ -9,7 +9,7 @@ use Rattle.handler_repo.proofs.repository.Repo.give_back.Goals as goal
 
 pub unreachable-requires : goal.unreachable-requires
 unreachable-requires g c =
-    never_absent c.self.inside.seats c.self.inside.index.items c.args.handle.0 (rw c.deref.ensures.value at c.in_default.ensures)
+    never_absent c.self.inside.seats c.self.inside.index.items c.args.handle.0 ((rw c.deref.ensures.value at c.in_default.ensures) c.self.invariant.rising)
     (ap (λ q. seat_of c.args.handle.0 q.entries) c.self.view_is ∙ c.requires)
 
 pub unreachable-requires-in-Home : goal.unreachable-requires-in-Home

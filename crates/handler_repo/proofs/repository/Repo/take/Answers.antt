@@ -12,7 +12,7 @@ use Rattle.handler_repo.proofs.repository.Repo.take.Goals.{in-Home, in-Out}
 pub returns-in_err-place-clause-taken : goal.returns-in_err-place-clause-taken
 returns-in_err-place-clause-taken g c =
     c.from_residual.ensures
-    ∙ sym (ap home_of (sym (ap (λ q. seat_of c.args.handle.0 q.entries) c.self.view_is) ∙ absent c.self.inside.seats c.self.inside.index.items c.args.handle.0 (rw c.deref.ensures.value at c.in_err-place.ensures)))
+    ∙ sym (ap home_of (sym (ap (λ q. seat_of c.args.handle.0 q.entries) c.self.view_is) ∙ absent c.self.inside.seats c.self.inside.index.items c.args.handle.0 ((rw c.deref.ensures.value at c.in_err-place.ensures) c.self.invariant.rising)))
 
 on_some : {X : Type 0} (o : Option X) (P : Type 0) → P → OnSome o P
 on_some None P p = tt

@@ -3,7 +3,7 @@ use Rattle.std.proofs.lemmas.List.{get_or_read, length_push}
 use Rattle.timer_queue.specs.declared.timer.Timer.{Timer}
 use Rattle.timer_queue.specs.Timers.{in_order, is_scheduled, with_timer}
 use Rattle.timer_heap.proofs.Moves.{apart_moved, length_moved}
-use Rattle.timer_heap.proofs.Contents.{apart_push, in_order-added, permutation_pushed, unscheduled}
+use Rattle.timer_queue.proofs.Contents.{apart_push, in_order-added, permutation_pushed, unscheduled}
 use Rattle.timer_heap.proofs.Removals.{index_added}
 use Rattle.timer_heap.proofs.heap.HeapTimers.insert.Goals as goal
 

@@ -4,7 +4,7 @@ use Rattle.std.specs.List.{AllWithin, HoldsAt}
 use Rattle.std.specs.Prelude.{MatchOption}
 use Rattle.timer_queue.specs.declared.timer.Timer.{Timer}
 use Rattle.timer_queue.specs.Timers.{in_order, without_handle}
-use Rattle.timer_heap.proofs.Contents.{filter-removed, filter_none, length_removed, length-in_order}
+use Rattle.timer_queue.proofs.Contents.{filter-removed, filter_none, length_removed, length-in_order}
 use Rattle.timer_heap.proofs.Removals.{sound_taken}
 use Rattle.timer_heap.proofs.heap.HeapTimersTimerQueue.cancel_all.Goals as goal
 

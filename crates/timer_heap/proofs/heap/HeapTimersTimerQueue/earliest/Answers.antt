@@ -4,7 +4,7 @@ use Rattle.std.specs.Option.{option_map}
 use Rattle.timer_queue.specs.declared.timer.Timer.{Timer}
 use Rattle.timer_queue.specs.Timers.{in_order, first_deadline, is_rising, names_once}
 use Rattle.timer_queue.proofs.Members.{schedule_in_order}
-use Rattle.timer_heap.proofs.Contents.{earliest_is}
+use Rattle.timer_heap.proofs.Firsts.{earliest_is}
 use Rattle.timer_heap.proofs.heap.HeapTimersTimerQueue.earliest.Goals as goal
 
 pub returns-clause-first : goal.returns-clause-first

@@ -2,7 +2,8 @@ use Rattle.std.proofs.Common.{◌≡◌, ◌<◌, ◌-◌, List, length, get_or,
 use Rattle.std.specs.List.{All}
 use Rattle.timer_queue.specs.declared.timer.Timer.{Timer}
 use Rattle.timer_queue.specs.Timers.{in_order}
-use Rattle.timer_heap.proofs.Contents.{none_reached, in_order-first, first_of_heap, length_removed}
+use Rattle.timer_queue.proofs.Contents.{in_order-first, length_removed}
+use Rattle.timer_heap.proofs.Firsts.{none_reached, first_of_heap}
 use Rattle.timer_heap.proofs.Removals.{sound_taken}
 use Rattle.timer_heap.proofs.heap.HeapTimersTimerQueue.pop_due.Goals as goal
 

@@ -8,7 +8,7 @@ use Rattle.timer_queue.specs.Timers.{in_order, is_scheduled, without_timer}
 use Rattle.timer_queue.proofs.Schedules.{without_timer-fresh}
 use Rattle.timer_wheel.specs.declared.place.Place.{Place}
 use Rattle.timer_wheel.specs.Spokes.{timers_of}
-use Rattle.timer_wheel.proofs.Contents.{in_order-removed, was_scheduled}
+use Rattle.timer_queue.proofs.Contents.{in_order-removed, was_scheduled}
 use Rattle.timer_wheel.proofs.Steps.{unscheduled}
 use Rattle.timer_wheel.proofs.Firsts.{nowhere_scheduled, fewer_places}
 use Rattle.timer_wheel.proofs.wheel.WheelTimersTimerQueue.cancel.Goals as goal

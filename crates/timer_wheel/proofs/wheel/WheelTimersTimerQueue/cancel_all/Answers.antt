@@ -8,7 +8,7 @@ use Rattle.timer_queue.specs.Timers.{in_order, without_handle}
 use Rattle.timer_wheel.specs.declared.place.Place.{Place}
 use Rattle.timer_wheel.specs.Spokes.{timers_of}
 use Rattle.timer_wheel.specs.Chains.{IsWheel}
-use Rattle.timer_wheel.proofs.Contents.{filter-removed, filter_none}
+use Rattle.timer_queue.proofs.Contents.{filter-removed, filter_none}
 use Rattle.timer_wheel.proofs.Firsts.{all_timers, fewer_places, length-timers}
 use Rattle.timer_wheel.proofs.wheel.WheelTimersTimerQueue.cancel_all.Goals as goal
 

@@ -5,7 +5,7 @@ use Rattle.timer_queue.specs.declared.timer.Timer.{Timer}
 use Rattle.timer_queue.specs.Timers.{in_order, IsSchedule}
 use Rattle.timer_queue.proofs.Members.{among_at, members_in_order, schedule_in_order}
 use Rattle.timer_wheel.specs.Spokes.{timers_of}
-use Rattle.timer_wheel.proofs.Contents.{in_order-removed}
+use Rattle.timer_queue.proofs.Contents.{in_order-removed}
 use Rattle.timer_wheel.proofs.Firsts.{none_reached, first_among, first_taken, fewer_places}
 use Rattle.timer_wheel.proofs.wheel.WheelTimersTimerQueue.pop_due.Goals as goal
 

@@ -2,7 +2,7 @@ use Rattle.std.proofs.Common.{◌≡◌, false, ap, sym, ◌∙◌, subst}
 use Rattle.timer_queue.specs.Timers.{in_order, is_scheduled, with_timer}
 use Rattle.timer_wheel.specs.Spokes.{timers_of}
 use Rattle.timer_wheel.specs.Chains.{IsWheel}
-use Rattle.timer_wheel.proofs.Contents.{unscheduled}
+use Rattle.timer_queue.proofs.Contents.{unscheduled}
 use Rattle.timer_wheel.proofs.Firsts.{wheel_added}
 use Rattle.timer_wheel.proofs.wheel.WheelTimersTimerQueue.schedule.Goals as goal
 

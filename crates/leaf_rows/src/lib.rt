@@ -1,0 +1,18 @@
+//! Rows of the crates that no reactor is needed for: the record, the journal and its checker, what a reactor keeps, and the handler
+//! repository. They show what no contract says.
+#![tactic(auto)]
+
+#[cfg(test)]
+mod check;
+#[cfg(test)]
+mod journal;
+#[cfg(test)]
+mod record;
+#[cfg(test)]
+mod repository;
+#[cfg(test)]
+mod state;
+#[cfg(test)]
+mod summary;
+#[cfg(test)]
+mod turns;
