@@ -1,7 +1,7 @@
 use Rattle.std.proofs.Common.{arith, ◌≡◌, ◌==◌, ◌≤◌, false}
 use Rattle.std.proofs.lemmas.Bool.Decides.{nat_tests}
-use Rattle.bench_timers.proofs.Fresh.{fresh_with}
-use Rattle.bench_timers.proofs.queues.fill.Goals as goal
+use Rattle.bench_parts.proofs.Fresh.{fresh_with}
+use Rattle.bench_parts.proofs.queues.fill.Goals as goal
 
 pub loop-timer-preserved : goal.loop-timer-preserved
 loop-timer-preserved g c = (

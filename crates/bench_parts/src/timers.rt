@@ -1,15 +1,10 @@
-//! What it costs to schedule timers and to expire them, in the three timer queues and in a plain `BTreeMap`. Without an argument it
-//! runs each case once with 100 timers and prints how many expired; with the argument `time` it runs 100 to 100,000 timers and
-//! prints nanoseconds for each timer.
-#![tactic(auto)]
+//! What it costs to schedule timers and to expire them, in the three timer queues and in a plain `BTreeMap`.
 
-mod map;
-mod queues;
-
+use crate::{map, queues};
 use ev_types::NoMemory;
 use std::alloc::Global;
+use std::io;
 use std::time::Instant;
-use std::{env, io};
 use timer_heap::HeapTimers;
 use timer_queue::SortedTimers;
 use timer_wheel::WheelTimers;
@@ -19,15 +14,12 @@ const SPOKES: usize = 256;
 
 const RESOLUTION: u64 = 100;
 
-fn main(rt: HostRuntime) -> io::Result<()> {
-    let mut timed = false;
-    for word in env::args(&rt)? {
-        timed = timed || word.as_str() == "time";
-    }
+/// Runs 100 timers, or where it is timed 100 to 100,000.
+pub fn run(rt: &HostRuntime, timed: bool) -> io::Result<()> {
     let sizes: [u64; 4] = [100, 1_000, 10_000, 100_000];
     for size in sizes {
         if timed || size == 100 {
-            compare(&rt, timed, size)?;
+            compare(rt, timed, size)?;
         }
     }
     Ok(())

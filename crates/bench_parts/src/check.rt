@@ -1,27 +1,20 @@
 //! What it costs to check a journal: with few handles and many waiting events, with 10,000 armed timers, and with 10,000 live
-//! handles. Without an argument it checks short journals and prints their lengths; with the argument `time` it checks journals of
-//! about 100,000 and 1,000,000 entries and prints nanoseconds for each entry.
-#![tactic(auto)]
+//! handles.
 
-mod journals;
-
+use crate::journals::{backlog, periodic, served};
 use ev_types::NoMemory;
 use journal_check::{CheckRefused, check};
-use journals::{backlog, periodic, served};
 use reactor_journal::Entry;
+use std::io;
 use std::time::Instant;
-use std::{env, io};
 
-fn main(rt: HostRuntime) -> io::Result<()> {
-    let mut timed = false;
-    for word in env::args(&rt)? {
-        timed = timed || word.as_str() == "time";
-    }
+/// Checks short journals, or where it is timed those of about 100,000 and 1,000,000 entries.
+pub fn run(rt: &HostRuntime, timed: bool) -> io::Result<()> {
     if !timed {
-        return compare(&rt, timed, 1_000, 10);
+        return compare(rt, timed, 1_000, 10);
     }
-    compare(&rt, timed, 100_000, 10_000)?;
-    compare(&rt, timed, 1_000_000, 10_000)
+    compare(rt, timed, 100_000, 10_000)?;
+    compare(rt, timed, 1_000_000, 10_000)
 }
 
 /// Checks a journal of each kind, of about so many entries.

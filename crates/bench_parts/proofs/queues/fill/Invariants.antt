@@ -1,6 +1,6 @@
 use Rattle.std.proofs.Common.{◌≡◌, ◌≤◌, ◌+◌, ℕ, false}
 use Rattle.timer_queue.specs.Timers.{is_scheduled}
-use Rattle.bench_timers.proofs.queues.fill.Given as goal
+use Rattle.bench_parts.proofs.queues.fill.Given as goal
 
 -- there is room for the others, and no timer has their numbers
 abbrev pub invariant-loop-timer : goal.invariant-loop-timer
