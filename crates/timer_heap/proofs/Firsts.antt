@@ -1,17 +1,16 @@
 -- The first slot of a heap is the first of the list of timers that it stands for.
-use Rattle.std.proofs.Common.{ℕ, zero, suc, ◌≡◌, ◌≢◌, ◌+◌, ◌<◌, ◌≤◌, ◌==◌, Bool, true, false, not, List, [], ◌∷◌, ◌++◌, length, get_or, refl, sym, ap, ◌∙◌, subst, arith, inl, inr}
-use Rattle.std.proofs.lemmas.Bool.{and_from, not-true, both_ways, cases_eq, eq-eqb, ne_eqb}
+use Rattle.std.proofs.Common.{ℕ, zero, suc, ◌≡◌, ◌≢◌, ◌<◌, ◌≤◌, true, List, [], ◌∷◌, length, get_or, refl, sym, ap, ◌∙◌, subst, arith, inl, inr}
+use Rattle.std.proofs.lemmas.Bool.{cases_eq}
 use Rattle.std.proofs.lemmas.Bool.Decides.{nat_tests}
 use Rattle.std.proofs.lemmas.List.{get_or_default}
-use Rattle.std.proofs.lemmas.List.Sorted.{IsPermutation-refl, IsPermutation-sym, IsPermutation-trans, IsPermutation-to_front, length_permutation}
-use Rattle.std.specs.List.{filter, slice_get, All}
+use Rattle.std.proofs.lemmas.List.Sorted.{IsPermutation-refl}
+use Rattle.std.specs.List.{slice_get, All}
 use Rattle.std.specs.Option.{option_map}
 use Rattle.std.specs.List.Sorted.{IsPermutation}
 use Rattle.timer_queue.specs.declared.timer.Timer.{Timer}
-use Rattle.timer_queue.specs.Timers.{comes_before, is_scheduled, with_timer, without_timer, first_deadline, in_order, AreApart}
-use Rattle.timer_queue.proofs.Schedules.{before_trans, filter_all, schedule_with, schedule_filtered}
-use Rattle.timer_queue.proofs.Places.{none_at}
-use Rattle.timer_queue.proofs.Members.{Among, SameMembers, among_at, among_from, any_among, all_among, among_filter, among_filtered, among_with, among_within, members_permutation, members_in_order, rising_same, is_scheduled-same, schedule_in_order, in_order_is, permutation_in_order}
+use Rattle.timer_queue.specs.Timers.{comes_before, first_deadline, in_order, AreApart}
+use Rattle.timer_queue.proofs.Schedules.{before_trans}
+use Rattle.timer_queue.proofs.Members.{Among, among_at, among_from, members_permutation, members_in_order}
 use Rattle.timer_heap.specs.Heap.{parent, IsHeap}
 use Rattle.timer_queue.proofs.Swaps.{apart_permutation}
 use Rattle.timer_queue.proofs.Contents.{head_apart, in_order-first}

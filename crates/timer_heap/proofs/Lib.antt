@@ -3,3 +3,4 @@ pub mod Sifts
 pub mod Entries
 pub mod Firsts
 pub mod Removals
+pub mod Clear

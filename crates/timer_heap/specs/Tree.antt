@@ -1,5 +1,6 @@
 -- How a heap keeps track of where its timers are.
 use Rattle.std.specs.Prelude.{ℕ, ◌≡◌, ◌≢◌, ◌<◌, ◌≤◌, true, List, length, slice_index_or, slice_index, slice_get, AllPairs, Contains, Option, Some, None, if◌then◌else◌, ◌==◌}
+use Rattle.std.specs.List.{AllWithin}
 use Rattle.std.specs.List.Sorted.{IsPermutation}
 use Rattle.timer_queue.specs.declared.timer.Timer.{Timer}
 use Rattle.timer_queue.specs.Timers.{comes_before, AreApart}
@@ -21,6 +22,10 @@ pub record AreMoved (old new : List Timer) (old_keys new_keys : List ℕ) : Type
   pub slots : IsPermutation old new
   pub pairs : ArePairs old new old_keys new_keys
   pub keys : length new_keys ≡ length old_keys
+
+-- from this place on, no timer is of this handle
+abbrev pub IsClear : ℕ → List Timer → ℕ → Type 0
+IsClear handle slots from = AllWithin (λ t. t.handle.0 ≢ handle) slots from (length slots)
 
 -- a heap but for one place and its parent
 pub record IsHeapBelow (slots : List Timer) (at : ℕ) : Type 0 where

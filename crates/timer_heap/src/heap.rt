@@ -119,8 +119,16 @@ impl TimerQueue for HeapTimers {
     }
 
     fn cancel_all(&mut self, handle: Handle) {
-        while let Some(place) = self.tree.slots.iter().position(|t| t.handle.0 == handle.0) {
-            take_out(&mut self.tree, place);
+        // From the last place to the first: where a timer is taken out, one from behind takes its place, which is not of this handle,
+        // or one from above, which is looked at next.
+        let mut end = self.tree.slots.len();
+        while end > 0 {
+            if self.tree.slots[end - 1].handle.0 == handle.0 {
+                take_out(&mut self.tree, end - 1);
+                end = end.min(self.tree.slots.len());
+            } else {
+                end -= 1;
+            }
         }
     }
 

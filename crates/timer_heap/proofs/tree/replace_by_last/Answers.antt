@@ -6,6 +6,7 @@ use Rattle.std.specs.List.{swap}
 use Rattle.timer_queue.specs.declared.timer.Timer.{Timer}
 use Rattle.timer_heap.specs.Tree.{IsHeapAround}
 use Rattle.timer_heap.proofs.Removals.{cut, around_cut, permutation_popped, pairs_cut}
+use Rattle.timer_heap.proofs.Clear.{clear_cut}
 use Rattle.timer_heap.proofs.tree.replace_by_last.Goals as goal
 
 last : (c : goal.In-Some) → c.len-last.result - 1 ≡ length c.args.tree.now.slots.items - 1
@@ -32,3 +33,6 @@ pub returns-clause-pairs : goal.returns-clause-pairs
 returns-clause-pairs c =
     pairs_cut c.args.tree.now.slots.items c.pop.new.self.items c.args.tree.now.keys.items c.exchange.new.tree.keys.items c.args.place c.requires.within (rest c)
     (c.exchange.ensures.keys ∙ ap (swap c.args.tree.now.keys.items c.args.place) (last c)) c.requires.keyed.fits
+
+pub returns-clause-clear : goal.returns-clause-clear
+returns-clause-clear c handle clear = clear_cut handle c.args.tree.now.slots.items c.pop.new.self.items c.args.place c.requires.within (rest c) clear

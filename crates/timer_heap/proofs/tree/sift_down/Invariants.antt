@@ -1,10 +1,12 @@
-use Rattle.std.proofs.Common.{◌≡◌, ◌<◌, ◌-◌, length}
+use Rattle.std.proofs.Common.{ℕ, ◌≡◌, ◌<◌, ◌≤◌, ◌-◌, length}
 use Rattle.std.specs.Vec.{vec_capacity}
-use Rattle.timer_heap.specs.Tree.{IsKeyed, AreMoved, IsHeapAbove}
+use Rattle.timer_heap.specs.Tree.{IsClear, IsKeyed, AreMoved, IsHeapAbove}
 use Rattle.timer_heap.proofs.tree.sift_down.Given as goal
 
 abbrev pub invariant-loop-child : goal.invariant-loop-child
 invariant-loop-child l = record {
+  from : l.from ≤ l.at;
+  clear : (handle : ℕ) → IsClear handle l.initial.tree.slots.items l.from → IsClear handle l.tree.slots.items l.from;
   within : l.at < length l.tree.slots.items;
   heap : IsHeapAbove l.tree.slots.items l.at;
   moved : AreMoved l.initial.tree.slots.items l.tree.slots.items l.initial.tree.keys.items l.tree.keys.items;

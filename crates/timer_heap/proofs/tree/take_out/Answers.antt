@@ -16,3 +16,6 @@ returns-clause-slots c =
 
 pub returns-clause-pairs : goal.returns-clause-pairs
 returns-clause-pairs c = pairs_then _ _ _ _ _ _ c.replace_by_last-t.ensures.pairs c.settle.ensures.moved.pairs
+
+pub returns-clause-clear : goal.returns-clause-clear
+returns-clause-clear c handle clear = c.settle.ensures.clear handle (c.replace_by_last-t.ensures.clear handle clear)
