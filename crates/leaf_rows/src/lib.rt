@@ -1,5 +1,5 @@
-//! Rows of the crates that no reactor is needed for: the record, the journal and its checker, what a reactor keeps, and the handler
-//! repository. They show what no contract says.
+//! Rows of the crates that no reactor is needed for: the record, the journal and its checker, what a reactor keeps, the handler
+//! repository, and sources, sinks, ends and nets. They show what no contract says.
 #![tactic(auto)]
 
 #[cfg(test)]
@@ -7,9 +7,15 @@ mod check;
 #[cfg(test)]
 mod journal;
 #[cfg(test)]
+mod one_connection;
+#[cfg(test)]
+mod played;
+#[cfg(test)]
 mod record;
 #[cfg(test)]
 mod repository;
+#[cfg(test)]
+mod sources;
 #[cfg(test)]
 mod state;
 #[cfg(test)]
