@@ -128,4 +128,6 @@ impl Net for RoundRobinNet {
     fn turn_away(&mut self, _end: PlayEnd) {}
 
     ghost sound = { λ net steady. cc };
+
+    ghost keeps_groups = { λ t net keeps. tt };
 }

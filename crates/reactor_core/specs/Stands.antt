@@ -1,6 +1,6 @@
 -- When a one-thread reactor stands for a history: the entries that it handed over, then those that it holds
 -- (POSA2, Reactor: Initiation Dispatcher; C++NPv2 chapter 3, `ACE_Reactor`).
-use Rattle.std.specs.Prelude.{ℕ, ◌≡◌, ◌≤◌, ◌+◌, ◌^◌, true, false, List, [], ◌++◌, length, take, drop, Option, Some, None}
+use Rattle.std.specs.Prelude.{ℕ, ◌≡◌, ◌≤◌, ◌+◌, ◌^◌, Bool, true, false, List, [], ◌++◌, length, take, drop, Option, Some, None}
 use Rattle.std.specs.List.{list_any}
 use Rattle.ev_base.specs.Terms.{Terms}
 use Rattle.ev_base.specs.Net.{NetFacts, Reserves}
@@ -10,13 +10,13 @@ use Rattle.reactor_journal.specs.Past.{past_of, count}
 use Rattle.reactor_journal.specs.Follow.{Legal}
 use Rattle.reactor_summary.specs.Summary.{Summary, summary, some_wait, is_overdue}
 use Rattle.reactor_model.specs.Handling.{Handling}
-use Rattle.reactor_model.specs.Volumes.{VolumesFacts}
+use Rattle.reactor_model.specs.Volumes.{VolumesFacts, IsNext}
 use Rattle.reactor_state.specs.State.{owed, no_places}
 use Rattle.reactor_state.specs.declared.places.Places.{Places}
 use Rattle.reactor_state.specs.declared.places.Pick.{Pick}
 use Rattle.reactor_state.specs.declared.state.ReactorState.{ReactorState}
 use Rattle.reactor_core.specs.Handlers.{RepositoryStands}
-use Rattle.reactor_core.specs.Ends.{WhereTold, live_numbers, live_masks, AreRetired, AreTurnedAway, is_fault}
+use Rattle.reactor_core.specs.Ends.{WhereTold, ThereIs, live_numbers, live_masks, AreRetired, AreTurnedAway, is_fault}
 use Rattle.reactor_core.specs.Calls.{AreCalls}
 use Rattle.reactor_core.specs.Marks.{MarksStand, told_answers}
 use Rattle.reactor_core.specs.declared.reactor.Core.{Core}
@@ -31,10 +31,12 @@ pub record Meaning (H M Q W V N E : Type 0) : Type 1 where
   pub places : Places → ReactorState Q → Type 0
   pub placed : ReactorState Q → Pick → Type 0
   pub watched : Terms → W → List (Entry N) → Type 0
+  pub faults : W → ℕ
+  pub is_broken : W → Bool
   pub volumes : V → VolumesFacts N
 
-abbrev pub meaning : {H M Q W V N E : Type 0} → Handling H E N → (M → NetFacts E) → (Terms → M → Type 0) → (ReactorState Q → Summary → Type 0) → (Places → ReactorState Q → Type 0) → (ReactorState Q → Pick → Type 0) → (Terms → W → List (Entry N) → Type 0) → (V → VolumesFacts N) → Meaning H M Q W V N E
-meaning means facts keeps shows places placed watched volumes = record { means = means; facts = facts; keeps = keeps; shows = shows; places = places; placed = placed; watched = watched; volumes = volumes }
+abbrev pub meaning : {H M Q W V N E : Type 0} → Handling H E N → (M → NetFacts E) → (Terms → M → Type 0) → (ReactorState Q → Summary → Type 0) → (Places → ReactorState Q → Type 0) → (ReactorState Q → Pick → Type 0) → (Terms → W → List (Entry N) → Type 0) → (W → ℕ) → (W → Bool) → (V → VolumesFacts N) → Meaning H M Q W V N E
+meaning means facts keeps shows places placed watched faults is_broken volumes = record { means = means; facts = facts; keeps = keeps; shows = shows; places = places; placed = placed; watched = watched; faults = faults; is_broken = is_broken; volumes = volumes }
 
 -- the entries held are those of the history from number F on
 pub record JournalStands {H M Q W V N E : Type 0} (core : Core H M Q W V N E) (F : ℕ) (h : List (Entry N)) : Type 0 where
@@ -45,8 +47,8 @@ pub record JournalStands {H M Q W V N E : Type 0} (core : Core H M Q W V N E) (F
 -- the net: its attached handles and their masks are the live ones, the ends that it was given back are gone as the journal
 -- says, and its calls are those that the journal tells
 pub record NetStands {H E N : Type 0} (means : Handling H E N) (t : Terms) (past : List (Entry N)) (pending : List Report) (net : NetFacts E) : Type 0 where
-  pub retired : WhereTold (λ ends. AreRetired means t past ends) net.retired
-  pub turned_away : WhereTold (λ ends. AreTurnedAway means t past ends) net.turned_away
+  pub retired : ThereIs (λ ends. AreRetired means t past ends) net.retired
+  pub turned_away : ThereIs (λ ends. AreTurnedAway means t past ends) net.turned_away
   pub attached : net.attached ≡ live_numbers (summary past)
   pub masks : WhereTold (λ masks. masks ≡ live_masks (summary past)) net.masks
   pub faults : count is_fault past ≤ net.failed_attaches
@@ -57,6 +59,11 @@ pub record NetStands {H E N : Type 0} (means : Handling H E N) (t : Terms) (past
 -- the volumes tell as many entries as the terms name for the start, followed by the first F of the history
 abbrev pub HasTaken : {N : Type 0} → Terms → ℕ → List (Entry N) → List (Entry N) → Type 0
 HasTaken t F h taken = (before : List _) × (taken ≡ before ++ take F h) × ((n : ℕ) → t.volumes_taken ≡ Some n → length before ≡ n)
+
+-- and the next entry that they are to take is number F of the history, where they keep count
+pub record VolumesStand {N : Type 0} (t : Terms) (F : ℕ) (h : List (Entry N)) (volumes : VolumesFacts N) : Type 0 where
+  pub taken : WhereTold (HasTaken t F h) volumes.taken
+  pub next : IsNext volumes.next F
 
 -- What holds between any two steps of a call: the core tracks the history, with the handler of one handle in hand, or none, and
 -- with reports of the last wait still to be taken, or none.
@@ -71,7 +78,7 @@ pub record Tracks {H M Q W V N E : Type 0} (m : Meaning H M Q W V N E) (t : Term
   pub net : NetStands m.means t (past_of h) pending (m.facts core.net)
   pub keeps : m.keeps t core.net
   pub watch : m.watched t core.watch h
-  pub volumes : WhereTold (HasTaken t F h) (m.volumes core.volumes).taken
+  pub volumes : VolumesStand t F h (m.volumes core.volumes)
   pub marks : MarksStand core.marks (past_of h) (told_answers (m.facts core.net).calls)
 
 -- no handle waits for its `Closed`, no armed deadline is reached, and once the reactor was stopped no handle is alive
@@ -173,3 +180,29 @@ pub record StandsQuiet {H M Q W V N E : Type 0} (m : Meaning H M Q W V N E) (t :
 
 abbrev pub QuietWith : {H M Q W V N E : Type 0} → Meaning H M Q W V N E → (Terms → List (Entry N) → Type 0) → Core H M Q W V N E → Type 0
 QuietWith {N = N} m P core = (t : Terms) × (F : ℕ) × (h : List (Entry N)) × StandsQuiet m t core F h × P t h
+
+-- P holds of each history that the core stands for, of which it handed the first F entries over
+abbrev pub From : {H M Q W V N E : Type 0} → Meaning H M Q W V N E → Core H M Q W V N E → (Terms → ℕ → List (Entry N) → Type 0) → Type 0
+From {N = N} m core P = (t : Terms) (F : ℕ) (h : List (Entry N)) → Stands m t core F h → P t F h
+
+-- the same of each that it stands for with so much room, of each that it stands for but that handles may be alive once it was
+-- stopped, and of each that it tracks
+abbrev pub FromRoom : {H M Q W V N E : Type 0} → Meaning H M Q W V N E → ℕ → Places → Core H M Q W V N E → (Terms → ℕ → List (Entry N) → Type 0) → Type 0
+FromRoom {N = N} m entries more core P = (t : Terms) (F : ℕ) (h : List (Entry N)) → StandsWithRoom m entries more t core F h → P t F h
+
+abbrev pub FromQuiet : {H M Q W V N E : Type 0} → Meaning H M Q W V N E → Core H M Q W V N E → (Terms → ℕ → List (Entry N) → Type 0) → Type 0
+FromQuiet {N = N} m core P = (t : Terms) (F : ℕ) (h : List (Entry N)) → StandsQuiet m t core F h → P t F h
+
+abbrev pub FromTracks : {H M Q W V N E : Type 0} → Meaning H M Q W V N E → Option ℕ → List Report → Core H M Q W V N E → (Terms → ℕ → List (Entry N) → Type 0) → Type 0
+FromTracks {N = N} m hand pending core P = (t : Terms) (F : ℕ) (h : List (Entry N)) → Tracks m t core F h hand pending → P t F h
+
+-- a step may be made: the core stands with so much room for some history with P
+abbrev pub RoomWith : {H M Q W V N E : Type 0} → Meaning H M Q W V N E → ℕ → Places → (Terms → List (Entry N) → Type 0) → Core H M Q W V N E → Type 0
+RoomWith {N = N} m entries more P core = (t : Terms) × (F : ℕ) × (h : List (Entry N)) × StandsWithRoom m entries more t core F h × P t h
+
+-- what a step asks for holds of some history; and R holds of each history of which it does
+abbrev pub Somewhere : {H M Q W V N E : Type 0} → (Terms → Core H M Q W V N E → ℕ → List (Entry N) → Type 0) → Core H M Q W V N E → Type 0
+Somewhere {N = N} P core = (t : Terms) × (F : ℕ) × (h : List (Entry N)) × P t core F h
+
+abbrev pub Each : {H M Q W V N E : Type 0} → (Terms → Core H M Q W V N E → ℕ → List (Entry N) → Type 0) → Core H M Q W V N E → (Terms → ℕ → List (Entry N) → Type 0) → Type 0
+Each {N = N} P core R = (t : Terms) (F : ℕ) (h : List (Entry N)) → P t core F h → R t F h

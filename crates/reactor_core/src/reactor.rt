@@ -5,13 +5,15 @@ ghost use Rattle.ev_base.specs.Terms.{Terms};
 ghost use Rattle.reactor_journal.specs.declared.entry.Entry.{Entry};
 ghost use Rattle.reactor_journal.specs.Past.{past_of};
 ghost use Rattle.reactor_summary.specs.Summary.{summary};
-ghost use Rattle.reactor_state.specs.State.{Shows, HasPlaces, IsPlaced};
-ghost use Rattle.reactor_core.specs.Stands.{meaning, Stands, StandsWith};
+ghost use Rattle.reactor_model.specs.Volumes.{BeginsJournal};
+ghost use Rattle.reactor_core.specs.Views.{volume_of, net_of, watch_of, volumes_of, over_of};
+ghost use Rattle.reactor_core.specs.Stands.{From, Stands, StandsWith};
 ghost use Rattle.reactor_core.specs.Ends.{WhereTold};
 ghost use Rattle.reactor_core.specs.Marks.{IsOverAt, answers};
 ghost use Rattle.reactor_core.specs.Beginning.{CanBegin, IsOver, PartsStand};
 
 use crate::marks::WaitMarks;
+use crate::means::Means;
 use ev_base::Net;
 use ev_types::NoMemory;
 use handler_repo::Repo;
@@ -47,6 +49,7 @@ pub struct Core<
 }
 
 /// What a reactor that is over leaves.
+#[derive(Drop)]
 pub struct Parts<N, M, Q, W, V> {
     /// The entries that were not handed over.
     pub journal: Journal<N>,
@@ -70,8 +73,8 @@ impl<
     V: Volumes<H::Note>,
 > Core<H, M, Q, W, V> {
     /// A reactor for at most so many live handlers, from 1 to 4,097, which hands its journal over in volumes of at least so many
-    /// entries, from 1. Its timer queue is empty, its watch has seen nothing, and its net has made no call. With `NoMemory` all
-    /// comes back.
+    /// entries, from 1. Its timer queue is empty, its watch has seen nothing, and its net has made no call. The volumes begin another
+    /// journal. With `NoMemory` all comes back as it was.
     pub fn new(
         alloc: Global,
         most: u64,
@@ -84,12 +87,17 @@ impl<
         requires least { 1 ≤ most }
         requires greatest { most ≤ 4097 }
         requires volume { 1 ≤ volume }
-        requires begins { (t : Terms) × CanBegin (M.facts net) (M.keeps t net) (Q.timers timers) (W.stands t watch []) (V.facts volumes) t most }
-        ensures ok { IfOk result (λ core. (t : Terms) → CanBegin (M.facts net) (M.keeps t net) (Q.timers timers) (W.stands t watch []) (V.facts volumes) t most
-            → Stands (meaning H.means M.facts M.keeps (Shows Q.timers) (HasPlaces Q.spare) IsPlaced W.stands V.facts) t core 0 []) }
-        ensures volume { IfOk result (λ core. core.volume ≡ volume) }
-        ensures parts { IfOk result (λ core. (core.net ≡ net) × (core.watch ≡ watch) × (core.volumes ≡ volumes)) }
-        ensures err { IfErr result (λ back. (back.0 ≡ net) × (back.1 ≡ timers) × (back.2 ≡ watch) × (back.3 ≡ volumes)) }
+        requires begins { (t : Terms) × CanBegin (M.facts net) (M.keeps t net) (Q.timers timers)
+            (W.stands t watch []) (V.facts volumes) t most }
+        ensures ok { IfOk result (λ core. (t : Terms) → CanBegin (M.facts net) (M.keeps t net)
+            (Q.timers timers) (W.stands t watch []) (V.facts volumes) t most
+            → Stands ⟦<Self as Means>⟧.m t core 0 []) }
+        ensures volume { IfOk result (λ core. volume_of core ≡ volume) }
+        ensures parts { IfOk result (λ core. (net_of core ≡ net) × (watch_of core ≡ watch)) }
+        ensures volumes { IfOk result (λ core.
+            BeginsJournal (V.facts volumes) (V.facts (volumes_of core))) }
+        ensures err { IfErr result (λ back. (back.0 ≡ net) × (back.1 ≡ timers)
+            × (back.2 ≡ watch) × (back.3 ≡ volumes)) }
     {
         let mut journal = Journal::new(alloc);
         match journal.reserve(1) {
@@ -99,6 +107,8 @@ impl<
                 return Err((net, timers, watch, volumes, refused));
             }
         }
+        let mut volumes = volumes;
+        volumes.begin();
         Ok(Core {
             alloc,
             most,
@@ -116,39 +126,38 @@ impl<
 
     /// The entries that were not handed over, in order.
     pub fn journal(&self) -> &Journal<H::Note>
-        ensures { (t : Terms) (F : ℕ) (h : List (Entry H.Note)) → Stands (meaning H.means M.facts M.keeps (Shows Q.timers) (HasPlaces Q.spare) IsPlaced W.stands V.facts) t self.now F h
-            → result.now.entries ≡ drop F h }
+        ensures { From ⟦<Self as Means>⟧.m self.now (λ t F h. result.now.entries ≡ drop F h) }
     {
         &self.journal
     }
 
     /// How many entries were handed over.
     pub fn first(&self) -> u64
-        ensures { (t : Terms) (F : ℕ) (h : List (Entry H.Note)) → Stands (meaning H.means M.facts M.keeps (Shows Q.timers) (HasPlaces Q.spare) IsPlaced W.stands V.facts) t self.now F h → result ≡ F }
+        ensures { From ⟦<Self as Means>⟧.m self.now (λ t F h. result ≡ F) }
     {
         self.first
     }
 
     /// How many handlers may be live at once.
     pub fn most(&self) -> u64
-        ensures { (t : Terms) (F : ℕ) (h : List (Entry H.Note)) → Stands (meaning H.means M.facts M.keeps (Shows Q.timers) (HasPlaces Q.spare) IsPlaced W.stands V.facts) t self.now F h → result ≡ t.most }
+        ensures { From ⟦<Self as Means>⟧.m self.now (λ t F h. result ≡ t.most) }
     {
         self.most
     }
 
     /// Whether it was stopped.
     pub fn is_ended(&self) -> bool
-        ensures { (t : Terms) (F : ℕ) (h : List (Entry H.Note)) → Stands (meaning H.means M.facts M.keeps (Shows Q.timers) (HasPlaces Q.spare) IsPlaced W.stands V.facts) t self.now F h
-            → result ≡ (summary (past_of h)).ended }
+        ensures { From ⟦<Self as Means>⟧.m self.now
+            (λ t F h. result ≡ (summary (past_of h)).ended) }
     {
         self.state.is_ended()
     }
 
     /// Whether its watch failed. Where it did, a fault rose after the start.
     pub fn is_broken(&self) -> bool
-        ensures told { result ≡ W.is_broken self.now.watch }
-        ensures rose { (t : Terms) (F : ℕ) (h : List (Entry H.Note)) (before : ℕ) → Stands (meaning H.means M.facts M.keeps (Shows Q.timers) (HasPlaces Q.spare) IsPlaced W.stands V.facts) t self.now F h
-            → result ≡ true → t.output_faults ≡ Some before → Rose before (W.faults self.now.watch) }
+        ensures told { result ≡ W.is_broken (watch_of self.now) }
+        ensures rose { From ⟦<Self as Means>⟧.m self.now (λ t F h. (before : ℕ) → result ≡ true
+            → t.output_faults ≡ Some before → Rose before (W.faults (watch_of self.now))) }
     {
         self.watch.broken()
     }
@@ -156,9 +165,10 @@ impl<
     /// The number, from 1, of the last wait that was answered `Over`, or 0 where there was none. The n-th wait that did not fail has
     /// the n-th `Polled` of the journal.
     pub fn over(&self) -> u64
-        ensures mark { result ≡ self.now.marks.over }
-        ensures there { (t : Terms) (F : ℕ) (h : List (Entry H.Note)) → Stands (meaning H.means M.facts M.keeps (Shows Q.timers) (HasPlaces Q.spare) IsPlaced W.stands V.facts) t self.now F h
-            → 1 ≤ result → WhereTold (λ calls. IsOverAt result (answers calls)) (M.facts self.now.net).calls }
+        ensures mark { result ≡ over_of self.now }
+        ensures there { From ⟦<Self as Means>⟧.m self.now (λ t F h. 1 ≤ result
+            → WhereTold (λ calls. IsOverAt result (answers calls))
+            (M.facts (net_of self.now)).calls) }
     {
         self.marks.over
     }
@@ -166,12 +176,12 @@ impl<
     /// Takes apart a reactor that was stopped and whose handlers were all closed. The net, the watch and the volumes are its own, so
     /// their counts of faults are those of its last call.
     pub fn into_parts(self) -> Parts<H::Note, M, Q, W, V>
-        requires { StandsWith (meaning H.means M.facts M.keeps (Shows Q.timers) (HasPlaces Q.spare) IsPlaced W.stands V.facts) (λ t h. IsOver (summary (past_of h))) self }
-        ensures stands { (t : Terms) (F : ℕ) (h : List (Entry H.Note)) → Stands (meaning H.means M.facts M.keeps (Shows Q.timers) (HasPlaces Q.spare) IsPlaced W.stands V.facts) t self F h
-            → PartsStand (meaning H.means M.facts M.keeps (Shows Q.timers) (HasPlaces Q.spare) IsPlaced W.stands V.facts) Q.timers t F h result }
-        ensures net { result.net ≡ self.net }
-        ensures watch { result.watch ≡ self.watch }
-        ensures volumes { result.volumes ≡ self.volumes }
+        requires { StandsWith ⟦<Self as Means>⟧.m (λ t h. IsOver (summary (past_of h))) self }
+        ensures stands { From ⟦<Self as Means>⟧.m self
+            (λ t F h. PartsStand ⟦<Self as Means>⟧.m Q.timers t F h result) }
+        ensures net { result.net ≡ net_of self }
+        ensures watch { result.watch ≡ watch_of self }
+        ensures volumes { result.volumes ≡ volumes_of self }
     {
         let Core {
             alloc: _,
