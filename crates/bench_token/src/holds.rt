@@ -6,11 +6,13 @@ use std::alloc::Global;
 use std::sync::Wait;
 use std::thread::{Threads, join};
 
-/// A value with no entries.
+/// A value of so many bytes, with no entries.
 #[derive(Drop)]
-pub struct Nothing;
+pub struct Padded<const N: usize> {
+    padding: [u8; N],
+}
 
-impl Kept for Nothing {
+impl<const N: usize> Kept for Padded<N> {
     type Entry = u64;
 
     type Terms = ();
@@ -32,16 +34,20 @@ impl Kept for Nothing {
 }
 
 /// One thread holds a new token so often. The answer is how many holds there were.
-pub fn hold_alone<R: Wait>(rt: &R, alloc: Global, turns: u64) -> u64 {
-    let Ok((token, root)) = Token::new(alloc, Nothing) else {
+pub fn hold_alone<R: Wait, const N: usize>(rt: &R, alloc: Global, turns: u64) -> u64 {
+    let Ok((token, root)) = Token::new(alloc, Padded { padding: [0; N] }) else {
         return 0;
     };
     visits(rt, &token, root, turns)
 }
 
 /// The same with two threads.
-pub fn hold_by_two<R: Threads + Wait + Sync>(rt: &R, alloc: Global, turns: u64) -> u64 {
-    let Ok((token, mut root)) = Token::new(alloc, Nothing) else {
+pub fn hold_by_two<R: Threads + Wait + Sync, const N: usize>(
+    rt: &R,
+    alloc: Global,
+    turns: u64,
+) -> u64 {
+    let Ok((token, mut root)) = Token::new(alloc, Padded { padding: [0; N] }) else {
         return 0;
     };
     let other = token.split(&mut root);
@@ -49,8 +55,12 @@ pub fn hold_by_two<R: Threads + Wait + Sync>(rt: &R, alloc: Global, turns: u64) 
 }
 
 /// The same with four threads.
-pub fn hold_by_four<R: Threads + Wait + Sync>(rt: &R, alloc: Global, turns: u64) -> u64 {
-    let Ok((token, mut root)) = Token::new(alloc, Nothing) else {
+pub fn hold_by_four<R: Threads + Wait + Sync, const N: usize>(
+    rt: &R,
+    alloc: Global,
+    turns: u64,
+) -> u64 {
+    let Ok((token, mut root)) = Token::new(alloc, Padded { padding: [0; N] }) else {
         return 0;
     };
     let b = token.split(&mut root);
@@ -60,8 +70,12 @@ pub fn hold_by_four<R: Threads + Wait + Sync>(rt: &R, alloc: Global, turns: u64)
 }
 
 /// The same with eight threads.
-pub fn hold_by_eight<R: Threads + Wait + Sync>(rt: &R, alloc: Global, turns: u64) -> u64 {
-    let Ok((token, mut root)) = Token::new(alloc, Nothing) else {
+pub fn hold_by_eight<R: Threads + Wait + Sync, const N: usize>(
+    rt: &R,
+    alloc: Global,
+    turns: u64,
+) -> u64 {
+    let Ok((token, mut root)) = Token::new(alloc, Padded { padding: [0; N] }) else {
         return 0;
     };
     let b = token.split(&mut root);
@@ -84,13 +98,13 @@ pub fn hold_by_eight<R: Threads + Wait + Sync>(rt: &R, alloc: Global, turns: u64
     left.saturating_add(right)
 }
 
-type Two = (Pass<Nothing>, Pass<Nothing>);
+type Two<const N: usize> = (Pass<Padded<N>>, Pass<Padded<N>>);
 
-fn four<R: Threads + Wait + Sync>(
+fn four<R: Threads + Wait + Sync, const N: usize>(
     rt: &R,
-    token: &Token<Nothing>,
-    left: Two,
-    right: Two,
+    token: &Token<Padded<N>>,
+    left: Two<N>,
+    right: Two<N>,
     turns: u64,
 ) -> u64
     requires { IsFree token.now left.0 × IsFree token.now left.1 × IsFree token.now right.0 × IsFree token.now right.1 }
@@ -109,11 +123,11 @@ fn four<R: Threads + Wait + Sync>(
     left.saturating_add(right)
 }
 
-fn two<R: Threads + Wait + Sync>(
+fn two<R: Threads + Wait + Sync, const N: usize>(
     rt: &R,
-    token: &Token<Nothing>,
-    a: Pass<Nothing>,
-    b: Pass<Nothing>,
+    token: &Token<Padded<N>>,
+    a: Pass<Padded<N>>,
+    b: Pass<Padded<N>>,
     turns: u64,
 ) -> u64
     requires { IsFree token.now a × IsFree token.now b }
@@ -130,7 +144,12 @@ fn two<R: Threads + Wait + Sync>(
     left.saturating_add(right)
 }
 
-fn visits<R: Wait>(rt: &R, token: &Token<Nothing>, mut pass: Pass<Nothing>, turns: u64) -> u64
+fn visits<R: Wait, const N: usize>(
+    rt: &R,
+    token: &Token<Padded<N>>,
+    mut pass: Pass<Padded<N>>,
+    turns: u64,
+) -> u64
     requires { IsFree token.now pass }
 {
     for _ in 0..turns {
