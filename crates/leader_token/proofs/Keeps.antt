@@ -10,10 +10,11 @@ use Rattle.atomic_table.specs.Table.{State, Me, Act, keeps, takes, gives, Valid,
 use Rattle.atomic_table.proofs.Lists.{at_set, at_snoc, set_here, set_else, set_again, at_longer, exchanged}
 use Rattle.leader_token.specs.declared.kept.Found.{Found}
 use Rattle.leader_token.specs.declared.kept.View.{View}
-use Rattle.leader_token.specs.Lists.{total, times, Begins, NoneAbove, longer, is_event}
-use Rattle.leader_token.specs.Passes.{first_view, put_view, split_left, split_right, joined, IsGot, MayPut, IsPut, IsLast}
+use Rattle.leader_token.specs.Lists.{times, Begins, NoneAbove, longer, is_event}
+use Rattle.list_lemmas.specs.Sums.{total}
+use Rattle.leader_token.specs.Passes.{first_view, put_view, split_left, split_right, joined, IsGot, MayPut, IsPut, IsLast, IsOpenLater}
 use Rattle.leader_token.specs.Rule.{has, turn, live, rooted, kids, event, Fits, IsSpent, RuleHolds, Claimed, MayStart, named, Released, joining, Compared, OwnEventsDiffer}
-use Rattle.leader_token.proofs.Sums.{total-append, total-set, term_le, terms_le, total-same, alone}
+use Rattle.list_lemmas.proofs.Sums.{total-append, total-set, term_le, terms_le, total-same, alone}
 use Rattle.leader_token.proofs.Lists.{begins-self, begins-trans, longer-begins, shorter-begins, begins-shorter, shorter-length, both-begin, longer-whole, none_above-self, none_above-trans, greater-above, greater-length}
 
 pub some-of : {A : Type 0} (x y : A) → Some x ≡ Some y → x ≡ y
@@ -379,7 +380,7 @@ module _ {E Q T : Type 0} (stands : Q → ℕ → T → List E → Type 0) (open
           (λ e. let is : t.1 ≡ u = some-injective t.1 u (sym t.2 ∙ ap (λ j. get_elem? s.views j) e ∙ at-u) in here (longer-whole v.seen u.seen k.list bv bu (inr (ap (λ (x : V). x.seen) (sym is) ∙ t.4))))
           (λ m. (t.0, t.1, set_else views other t.0 z m ∙ set_else s.views id t.0 w n ∙ t.2, t.3, t.4)))
 
-  pub compares : (id : ℕ) (m : Me (Option T) V) → m.0.spent ≡ false → (n : ℕ) → Allows Rule n id m 0 (λ x. x) (λ _. Compared m)
+  pub compares : (id : ℕ) (m : Me (Option T) V) → m.0.spent ≡ false → (n : ℕ) → Allows Rule n id m 0 (λ x. x) (λ _. Compared opens m)
   compares id m alive n s k wide at _ =
       let v = m.0 in
       let w : V = record v { uncompared = [] } in
@@ -405,18 +406,24 @@ module _ {E Q T : Type 0} (stands : Q → ℕ → T → List E → Type 0) (open
           roots = total-same rooted s.views id v w at refl ∙ k.roots;
           family = omega (arith, total-same live s.views id v w at refl, total-same kids s.views id v w at refl, k.family);
         },
-        (refl, begins-shorter v.uncompared v.seen k.list mine.uncompared mine.seen),
+        (refl, begins-shorter v.uncompared v.seen k.list mine.uncompared mine.seen, λ e is. (k.list, mine.seen, omega (arith, k.once e, k.events e, term_le (event e) s.views id v at, ap (is_event e) is, ap flag (eq-eqb e e refl)))),
       )
 
-  pub compared_view : (m n : Me (Option T) V) (v u x : V) → m.0 ≡ joining v x → x ≡ u → Compared m n → n.0 ≡ joined v u
+  pub compared_view : (m n : Me (Option T) V) (v u x : V) → m.0 ≡ joining v x → x ≡ u → Compared opens m n → n.0 ≡ joined v u
   compared_view m n v u x is same c = ap (λ (y : Me (Option T) V). y.0) c.0 ∙ ap (λ (w : V). record w { uncompared = [] }) (is ∙ ap (joining v) same)
 
-  pub compared_seen : (m n : Me (Option T) V) (v u x : V) → m.0 ≡ joining v x → x ≡ u → Compared m n → Begins v.seen n.0.seen × Begins u.seen n.0.seen
+  pub compared_seen : (m n : Me (Option T) V) (v u x : V) → m.0 ≡ joining v x → x ≡ u → Compared opens m n → Begins v.seen n.0.seen × Begins u.seen n.0.seen
   compared_seen m n v u x is same c =
       let is' : m.0 ≡ joining v u = is ∙ ap (joining v) same in
       let seen : n.0.seen ≡ longer v.seen u.seen = ap (λ (y : Me (Option T) V). y.0.seen) c.0 ∙ ap (λ (w : V). w.seen) is' in
       let told = subst (λ (w : V). length w.uncompared ≤ length w.seen → Begins w.uncompared w.seen) is' c.1 in
       subst (λ (l : List E). Begins v.seen l × Begins u.seen l) (sym seen) (both-begin v.seen u.seen (told (shorter-length v.seen u.seen)))
+
+  pub compared_own : (m n : Me (Option T) V) (v u x : V) → m.0 ≡ joining v x → x ≡ u → Compared opens m n → (e : ℕ) → v.mine ≡ Some e → IsOpenLater opens e n.0.seen
+  compared_own m n v u x is same c e own =
+      let is' : m.0 ≡ joining v u = is ∙ ap (joining v) same in
+      let seen : n.0.seen ≡ m.0.seen = ap (λ (y : Me (Option T) V). y.0.seen) c.0 in
+      subst (λ (l : List E). IsOpenLater opens e l) (sym seen) (c.2 e (ap (λ (w : V). w.mine) is' ∙ own))
 
   pub begins : Once stands opens marks → Many stands opens marks → (t : T) (first : ℕ) (h : List E) → stands q first t h → opens h ≡ [] → Rule (opening (0 ∷ []) (Some t ∷ []) (first_view q h (marks t)))
   begins once many t first h stood none-open =

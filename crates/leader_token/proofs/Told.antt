@@ -22,13 +22,19 @@ module _ {E Q T : Type 0} (stands : Q → ℕ → T → List E → Type 0) (open
   abbrev pub Exact : Type 0
   Exact = (q : Q) (n m : ℕ) (t : T) (base g h : List E) → Begins base g → Begins base h → stands q n t g → stands q m t h → g ≡ h
 
-  pub put_is : Exact → (v : View E Q) (t : T) (w : View E Q) → (mine : MayPut stands opens marks v t) → IsPut stands opens marks v t w → w ≡ put_view v (marks t) mine.list mine.mine
-  put_is exact v t w a put =
+  -- what was put back is what the caller had in mind, where the value stands for no other list that the base begins
+  pub put_is_at : (v : View E Q) (t : T) (w : View E Q) (mine : MayPut stands opens marks v t) → ((m : ℕ) (g : List E) → Begins mine.base.list g → stands v.terms m t g → g ≡ mine.list)
+      → IsPut stands opens marks v t w → w ≡ put_view v (marks t) mine.list mine.mine
+  put_is_at v t w a only put =
       let b = put.may in
       let base : b.base ≡ a.base = some-of b.base a.base (sym b.is_base ∙ a.is_base) in
-      let list : b.list ≡ a.list = exact v.terms b.first a.first t a.base.list b.list a.list (subst (λ (f : Found E). Begins f.list b.list) base b.longer) a.longer b.stood a.stood in
+      let list : b.list ≡ a.list = only b.first b.list (subst (λ (f : Found E). Begins f.list b.list) base b.longer) b.stood in
       let own : b.mine ≡ a.mine = mine_is b.mine a.mine (λ e. omega (arith, a.events e, b.events e, ap (λ l. times e (opens l)) list, ap (λ (f : Found E). times e (opens f.list)) base)) in
       put.view ∙ (λ i. put_view v (marks t) (list i) (own i))
+
+  -- the same, where a value stands for one list at most among those that begin alike
+  pub put_is : Exact → (v : View E Q) (t : T) (w : View E Q) → (mine : MayPut stands opens marks v t) → IsPut stands opens marks v t w → w ≡ put_view v (marks t) mine.list mine.mine
+  put_is exact v t w a = put_is_at v t w a (λ m g begins stood. exact v.terms m a.first t a.base.list g a.list begins a.longer stood a.stood)
 
   -- a value may be given back as it was got
   pub as_it_was : (v : View E Q) (t : T) (w : View E Q) → IsGot stands opens marks v t w → MayPut stands opens marks w t

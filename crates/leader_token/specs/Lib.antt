@@ -1,3 +1,4 @@
+pub mod Boxed
 pub mod Lists
 pub mod Passes
 pub mod Rule

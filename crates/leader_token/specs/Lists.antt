@@ -1,10 +1,5 @@
--- Lists of entries, of events and of marks, and sums over lists.
+-- Lists of entries, of events and of marks.
 use Rattle.std.specs.Prelude.{◌≡◌, ℕ, ◌+◌, ◌≤◌, List, [], ◌∷◌, ◌++◌, length, max, slice_index, cond, ◌==◌, nat_lt, Option, Some, None}
-
--- The sum of f over a list.
-abbrev pub total : {A : Type 0} → (A → ℕ) → List A → ℕ
-total f [] = 0
-total f (x ∷ xs) = f x + total f xs
 
 -- How often a number stands in a list.
 abbrev pub times : ℕ → List ℕ → ℕ

@@ -5,6 +5,10 @@ use Rattle.leader_token.specs.Lists.{times, Begins, NoneAbove, greater, longer, 
 use Rattle.leader_token.specs.declared.kept.Found.{Found}
 use Rattle.leader_token.specs.declared.kept.View.{View}
 
+-- the event is open in some list that this one begins
+abbrev pub IsOpenLater : {E : Type 0} → (List E → List ℕ) → ℕ → List E → Type 0
+IsOpenLater {E} opens e seen = (list : List E) × Begins seen list × (times e (opens list) ≡ 1)
+
 module _ {E Q : Type 0} where
   -- The root pass when the token is made: it has seen the whole list, and made no other pass.
   abbrev pub first_view : Q → List E → List ℕ → View E Q

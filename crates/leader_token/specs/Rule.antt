@@ -3,8 +3,9 @@ use Rattle.std.specs.Prelude.{◌≡◌, ℕ, ◌+◌, ◌-◌, ◌≤◌, List,
 use mathlib.Core.Option.{none, some}
 use lib.ListN.{get_elem?}
 use Rattle.atomic_table.specs.Table.{State, Me}
-use Rattle.leader_token.specs.Lists.{total, times, Begins, NoneAbove, greater, longer, shorter, is_event}
-use Rattle.leader_token.specs.Passes.{first_view, IsGot, IsPut}
+use Rattle.leader_token.specs.Lists.{times, Begins, NoneAbove, greater, longer, shorter, is_event}
+use Rattle.list_lemmas.specs.Sums.{total}
+use Rattle.leader_token.specs.Passes.{first_view, IsGot, IsPut, IsOpenLater}
 use Rattle.leader_token.specs.declared.kept.Found.{Found}
 use Rattle.leader_token.specs.declared.kept.View.{View}
 
@@ -110,9 +111,10 @@ module _ {E Q : Type 0} where
   abbrev pub joining : View E Q → View E Q → View E Q
   joining v w = record v { seen = longer v.seen w.seen; uncompared = shorter v.seen w.seen; marks = greater v.marks w.marks; children = v.children - 1 }
 
-  -- What the load behind a join tells: of the two lists the shorter begins the longer.
-  abbrev pub Compared : {T : Type 0} → Me (Option T) (View E Q) → Me (Option T) (View E Q) → Type 0
-  Compared m n = (n ≡ (record m.0 { uncompared = [] }, m.1)) × (length m.0.uncompared ≤ length m.0.seen → Begins m.0.uncompared m.0.seen)
+  -- What the load behind a join tells: of the two lists the shorter begins the longer, and the root's own event is open in a list that the longer begins.
+  abbrev pub Compared : {T : Type 0} → (List E → List ℕ) → Me (Option T) (View E Q) → Me (Option T) (View E Q) → Type 0
+  Compared opens m n = (n ≡ (record m.0 { uncompared = [] }, m.1)) × (length m.0.uncompared ≤ length m.0.seen → Begins m.0.uncompared m.0.seen)
+      × ((e : ℕ) → m.0.mine ≡ Some e → IsOpenLater opens e m.0.seen)
 
 -- The own events of a token's passes are, together, the open events of its list, and two passes never have the same one.
 abbrev pub OwnEventsDiffer : {E Q T : Type 0} → (Q → ℕ → T → List E → Type 0) → (List E → List ℕ) → (T → List ℕ) → Type 0

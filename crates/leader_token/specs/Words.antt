@@ -21,4 +21,4 @@ module _ {T E Q : Type 0} where
 
 -- The value that a pass got.
 abbrev pub value_of : {T : Type 0} → Held T → T
-value_of held = held.value
+value_of held = held.value.value

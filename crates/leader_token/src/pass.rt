@@ -11,7 +11,7 @@ use std::sync::atomic::AtomicU64;
 
 /// A token for one value: whoever got the value has it alone until it is put back.
 pub struct Token<T: Kept> {
-    pub(crate) table: Table<Option<T>, View<T::Entry, T::Terms>, Key<T>, TokenRule<T>, Global>,
+    pub(crate) table: Table<Option<Box<T>>, View<T::Entry, T::Terms>, Key<T>, TokenRule<T>, Global>,
     // How many threads sleep on the word or are about to. It is a hint that spares `put` a call of the kernel,
     // and no contract speaks of it.
     pub(crate) sleepers: AtomicU64,
@@ -21,7 +21,7 @@ pub struct Token<T: Kept> {
 impl<T: Kept> Token<T> {
     pub(crate) fn into_table(
         self,
-    ) -> Table<Option<T>, View<T::Entry, T::Terms>, Key<T>, TokenRule<T>, Global>
+    ) -> Table<Option<Box<T>>, View<T::Entry, T::Terms>, Key<T>, TokenRule<T>, Global>
         ensures { result ≡ self.table }
     {
         let Self { table, sleepers: _ } = self;
@@ -42,13 +42,13 @@ impl<T: Kept + Drop> Drop for Token<T> {
 /// What one holder knows of a token. It has no bytes. A pass that is dropped still counts among the
 /// children of its root, so the token can't be closed any more.
 pub struct Pass<T: Kept> {
-    pub(crate) seat: Seat<Option<T>, View<T::Entry, T::Terms>>,
+    pub(crate) seat: Seat<Option<Box<T>>, View<T::Entry, T::Terms>>,
     ghost live: { seat.me.0.spent ≡ false },
     ghost out: { seat.me.1 ≡ out_for seat.me.0.base },
 }
 
 impl<T: Kept> Pass<T> {
-    pub(crate) fn into_seat(self) -> Seat<Option<T>, View<T::Entry, T::Terms>>
+    pub(crate) fn into_seat(self) -> Seat<Option<Box<T>>, View<T::Entry, T::Terms>>
         ensures { (result.table_id ≡ self.seat.table_id) × (result.id ≡ self.seat.id) × (result.me ≡ self.seat.me) }
     {
         let Self { seat } = self;

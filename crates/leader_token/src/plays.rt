@@ -12,10 +12,11 @@ pub struct TokenRule<T> {
     marker: PhantomData<T>,
 }
 
-impl<T: Kept> TableRule<Option<T>, View<T::Entry, T::Terms>, Key<T>> for TokenRule<T> {
+impl<T: Kept> TableRule<Option<Box<T>>, View<T::Entry, T::Terms>, Key<T>> for TokenRule<T> {
     ghost use Rattle.leader_token.specs.Rule.{RuleHolds, named};
+    ghost use Rattle.leader_token.specs.Boxed.{boxed, boxed_marks};
 
-    ghost holds = { λ key. RuleHolds T.stands T.opens T.marks (named T.blank key.log).terms };
+    ghost holds = { λ key. RuleHolds (boxed T.stands) T.opens (boxed_marks T.marks) (named T.blank key.log).terms };
 
     ghost first = { λ key. named T.blank key.log };
 }
@@ -25,10 +26,11 @@ pub struct Claim<T> {
     marker: PhantomData<T>,
 }
 
-impl<T: Kept> Play<Option<T>, View<T::Entry, T::Terms>> for Claim<T> {
+impl<T: Kept> Play<Option<Box<T>>, View<T::Entry, T::Terms>> for Claim<T> {
     ghost use Rattle.leader_token.specs.Rule.{Claimed};
+    ghost use Rattle.leader_token.specs.Boxed.{boxed, boxed_marks};
 
-    ghost then = { λ st m r n. Claimed T.stands T.opens T.marks m r n };
+    ghost then = { λ st m r n. Claimed (boxed T.stands) T.opens (boxed_marks T.marks) m r n };
 }
 
 /// The token is free again.
@@ -36,10 +38,11 @@ pub struct Release<T> {
     marker: PhantomData<T>,
 }
 
-impl<T: Kept> Play<Option<T>, View<T::Entry, T::Terms>> for Release<T> {
+impl<T: Kept> Play<Option<Box<T>>, View<T::Entry, T::Terms>> for Release<T> {
     ghost use Rattle.leader_token.specs.Rule.{Released};
+    ghost use Rattle.leader_token.specs.Boxed.{boxed, boxed_marks};
 
-    ghost then = { λ st m r n. Released T.stands T.opens T.marks m n };
+    ghost then = { λ st m r n. Released (boxed T.stands) T.opens (boxed_marks T.marks) m n };
 }
 
 /// The root makes a pass.
@@ -67,10 +70,12 @@ impl<T: Kept> Join<View<T::Entry, T::Terms>> for JoinPass<T> {
 }
 
 /// The root compares the lists that it joined.
-pub struct Compare;
+pub struct Compare<T> {
+    marker: PhantomData<T>,
+}
 
-impl<S, E, Q> Play<Option<S>, View<E, Q>> for Compare {
+impl<T: Kept> Play<Option<Box<T>>, View<T::Entry, T::Terms>> for Compare<T> {
     ghost use Rattle.leader_token.specs.Rule.{Compared};
 
-    ghost then = { λ st m r n. Compared m n };
+    ghost then = { λ st m r n. Compared T.opens m n };
 }

@@ -1,7 +1,8 @@
 // The calls of a token.
 ghost use Rattle.std.specs.Prelude.{◌≡◌, ◌+◌, ◌-◌, ◌<◌, true, false, Option, None, Some, List, [], ◌∷◌, IfOk, IfErr, IfSome, IfNone, MatchOption, ℕ};
+ghost use Rattle.leader_token.specs.Boxed.{boxed, boxed_marks};
 ghost use Rattle.leader_token.specs.Lists.{Begins};
-ghost use Rattle.leader_token.specs.Passes.{IsGot, IsLast, MayPut, IsPut, first_view, split_left, split_right, joined};
+ghost use Rattle.leader_token.specs.Passes.{IsGot, IsLast, MayPut, IsPut, first_view, split_left, split_right, joined, IsOpenLater};
 ghost use Rattle.leader_token.specs.Rule.{MayStart, OwnEventsDiffer};
 ghost use Rattle.leader_token.specs.Words.{id_of, token_of, value_of, view_of};
 
@@ -35,11 +36,11 @@ impl<T: Kept> Token<T> {
     }
 
     // Takes the token and the value where the token is free.
-    fn claim(&self, seat: &mut Seat<Option<T>, View<T::Entry, T::Terms>>) -> Option<T>
+    fn claim(&self, seat: &mut Seat<Option<Box<T>>, View<T::Entry, T::Terms>>) -> Option<Box<T>>
         requires table { seat.old.table_id ≡ id_of self.now }
         requires free { (seat.old.me.0.spent ≡ false) × (seat.old.me.0.base ≡ None) × (seat.old.me.1 ≡ []) }
         ensures table { (seat.new.table_id ≡ seat.old.table_id) × (seat.new.id ≡ seat.old.id) }
-        ensures got { MatchOption result (seat.new.me ≡ seat.old.me) (λ t. (seat.new.me.1 ≡ (0, None) ∷ []) × IsGot T.stands T.opens T.marks seat.old.me.0 t seat.new.me.0) }
+        ensures got { MatchOption result (seat.new.me ≡ seat.old.me) (λ t. (seat.new.me.1 ≡ (0, None) ∷ []) × IsGot (boxed T.stands) T.opens (boxed_marks T.marks) seat.old.me.0 t seat.new.me.0) }
     {
         let shared = &self.table.shared;
         let found = shared.compare_exchange::<Claim<T>>(seat, 0, 0, 1);
@@ -92,13 +93,13 @@ impl<T: Kept> Token<T> {
     }
 
     // Gives the value and the token back, and wakes one that sleeps.
-    fn release(&self, seat: &mut Seat<Option<T>, View<T::Entry, T::Terms>>, value: T)
+    fn release(&self, seat: &mut Seat<Option<Box<T>>, View<T::Entry, T::Terms>>, value: Box<T>)
         requires table { seat.old.table_id ≡ id_of self.now }
         requires live { seat.old.me.0.spent ≡ false }
         requires out { seat.old.me.1 ≡ (0, None) ∷ [] }
-        requires may { MayPut T.stands T.opens T.marks seat.old.me.0 value }
+        requires may { MayPut (boxed T.stands) T.opens (boxed_marks T.marks) seat.old.me.0 value }
         ensures table { seat.new.table_id ≡ seat.old.table_id }
-        ensures put { IsPut T.stands T.opens T.marks seat.old.me.0 value seat.new.me.0 × (seat.new.me.1 ≡ []) }
+        ensures put { IsPut (boxed T.stands) T.opens (boxed_marks T.marks) seat.old.me.0 value seat.new.me.0 × (seat.new.me.1 ≡ []) }
     {
         let shared = &self.table.shared;
         let empty = shared.exchange(seat, 0, Some(value));
@@ -142,11 +143,12 @@ impl<T: Kept> Token<T> {
         ensures token { token_of root.new ≡ token_of root.old }
         ensures root { view_of root.new ≡ joined (view_of root.old) (view_of other) }
         ensures seen { Begins (view_of root.old).seen (view_of root.new).seen × Begins (view_of other).seen (view_of root.new).seen }
+        ensures own { (e : ℕ) → (view_of root.old).mine ≡ Some e → IsOpenLater T.opens e (view_of root.new).seen }
     {
         let other = other.into_seat();
         let shared = &self.table.shared;
         shared.join_seat::<JoinPass<T>>(&mut root.seat, other);
-        shared.load::<Compare>(&mut root.seat, 0);
+        shared.load::<Compare<T>>(&mut root.seat, 0);
     }
 
     /// The value, once every other pass was joined. It stands for the list that the root has seen. It
@@ -160,7 +162,7 @@ impl<T: Kept> Token<T> {
         let last = closed.take(0);
         closed.free();
         let Some(value) = last else { unreachable!() };
-        value
+        Box::into_inner(value)
     }
 }
 
@@ -172,9 +174,13 @@ fn started<T: Kept, B: FirstView<T::Entry, T::Terms>>(
     ensures root { IfOk result (λ r. (token_of r.1 ≡ id_of r.0) × (B.views ≡ view_of r.1 ∷ [])) }
     ensures refused { IfErr result (λ e. e.0 ≡ value) }
 {
+    let value = match Box::new(alloc, value) {
+        Ok(value) => value,
+        Err(refused) => return Err((refused.value, NoMemory)),
+    };
     let mut slots = match Vec::with_capacity(alloc, 1) {
         Ok(slots) => slots,
-        Err(_) => return Err((value, NoMemory)),
+        Err(_) => return Err((Box::into_inner(value), NoMemory)),
     };
     slots.push_reserved(Some(value));
     match Table::new(alloc, &[0], slots, &key::<T, B>()) {
@@ -188,7 +194,7 @@ fn started<T: Kept, B: FirstView<T::Entry, T::Terms>>(
                 unreachable!()
             };
             slots.destroy_empty();
-            Err((value, NoMemory))
+            Err((Box::into_inner(value), NoMemory))
         }
     }
 }
@@ -196,5 +202,5 @@ fn started<T: Kept, B: FirstView<T::Entry, T::Terms>>(
 /// A law of every token at any moment: the own events of its passes are, together, the open events of the
 /// list that its value stands for, and no two passes have the same one.
 pub fn own_events_differ<T: Kept>()
-    ensures { OwnEventsDiffer T.stands T.opens T.marks }
+    ensures { OwnEventsDiffer (boxed T.stands) T.opens (boxed_marks T.marks) }
 {}

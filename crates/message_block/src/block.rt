@@ -46,6 +46,19 @@ impl Block {
         })
     }
 
+    /// A block of these bytes, at most 1,048,576, without space. The vector is kept as it is.
+    pub fn from_vec(bytes: Vec<u8>) -> Block
+        requires { length bytes.items ≤ 1048576 }
+        ensures { result ≡ record { bytes = bytes.items; space = 0 } }
+    {
+        let size = bytes.len();
+        Block {
+            written: bytes,
+            read: 0,
+            size,
+        }
+    }
+
     /// Writes bytes at the write place. `NoSpace` comes exactly where they are more than the space; it tells the space,
     /// and the block is as before.
     pub fn write(&mut self, bytes: &[u8]) -> Result<(), NoSpace>

@@ -1,5 +1,5 @@
 -- What contracts see of an active task.
-use Rattle.std.specs.Prelude.{◌≡◌, false, List, ◌++◌}
+use Rattle.std.specs.Prelude.{◌≡◌, false, List, [], ◌++◌}
 use Rattle.crossbeam_queue.specs.Passes.{view}
 use Rattle.message_block.specs.Messages.{MessageState}
 use Rattle.module_stream.specs.declared.active.ActiveTask.{ActiveTask}
@@ -24,3 +24,11 @@ RunsIn gives first put answered (runner.Here here) = Progress first put (answere
 
 abbrev pub Runs : {T : Type 0} → (T → Gives) → Gives → List MessageState → List MessageState → ActiveTask T → Type 0
 Runs gives first put answered active = RunsIn gives first put answered active.runner
+
+-- it keeps nothing back that has come out of the task
+abbrev pub KeepsNoneIn : {T : Type 0} → Runner T → Type 0
+KeepsNoneIn (runner.Beside beside) = beside.lines.inbox.messages.items ≡ []
+KeepsNoneIn (runner.Here here) = here.held.items ≡ []
+
+abbrev pub KeepsNone : {T : Type 0} → ActiveTask T → Type 0
+KeepsNone active = KeepsNoneIn active.runner

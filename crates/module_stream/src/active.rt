@@ -1,5 +1,5 @@
 //! Active tasks.
-ghost use Rattle.std.specs.Prelude.{◌≡◌, [], ◌∷◌, ◌++◌, List, IfOk, OnErr, IfErr, false};
+ghost use Rattle.std.specs.Prelude.{◌≡◌, [], ◌∷◌, ◌++◌, List, IfOk, OnOk, OnErr, IfErr, false};
 ghost use Rattle.crossbeam_queue.specs.Passes.{view, IsPassOf};
 ghost use Rattle.message_block.specs.Messages.{MessageState};
 ghost use Rattle.module_stream.specs.Progress.{Gives, Begins, Progress};
@@ -41,7 +41,7 @@ struct Beside<T: Task> {
 }
 
 impl<T: Task + Send + 'static> ActiveTask<T> {
-    ghost use Rattle.module_stream.specs.Active.{Runs};
+    ghost use Rattle.module_stream.specs.Active.{Runs, KeepsNone};
 
     /// Starts a thread that runs a task. `NoMemory` gives the task back: there was no memory for the queues.
     pub fn begin<R: Threads + Wait + Copy + Send + 'static>(
@@ -83,12 +83,13 @@ impl<T: Task + Send + 'static> ActiveTask<T> {
         }
     }
 
-    /// Puts a message, and gives what has come out and was not given yet. It waits until the queue to the thread has room.
+    /// Puts a message, and gives all that has come out and was not given yet. It waits until the queue to the thread has room.
     /// `NoMemory` gives the message back, which was not put: there was no memory for what may have come out. The active task is as
     /// before, and nothing is lost.
     pub fn put<R: Wait>(&mut self, rt: &R, m: Message) -> Result<Messages, (Message, NoMemory)>
         ensures given { (first : Gives) (put answered : List MessageState) → Runs T.gives first put answered self.old
             → IfOk result (λ out. Runs T.gives first (put ++ m ∷ []) (answered ++ out) self.new) }
+        ensures none_kept { OnOk result (KeepsNone self.new) }
         ensures refused { IfErr result (λ refusal. refusal.0 ≡ m) }
         ensures unchanged { (first : Gives) (put answered : List MessageState) → Runs T.gives first put answered self.old
             → OnErr result (Runs T.gives first put answered self.new) }
@@ -123,6 +124,7 @@ impl<T: Task> Beside<T> {
     fn put<R: Wait>(&mut self, rt: &R, m: Message) -> Result<Messages, (Message, NoMemory)>
         ensures given { (first : Gives) (put answered : List MessageState) → RunsBeside T.gives first put answered self.old
             → IfOk result (λ out. RunsBeside T.gives first (put ++ m ∷ []) (answered ++ out) self.new) }
+        ensures none_kept { OnOk result (self.new.lines.inbox.messages.items ≡ []) }
         ensures refused { IfErr result (λ refusal. refusal.0 ≡ m) }
         ensures unchanged { (first : Gives) (put answered : List MessageState) → RunsBeside T.gives first put answered self.old
             → OnErr result (RunsBeside T.gives first put answered self.new) }

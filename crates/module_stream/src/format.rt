@@ -4,7 +4,8 @@ ghost use Rattle.message_block.specs.Messages.{bytes_of, bytes_in};
 ghost use Rattle.module_stream.specs.Tasks.{formatted, only_record};
 
 use crate::messages::Messages;
-use crate::task::{Task, one};
+use crate::passed::Passed;
+use crate::task::Task;
 use crate::text::text_as_message;
 use cdr_record::{Decoder, LogRecord};
 use ev_types::NoMemory;
@@ -29,12 +30,15 @@ impl Task for FormatTask {
     ghost gives = { λ _ messages. map formatted messages };
 
     fn put(&mut self, m: Message) -> Result<Messages, NoMemory> {
-        let text = format(self.alloc, m)?;
-        one(self.alloc, text)
+        self.pass(m)?.into_messages(self.alloc)
     }
 
     fn finish(&mut self) -> Result<Messages, NoMemory> {
         Ok(Messages::new(Vec::new(self.alloc)))
+    }
+
+    fn pass(&mut self, m: Message) -> Result<Passed, NoMemory> {
+        Ok(Passed::One(format(self.alloc, m)?))
     }
 }
 

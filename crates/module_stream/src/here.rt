@@ -41,6 +41,7 @@ pub(crate) fn settle<T: Task>(lines: Lines, worker: Worker<T>) -> Here<T>
         mut puts,
         takes,
         inbox,
+        waits: _,
     } = lines;
     let Worker {
         task,

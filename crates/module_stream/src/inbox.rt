@@ -60,7 +60,7 @@ impl Inbox {
         }
     }
 
-    /// Gives the messages, and holds none from now on.
+    /// Gives the messages, and holds none from now on. Where there are none, the memory for the next is kept.
     pub(crate) fn take(&mut self) -> Vec<Message>
         ensures given { result.items ≡ self.old.messages.items }
         ensures messages { self.new.messages.items ≡ [] }
@@ -68,6 +68,9 @@ impl Inbox {
         ensures over { self.new.over ≡ self.old.over }
     {
         let none = Vec::new(*self.messages.allocator());
+        if self.messages.is_empty() {
+            return none;
+        }
         mem::replace(&mut self.messages, none)
     }
 }

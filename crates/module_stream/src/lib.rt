@@ -16,6 +16,7 @@ mod line;
 mod lines;
 mod messages;
 mod pass;
+mod passed;
 mod row;
 mod separate;
 mod stream;
@@ -23,6 +24,7 @@ mod task;
 #[cfg(test)]
 mod tests;
 mod text;
+mod wait;
 mod work;
 
 pub use active::ActiveTask;
@@ -30,6 +32,7 @@ pub use format::FormatTask;
 pub use laws::formats_what_spells_a_record;
 pub use messages::Messages;
 pub use pass::PassTask;
+pub use passed::Passed;
 pub use separate::SeparateTask;
 pub use stream::{Module, PushRefused, Stream, StreamRefused};
 pub use task::Task;

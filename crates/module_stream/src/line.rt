@@ -3,12 +3,12 @@ ghost use Rattle.std.specs.Prelude.{◌≡◌, [], ◌∷◌, ◌++◌, true, fa
 ghost use Rattle.crossbeam_queue.specs.Passes.{view, IsSamePass, IsPassOf};
 ghost use Rattle.module_stream.specs.Lines.{log};
 
+use crate::wait::{Looks, Waits};
 use crossbeam_queue::protocol::{Join, Lesson, Outcome, Protocol, Split};
 use crossbeam_queue::{Pass, RuledArrayQueue};
 use message_block::Message;
 use std::collections::LinkedList;
 use std::sync::Wait;
-use std::thread;
 
 /// What goes through a line.
 #[derive(Drop)]
@@ -91,37 +91,47 @@ pub type Line = RuledArrayQueue<Item, Log, InOrder>;
 /// An end of a line. It has no bytes.
 pub type End = Pass<Item, Log>;
 
-/// Puts an item, and waits while there is no room.
-pub(crate) fn send<R: Wait>(rt: &R, line: &Line, end: &mut End, item: Item)
+/// Puts an item into the line to the caller, and waits while there is no room.
+pub(crate) fn send<R: Wait>(rt: &R, line: &Line, end: &mut End, waits: &Waits, item: Item)
     requires end { IsPassOf line.now end.old }
     requires puts { (view end.old).puts ≡ true }
     ensures same { IsSamePass end.old end.new }
     ensures sent { view end.new ≡ log true (view end.old).takes ((view end.old).sent ++ item ∷ []) (view end.old).got }
 {
     let mut item = item;
+    let mut looks = Looks::new();
     for _ in rt.forever() {
         match line.try_push_as::<Sent>(end, item) {
-            Ok(()) => return,
+            Ok(()) => {
+                looks.end(&waits.worker);
+                waits.caller.wake();
+                return;
+            }
             Err(back) => {
                 item = back;
-                thread::yield_now();
+                looks.pause(rt, &waits.worker);
             }
         }
     }
     unreachable!()
 }
 
-/// Takes an item, and waits while there is none.
-pub(crate) fn receive<R: Wait>(rt: &R, line: &Line, end: &mut End) -> Item
+/// Takes an item from the line from the caller, and waits while there is none.
+pub(crate) fn receive<R: Wait>(rt: &R, line: &Line, end: &mut End, waits: &Waits) -> Item
     requires end { IsPassOf line.now end.old }
     requires takes { (view end.old).takes ≡ true }
     ensures same { IsSamePass end.old end.new }
     ensures got { view end.new ≡ log (view end.old).puts true (view end.old).sent ((view end.old).got ++ result ∷ []) }
 {
+    let mut looks = Looks::new();
     for _ in rt.forever() {
         match line.try_pop_as::<Got>(end) {
-            Some(item) => return item,
-            None => thread::yield_now(),
+            Some(item) => {
+                looks.end(&waits.worker);
+                waits.caller.wake();
+                return item;
+            }
+            None => looks.pause(rt, &waits.worker),
         }
     }
     unreachable!()

@@ -5,10 +5,10 @@ ghost use Rattle.module_stream.specs.Lines.{log};
 
 use crate::inbox::Inbox;
 use crate::line::{End, Ends, Got, Item, Line, Sent};
+use crate::wait::{Looks, Waits};
 use ev_types::NoMemory;
 use std::alloc::{AllocError, Global};
 use std::sync::{Arc, Wait};
-use std::thread;
 
 /// How many items a line holds at most.
 const ROOM: usize = 64;
@@ -21,6 +21,7 @@ pub(crate) struct Lines {
     pub(crate) puts: End,
     pub(crate) takes: End,
     pub(crate) inbox: Inbox,
+    pub(crate) waits: Arc<Waits, Global>,
     ghost feeds: { IsPassOf feed.value puts },
     ghost comes: { IsPassOf came.value takes },
     ghost can_put: { (view puts).puts ≡ true },
@@ -34,6 +35,7 @@ pub(crate) struct Side {
     pub(crate) came: Arc<Line, Global>,
     pub(crate) takes: End,
     pub(crate) puts: End,
+    pub(crate) waits: Arc<Waits, Global>,
     ghost fed: { IsPassOf feed.value takes },
     ghost gives: { IsPassOf came.value puts },
     ghost took_none: { view takes ≡ log false true [] [] },
@@ -54,11 +56,13 @@ pub(crate) fn open(alloc: Global) -> Result<(Lines, Side), AllocError>
     let takes = came.another::<Ends>(&mut their_puts);
     let feed = Arc::new(alloc, feed)?;
     let came = Arc::new(alloc, came)?;
+    let waits = Arc::new(alloc, Waits::new())?;
     let side = Side {
         feed: Arc::try_clone(&feed)?,
         came: Arc::try_clone(&came)?,
         takes: their_takes,
         puts: their_puts,
+        waits: Arc::try_clone(&waits)?,
     };
     let lines = Lines {
         feed,
@@ -66,6 +70,7 @@ pub(crate) fn open(alloc: Global) -> Result<(Lines, Side), AllocError>
         puts,
         takes,
         inbox: Inbox::new(alloc),
+        waits,
     };
     Ok((lines, side))
 }
@@ -83,15 +88,21 @@ impl Lines {
         ensures same { AreSame self.old self.new }
     {
         let mut item = item;
+        let mut looks = Looks::new();
         for _ in rt.forever() {
             if self.take_all(rt).is_err() {
+                looks.end(&self.waits.caller);
                 return Err(item);
             }
             match self.feed.try_push_as::<Sent>(&mut self.puts, item) {
-                Ok(()) => return Ok(()),
+                Ok(()) => {
+                    looks.end(&self.waits.caller);
+                    self.waits.worker.wake();
+                    return Ok(());
+                }
                 Err(back) => item = back,
             }
-            thread::yield_now();
+            looks.pause(rt, &self.waits.caller);
         }
         unreachable!()
     }
@@ -127,6 +138,7 @@ impl Lines {
         match self.came.try_pop_as::<Got>(&mut self.takes) {
             Some(item) => {
                 self.inbox.accept(item);
+                self.waits.worker.wake();
                 true
             }
             None => false,
@@ -139,16 +151,19 @@ impl Lines {
         ensures came { KeepsWhatCame self.old self.new }
         ensures same { AreSame self.old self.new }
     {
+        let mut looks = Looks::new();
         for _ in rt.forever() {
             if self
                 .feed
                 .try_push_as::<Sent>(&mut self.puts, Item::Stop)
                 .is_ok()
             {
+                looks.end(&self.waits.caller);
+                self.waits.worker.wake();
                 return;
             }
             if !self.take_one() {
-                thread::yield_now();
+                looks.pause(rt, &self.waits.caller);
             }
         }
         unreachable!()
@@ -161,12 +176,14 @@ impl Lines {
         ensures puts { self.new.puts ≡ self.old.puts }
         ensures same { AreSame self.old self.new }
     {
+        let mut looks = Looks::new();
         for _ in rt.forever() {
             if self.inbox.over {
+                looks.end(&self.waits.caller);
                 return;
             }
             if !self.take_one() {
-                thread::yield_now();
+                looks.pause(rt, &self.waits.caller);
             }
         }
         unreachable!()

@@ -2,7 +2,8 @@
 ghost use Rattle.std.specs.Prelude.{◌≡◌};
 
 use crate::messages::Messages;
-use crate::task::{Task, one};
+use crate::passed::Passed;
+use crate::task::Task;
 use ev_types::NoMemory;
 use message_block::Message;
 use std::alloc::Global;
@@ -24,10 +25,14 @@ impl Task for PassTask {
     ghost gives = { λ _ messages. messages };
 
     fn put(&mut self, m: Message) -> Result<Messages, NoMemory> {
-        one(self.alloc, m)
+        self.pass(m)?.into_messages(self.alloc)
     }
 
     fn finish(&mut self) -> Result<Messages, NoMemory> {
         Ok(Messages::new(Vec::new(self.alloc)))
+    }
+
+    fn pass(&mut self, m: Message) -> Result<Passed, NoMemory> {
+        Ok(Passed::One(m))
     }
 }

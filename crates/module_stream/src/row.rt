@@ -1,18 +1,20 @@
 //! Tasks that stand one behind another.
-ghost use Rattle.std.specs.Prelude.{◌≡◌, [], ◌∷◌, IfOk, vec_len};
+ghost use Rattle.std.specs.Prelude.{◌≡◌, [], ◌∷◌, ◌++◌, IfOk, vec_len};
 ghost use Rattle.module_stream.specs.Composition.{Comes, through};
+ghost use Rattle.module_stream.specs.Passing.{passed_on};
 
 use crate::messages::Messages;
-use crate::task::{Task, one};
+use crate::passed::Passed;
+use crate::task::Task;
 use ev_types::NoMemory;
 use message_block::Message;
 use std::alloc::Global;
 
 /// Puts a message into a task.
-fn put_into(task: &mut Box<dyn Task>, message: Message) -> Result<Messages, NoMemory>
-    ensures { IfOk result (λ out. Comes (gives task.old) (message ∷ []) out (gives task.new)) }
+fn pass_into(task: &mut Box<dyn Task>, message: Message) -> Result<Passed, NoMemory>
+    ensures { IfOk result (λ out. Comes (gives task.old) (message ∷ []) (passed_on out) (gives task.new)) }
 {
-    task.put(message)
+    task.pass(message)
 }
 
 /// Ends the list of messages of a task.
@@ -22,41 +24,76 @@ fn end(task: &mut Box<dyn Task>) -> Result<Messages, NoMemory>
     task.finish()
 }
 
+/// Messages behind others. Where there are no others the list is kept as it is.
+fn joined(first: Vec<Message>, second: Vec<Message>) -> Result<Vec<Message>, NoMemory>
+    ensures { IfOk result (λ all. all.items ≡ first.items ++ second.items) }
+{
+    if first.is_empty() {
+        return Ok(second);
+    }
+    let (mut first, mut second) = (first, second);
+    first.append(&mut second)?;
+    Ok(first)
+}
+
+/// What comes out of a task behind other messages.
+fn add(out: Vec<Message>, given: Passed) -> Result<Vec<Message>, NoMemory>
+    ensures { IfOk result (λ all. all.items ≡ out.items ++ passed_on given) }
+{
+    match given {
+        Passed::One(message) => {
+            let mut out = out;
+            out.push(message)?;
+            Ok(out)
+        }
+        Passed::Many(messages) => joined(out, messages.into_vec()),
+    }
+}
+
 /// Puts messages in order, and gives all that come out now.
 fn put_all(task: &mut Box<dyn Task>, messages: Vec<Message>) -> Result<Vec<Message>, NoMemory>
     ensures { IfOk result (λ out. Comes (gives task.old) messages.items out.items (gives task.new)) }
 {
     let mut out = Vec::new(*messages.allocator());
     for message in messages {
-        let mut given = put_into(task, message)?.into_vec();
-        out.append(&mut given)?;
+        let given = pass_into(task, message)?;
+        out = add(out, given)?;
     }
     Ok(out)
+}
+
+/// Puts what came out of the task before.
+fn put_on(task: &mut Box<dyn Task>, passed: Passed) -> Result<Passed, NoMemory>
+    ensures { IfOk result (λ out. Comes (gives task.old) (passed_on passed) (passed_on out) (gives task.new)) }
+{
+    match passed {
+        Passed::One(message) => pass_into(task, message),
+        Passed::Many(messages) => {
+            let out = put_all(task, messages.into_vec())?;
+            Ok(Passed::Many(Messages::new(out)))
+        }
+    }
 }
 
 /// Puts messages in order, ends the list, and gives all that come out.
 fn finish_with(task: &mut Box<dyn Task>, messages: Vec<Message>) -> Result<Vec<Message>, NoMemory>
     ensures { IfOk result (λ out. out.items ≡ gives task.old messages.items) }
 {
-    let mut out = put_all(task, messages)?;
-    let mut held = end(task)?.into_vec();
-    out.append(&mut held)?;
-    Ok(out)
+    let out = put_all(task, messages)?;
+    let held = end(task)?.into_vec();
+    joined(out, held)
 }
 
-/// Puts messages into the first task, what comes out of it into the next, and so on, and gives what comes out of the last.
-fn put_through(
-    tasks: &mut [Box<dyn Task>],
-    messages: Vec<Message>,
-) -> Result<Vec<Message>, NoMemory>
-    ensures { IfOk result (λ out. Comes (through (λ task. (⟦<dyn Task as Task>⟧ task.vtable).gives task.value) tasks.old) messages.items out.items
+/// Puts a message into the first task, what comes out of it into the next, and so on, and gives what comes out of the last.
+fn put_through(tasks: &mut [Box<dyn Task>], message: Message) -> Result<Passed, NoMemory>
+    ensures { IfOk result (λ out. Comes (through (λ task. (⟦<dyn Task as Task>⟧ task.vtable).gives task.value) tasks.old) (message ∷ []) (passed_on out)
         (through (λ task. (⟦<dyn Task as Task>⟧ task.vtable).gives task.value) tasks.new)) }
 {
-    let mut messages = messages;
+    let mut passed = Passed::One(message);
     for place in 0..tasks.len() {
-        messages = put_all(&mut tasks[place], messages)?;
+        passed = put_on(&mut tasks[place], passed)?;
     }
-    Ok(messages)
+    Ok(passed)
 }
 
 /// Finishes the first task, then the next with what came out, and so on, and gives what comes out of the last.
@@ -83,6 +120,7 @@ pub(crate) fn put_one(
         (through (λ task. (⟦<dyn Task as Task>⟧ task.vtable).gives task.value) tasks.new.items)) }
     ensures count { vec_len tasks.new ≡ vec_len tasks.old }
 {
-    let messages = one(alloc, message)?.into_vec();
-    Ok(Messages::new(put_through(tasks, messages)?))
+    let passed = put_through(tasks, message)?;
+    let messages = passed.into_messages(alloc)?;
+    Ok(messages)
 }

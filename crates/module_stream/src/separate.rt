@@ -3,7 +3,8 @@ ghost use Rattle.std.specs.Prelude.{◌≡◌, IfOk, map};
 ghost use Rattle.module_stream.specs.Tasks.{separated};
 
 use crate::messages::Messages;
-use crate::task::{Task, one};
+use crate::passed::Passed;
+use crate::task::Task;
 use crate::text::full_block;
 use ev_types::NoMemory;
 use message_block::Message;
@@ -30,12 +31,15 @@ impl Task for SeparateTask {
     ghost gives = { λ _ messages. map separated messages };
 
     fn put(&mut self, m: Message) -> Result<Messages, NoMemory> {
-        let ended = end_line(self.alloc, m)?;
-        one(self.alloc, ended)
+        self.pass(m)?.into_messages(self.alloc)
     }
 
     fn finish(&mut self) -> Result<Messages, NoMemory> {
         Ok(Messages::new(Vec::new(self.alloc)))
+    }
+
+    fn pass(&mut self, m: Message) -> Result<Passed, NoMemory> {
+        Ok(Passed::One(end_line(self.alloc, m)?))
     }
 }
 

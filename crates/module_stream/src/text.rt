@@ -14,6 +14,10 @@ use std::alloc::Global;
 /// in its text.
 const MOST_BYTES: usize = 1_048_576;
 
+/// How many bytes stand before the message in the text of a record at most: `SEC,USEC PID NAME: `, with numbers of at most 20, 11, 11
+/// and 12 bytes.
+const MOST_BEFORE_MESSAGE: usize = 59;
+
 /// A text that grows as it is put. It is broken where there was no memory for it.
 #[derive(Drop)]
 struct GrowingText {
@@ -40,13 +44,28 @@ impl TextOut for GrowingText {
     }
 }
 
+/// How many bytes the text of a record with this message has at most, so that it is put without growing.
+fn room_for(message: &[u8]) -> usize {
+    let escaped = message.iter().filter(|byte| !is_plain(**byte)).count();
+    MOST_BEFORE_MESSAGE
+        .saturating_add(message.len())
+        .saturating_add(escaped.saturating_mul(3))
+        .min(MOST_BYTES)
+}
+
+/// Whether a byte is printed as itself.
+fn is_plain(byte: u8) -> bool {
+    matches!(byte, b' '..=b'~') && byte != b'\\'
+}
+
 /// The text of a record.
 fn text_of(alloc: Global, entry: &LogRecord) -> Result<Vec<u8>, NoMemory>
     ensures text { IfOk result (λ text. text.items ≡ record_text entry.now) }
     ensures within { IfOk result (λ text. length text.items ≤ 1048576) }
 {
+    let bytes = Vec::with_capacity(alloc, room_for(entry.text.as_slice()))?;
     let mut text = GrowingText {
-        bytes: Vec::new(alloc),
+        bytes,
         broken: false,
     };
     put_record_text(&mut text, entry);
@@ -75,7 +94,7 @@ pub(crate) fn text_as_message(
     ensures { IfOk result (λ message. message ≡ text_message priority entry.now) }
 {
     let text = text_of(alloc, entry)?;
-    let block = full_block(alloc, &text)?;
+    let block = Block::from_vec(text);
     match Message::new(alloc, block, priority) {
         Ok(message) => Ok(message),
         Err((_, refused)) => Err(refused),

@@ -10,6 +10,8 @@ ghost use Rattle.module_stream.specs.Works.{Gave, HasWorked};
 use crate::Task;
 use crate::line::{End, Item, Line, receive, send};
 use crate::lines::Side;
+use crate::passed::Passed;
+use crate::wait::Waits;
 use ev_types::NoMemory;
 use message_block::Message;
 use std::snapshot::Snapshot;
@@ -46,6 +48,7 @@ pub(crate) fn work<T: Task, R: Wait>(rt: &R, side: Side, task: T) -> Worker<T>
         came,
         takes,
         puts,
+        waits,
     } = side;
     let mut worker = Worker {
         task,
@@ -54,18 +57,18 @@ pub(crate) fn work<T: Task, R: Wait>(rt: &R, side: Side, task: T) -> Worker<T>
         lost: false,
     };
     for _ in rt.forever() {
-        match receive(rt, &feed, &mut worker.takes) {
-            Item::One(message) => worker.put(rt, &came, message),
+        match receive(rt, &feed, &mut worker.takes, &waits) {
+            Item::One(message) => worker.put(rt, &came, &waits, message),
             Item::Stop => break,
         }
     }
-    send(rt, &came, &mut worker.puts, Item::Stop);
+    send(rt, &came, &mut worker.puts, &waits, Item::Stop);
     worker
 }
 
 impl<T: Task> Worker<T> {
     /// Puts a message into the task, and sends what comes out. Once a message was lost, all that follow are dropped.
-    fn put<R: Wait>(&mut self, rt: &R, came: &Line, message: Message)
+    fn put<R: Wait>(&mut self, rt: &R, came: &Line, waits: &Waits, message: Message)
         requires { IsPassOf came.now self.old.puts × ((view self.old.puts).puts ≡ true) }
         ensures same { IsSamePass self.old.puts self.new.puts }
         ensures takes { self.new.takes ≡ self.old.takes }
@@ -75,21 +78,22 @@ impl<T: Task> Worker<T> {
         if self.lost {
             return;
         }
-        match self.task.put(message) {
-            Ok(out) => send_all(rt, came, &mut self.puts, out.into_vec()),
+        match self.task.pass(message) {
+            Ok(Passed::One(out)) => send(rt, came, &mut self.puts, waits, Item::One(out)),
+            Ok(Passed::Many(out)) => send_all(rt, came, &mut self.puts, waits, out.into_vec()),
             Err(NoMemory) => self.lost = true,
         }
     }
 }
 
 /// Sends messages in order.
-fn send_all<R: Wait>(rt: &R, came: &Line, puts: &mut End, messages: Vec<Message>)
+fn send_all<R: Wait>(rt: &R, came: &Line, puts: &mut End, waits: &Waits, messages: Vec<Message>)
     requires end { IsPassOf came.now puts.old }
     requires puts { (view puts.old).puts ≡ true }
     ensures same { IsSamePass puts.old puts.new }
     ensures sent { view puts.new ≡ log true (view puts.old).takes ((view puts.old).sent ++ ones messages.items) (view puts.old).got }
 {
     for message in messages {
-        send(rt, came, puts, Item::One(message));
+        send(rt, came, puts, waits, Item::One(message));
     }
 }

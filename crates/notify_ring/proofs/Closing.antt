@@ -1,6 +1,6 @@
 -- The end of a ring.
-use Rattle.std.proofs.Common.{◌≡◌, ◌⊎◌, inl, inr, ⊎_elim, ℕ, List, [], ◌∷◌, ◌++◌, set, sym, refl, ap, ◌∙◌, subst, arith, cond, Bool, true, false, true≢false, eqb, take, drop}
-use Rattle.std.proofs.lemmas.List.{take-append-drop}
+use Rattle.std.proofs.Common.{◌≡◌, ◌⊎◌, inl, inr, ⊎_elim, ℕ, List, [], ◌∷◌, ◌++◌, set, sym, refl, ap, ◌∙◌, subst, arith, cond, Bool, true, false, true≢false, eqb, take, drop, length}
+use Rattle.std.proofs.lemmas.List.{take-append-drop, length-take-le}
 use Rattle.std.specs.Prelude.{slice_index, nat_lt}
 use mathlib.Core.Option.{some, some-injective, some-ne-none}
 use lib.ListN.{get_elem?}
@@ -12,10 +12,12 @@ use Rattle.notify_ring.specs.declared.view.Stage.{Stage}
 use Rattle.notify_ring.specs.declared.view.Stage.TheVariants.{Resting, Seen, Cleared}
 use Rattle.notify_ring.specs.declared.view.Ended.{Ended}
 use Rattle.notify_ring.specs.declared.view.View.{View}
-use Rattle.notify_ring.specs.Postings.{total, flag, IsNumbered}
+use Rattle.notify_ring.specs.Postings.{flag, IsNumbered}
+use Rattle.list_lemmas.specs.Sums.{total}
 use Rattle.notify_ring.specs.Passes.{blank, owns, IsMerged}
-use Rattle.notify_ring.specs.Rule.{claim_of, good_of, pends_of, claimed, good, pends, poster, rooted, kids, drainer, with_drainer, StageFits, Fits}
-use Rattle.notify_ring.proofs.Sums.{total-set, total-same, alone}
+use Rattle.notify_ring.specs.Rule.{claim_of, good_of, pends_of, claimed, good, pends, poster, rooted, kids, drainer, StageFits, Fits}
+use Rattle.notify_ring.specs.Steps.{with_drainer}
+use Rattle.list_lemmas.proofs.Sums.{total-set, total-same, alone}
 use Rattle.notify_ring.proofs.Keeps.{off, Rule, same_fits}
 
 pub rejoins : (id : ℕ) (v : View) (other : ℕ) (u : View) → u.root ≡ false → u.posts ≡ false → u.flight ≡ Idle → Joins Rule id v other u (with_drainer v u) blank
@@ -46,9 +48,10 @@ rejoins id v other u unrooted silent idle s o at apart there =
       single = λ n. omega (arith, quiet n, o.single n);
       fits = same_fits s.words o.all o.cleared o.freed o.made mid other blank
           (λ j x _ e. same_fits s.words o.all o.cleared o.freed o.made vs id w (λ k y _. o.fits k y)
-          (record { posted = fv.posted; ended = fv.ended; flight = fv.flight; root = fv.root; child = fv.child; drain = fu.drain }) j x e)
+          (record { posted = fv.posted; full = fv.full; ended = fv.ended; flight = fv.flight; root = fv.root; child = fv.child; drain = fu.drain }) j x e)
           (record {
             posted = λ is. absurd (true≢false (sym is));
+            full = λ le. absurd (omega (arith, le));
             ended = λ k e there-e. absurd (some-ne-none e (sym there-e));
             flight = tt;
             root = λ is. absurd (true≢false (sym is));
@@ -83,6 +86,8 @@ merges id v words slots n root childless drains last word =
       all = o.all;
       long = sym o.tail ∙ found words n word s.words last.2;
       numbered = λ k x e. subst (λ (m : ℕ). IsNumbered m k x) (sym r.0) (o.numbered k x e);
+      seqs = o.seqs;
+      few = omega (arith, o.few, o.order.0, sym o.tail ∙ found words n word s.words last.2, ap length (begun s.words o.all o.cleared o.freed v.got v.stage (fit.drain drains)), length-take-le o.cleared o.all o.order.1);
       own = fit.posted r.2;
       ended = fit.ended;
       each = λ p. sym (mine p) ∙ o.owners p ∙ ap (λ m. flag (nat_lt p m)) (sym r.0);
@@ -114,4 +119,4 @@ merges id v words slots n root childless drains last word =
 
 -- the same, by the views of the root poster and of the drainer
 pub parts_merged : (root drainer : View) (n : ℕ) → IsMerged (with_drainer root drainer) (with_drainer root drainer) n → IsMerged root drainer n
-parts_merged root drainer n m = record { all = m.all; long = m.long; numbered = m.numbered; own = m.own; ended = m.ended; each = m.each; got = m.got }
+parts_merged root drainer n m = record { all = m.all; long = m.long; numbered = m.numbered; seqs = m.seqs; few = m.few; own = m.own; ended = m.ended; each = m.each; got = m.got }

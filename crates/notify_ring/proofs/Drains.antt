@@ -15,10 +15,12 @@ use Rattle.notify_ring.specs.declared.view.Flight.TheVariants.{Idle, Claimed, Dr
 use Rattle.notify_ring.specs.declared.view.Stage.{Stage}
 use Rattle.notify_ring.specs.declared.view.Stage.TheVariants.{Resting, Seen, Cleared}
 use Rattle.notify_ring.specs.declared.view.View.{View}
-use Rattle.notify_ring.specs.Postings.{total, flag, by_poster, handle_at, gate_at, code, CountsByPoster}
+use Rattle.notify_ring.specs.Postings.{flag, by_poster, handle_at, gate_at, code, CountsByPoster}
+use Rattle.list_lemmas.specs.Sums.{total}
 use Rattle.notify_ring.specs.Passes.{owns}
-use Rattle.notify_ring.specs.Rule.{pends_of, claimed, good, pends, poster, rooted, kids, drainer, loaded_view, GateLoaded, HandleLoaded, got_after, cleared_view, released_view, FlightFits, StageFits, IsStored, RingHolds}
-use Rattle.notify_ring.proofs.Sums.{term_le, terms_le, total-same}
+use Rattle.notify_ring.specs.Rule.{pends_of, claimed, good, pends, poster, rooted, kids, drainer, FlightFits, StageFits, IsStored, RingHolds}
+use Rattle.notify_ring.specs.Steps.{loaded_view, GateLoaded, HandleLoaded, got_after, cleared_view, released_view}
+use Rattle.list_lemmas.proofs.Sums.{term_le, terms_le, total-same}
 use Rattle.notify_ring.proofs.Lists.{of-append, of-one, of-other, below-le, spread}
 use Rattle.notify_ring.proofs.Keeps.{Me', Rule, same_fits, below_length, apart_places, in_window}
 use Rattle.notify_ring.proofs.Draws.{unpended, total-none}
@@ -72,7 +74,7 @@ module _ (ws : List ℕ) (vs : List View) (o : RingHolds ws vs) (id : ℕ) (v : 
         waits = λ n le lt some-wait. o.waits n le lt (omega (arith, total-same (pends n) vs id v w at refl));
         vacant = o.vacant;
         single = λ n. omega (arith, o.single n, total-same (pends n) vs id v w at refl);
-        fits = same_fits ws o.all o.cleared o.freed o.made vs id w (λ k u _. o.fits k u) (record { posted = fit.posted; ended = fit.ended; flight = fit.flight; root = fit.root; child = fit.child; drain = λ _. stage });
+        fits = same_fits ws o.all o.cleared o.freed o.made vs id w (λ k u _. o.fits k u) (record { posted = fit.posted; full = fit.full; ended = fit.ended; flight = fit.flight; root = fit.root; child = fit.child; drain = λ _. stage });
         owners = λ p. total-same (owns p) vs id v w at refl ∙ o.owners p;
         drainers = omega (arith, o.drainers, total-same drainer vs id v w at refl);
         roots = total-same rooted vs id v w at refl ∙ o.roots;
@@ -195,6 +197,7 @@ clears id n v x seen drains s o wide at _ =
           fits = same_fits new o.all (suc o.cleared) o.freed o.made vs id w
               (λ k u ne e. let g = o.fits k u e in record {
                 posted = g.posted;
+                full = g.full;
                 ended = g.ended;
                 flight = later ws vs o full k u e u.flight refl g.flight;
                 root = g.root;
@@ -203,6 +206,7 @@ clears id n v x seen drains s o wide at _ =
               })
               (record {
                 posted = fit.posted;
+                full = fit.full;
                 ended = fit.ended;
                 flight = later ws vs o full id v at v.flight refl fit.flight;
                 root = fit.root;
@@ -261,8 +265,8 @@ frees id n v was drains s o wide at low =
           vacant = λ k le lt. same (gate_at k) (omega arith) ∙ o.vacant k le lt;
           single = λ k. omega (arith, o.single k, pending k);
           fits = same_fits new o.all o.cleared (o.freed + 1) o.made vs id w
-              (λ k u ne e. let g = o.fits k u e in record { posted = g.posted; ended = g.ended; flight = again ws n o.all o.cleared u.posts u.flight g.flight; root = g.root; child = g.child; drain = λ du. absurd (sole ws vs o id v at k u ne e drains du) })
-              (record { posted = fit.posted; ended = fit.ended; flight = again ws n o.all o.cleared v.posts v.flight fit.flight; root = fit.root; child = fit.child; drain = λ _. (d.0, d.1) });
+              (λ k u ne e. let g = o.fits k u e in record { posted = g.posted; full = g.full; ended = g.ended; flight = again ws n o.all o.cleared u.posts u.flight g.flight; root = g.root; child = g.child; drain = λ du. absurd (sole ws vs o id v at k u ne e drains du) })
+              (record { posted = fit.posted; full = fit.full; ended = fit.ended; flight = again ws n o.all o.cleared v.posts v.flight fit.flight; root = fit.root; child = fit.child; drain = λ _. (d.0, d.1) });
           owners = λ p. total-same (owns p) vs id v w at refl ∙ o.owners p;
           drainers = omega (arith, o.drainers, total-same drainer vs id v w at refl);
           roots = total-same rooted vs id v w at refl ∙ o.roots;

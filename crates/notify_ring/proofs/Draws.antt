@@ -17,10 +17,12 @@ use Rattle.notify_ring.specs.declared.view.Stage.{Stage}
 use Rattle.notify_ring.specs.declared.view.Stage.TheVariants.{Resting, Seen, Cleared}
 use Rattle.notify_ring.specs.declared.view.Ended.{Ended}
 use Rattle.notify_ring.specs.declared.view.View.{View}
-use Rattle.notify_ring.specs.Postings.{total, flag, by_poster, handle_at, gate_at, IsNumbered}
+use Rattle.notify_ring.specs.Postings.{flag, by_poster, handle_at, gate_at, IsNumbered}
+use Rattle.list_lemmas.specs.Sums.{total}
 use Rattle.notify_ring.specs.Passes.{posting_of, owns}
-use Rattle.notify_ring.specs.Rule.{drawn_view, claim_of, good_of, pends_of, claimed, good, pends, poster, rooted, kids, drainer, FlightFits, StageFits, RingHolds}
-use Rattle.notify_ring.proofs.Sums.{total-set, term_le, terms_le, total-same}
+use Rattle.notify_ring.specs.Rule.{claim_of, good_of, pends_of, claimed, good, pends, poster, rooted, kids, drainer, FlightFits, StageFits, RingHolds}
+use Rattle.notify_ring.specs.Steps.{drawn_view}
+use Rattle.list_lemmas.proofs.Sums.{total-set, term_le, terms_le, total-same}
 use Rattle.notify_ring.proofs.Lists.{of-append, of-one, of-other, below-le, spread, at_end}
 use Rattle.notify_ring.proofs.Keeps.{Me', Rule, same_fits, below_length}
 
@@ -127,6 +129,7 @@ module _ (ws : List ℕ) (vs : List View) (o : RingHolds ws vs) (id : ℕ) (v : 
           single = λ n. dite (ℕ_discrete n Found) (λ q. omega (arith, now-mine, ap (λ (j : ℕ). total (pends j) (set vs id w)) q)) (λ ne. omega (arith, others n ne, o.single n));
           fits = same_fits new All o.cleared o.freed o.made vs id w
               (λ k u ne e. let g = o.fits k u e in record {
+                full = λ le. omega (arith, g.full le, grown);
                 posted = λ p. g.posted p ∙ sym (kept_of u.number (others_number k u ne e p));
                 ended = λ j x there. g.ended j x there ∙ sym (kept_of x.number (others_ended k u ne e j x there));
                 flight = longer_flight u.posts u.flight g.flight;
@@ -135,6 +138,7 @@ module _ (ws : List ℕ) (vs : List View) (o : RingHolds ws vs) (id : ℕ) (v : 
                 drain = λ d. longer_stage u.got u.stage (g.drain d);
               })
               (record {
+                full = λ le. omega (arith, fit.full le, grown);
                 posted = λ p. ap (λ l. l ++ New ∷ []) (fit.posted p) ∙ sym (of-append v.number o.all (New ∷ []) ∙ ap (λ l. by_poster v.number o.all ++ l) (of-one v.number New refl));
                 ended = λ j x there. fit.ended j x there ∙ sym (kept_of x.number (not_ended j x there));
                 flight = (posts, subst (λ (n : ℕ). get_elem? All n ≡ some New) (sym o.tail) (at_last o.all New (length o.all) refl), omega (arith, o.order, o.tail));

@@ -14,10 +14,12 @@ use Rattle.notify_ring.specs.declared.view.Stage.{Stage}
 use Rattle.notify_ring.specs.declared.view.Stage.TheVariants.{Resting, Seen, Cleared}
 use Rattle.notify_ring.specs.declared.view.Ended.{Ended}
 use Rattle.notify_ring.specs.declared.view.View.{View}
-use Rattle.notify_ring.specs.Postings.{total, flag, by_poster, handle_at, gate_at, code}
+use Rattle.notify_ring.specs.Postings.{flag, by_poster, handle_at, gate_at, code}
+use Rattle.list_lemmas.specs.Sums.{total}
 use Rattle.notify_ring.specs.Passes.{owns}
-use Rattle.notify_ring.specs.Rule.{claimed_view, next_flight, next_view, claim_of, good_of, pends_of, claimed, good, pends, poster, rooted, kids, drainer, FlightFits, StageFits, Fits, IsStored, RingHolds}
-use Rattle.notify_ring.proofs.Sums.{total-set, term_le, terms_le, total-same, alone}
+use Rattle.notify_ring.specs.Rule.{claim_of, good_of, pends_of, claimed, good, pends, poster, rooted, kids, drainer, FlightFits, StageFits, Fits, IsStored, RingHolds}
+use Rattle.notify_ring.specs.Steps.{claimed_view, next_flight, next_view}
+use Rattle.list_lemmas.proofs.Sums.{total-set, term_le, terms_le, total-same, alone}
 
 pub off : (b : Bool) → b ≡ true → b ≡ false → ⊥
 off b t f = true≢false (sym t ∙ f)
@@ -79,9 +81,9 @@ claims_few ws vs o =
 counts : (ws : List ℕ) (vs : List View) (o : RingHolds ws vs) (j n : ℕ) (v w : View) → get_elem? vs j ≡ some v
     → w.drains ≡ v.drains → w.got ≡ v.got → w.stage ≡ v.stage → w.posts ≡ v.posts → w.number ≡ v.number → w.posted ≡ v.posted → w.ended ≡ v.ended → w.root ≡ v.root → w.posters ≡ v.posters → w.children ≡ v.children
     → FlightFits (set ws 0 n) o.all o.cleared w.posts w.flight → ((k : ℕ) → pends k w ≡ pends k v)
-    → n + claimed v ≡ slice_index ws 0 + claimed w → total good vs + good w + length o.all ≤ 256 + o.freed + good v
+    → n + claimed v ≡ slice_index ws 0 + claimed w → total good vs + good w + length o.all ≤ 256 + o.freed + good v → (256 ≤ w.found → 192 ≤ length o.all)
     → RingHolds (set ws 0 n) (set vs j w)
-counts ws vs o j n v w at drains got stage posts number posted ended root posters children flight same-pends moves fewer =
+counts ws vs o j n v w at drains got stage posts number posted ended root posters children flight same-pends moves fewer full =
     let same : (i : ℕ) → 0 < i → slice_index (set ws 0 n) i ≡ slice_index ws i = λ i up. get_or-set_other ws 0 i n 0 (omega arith) in
     let here : slice_index (set ws 0 n) 0 ≡ n = get_or-set_same ws 0 n 0 (omega (arith, o.wide)) in
     let fit = o.fits j v at in
@@ -102,6 +104,7 @@ counts ws vs o j n v w at drains got stage posts number posted ended root poster
       vacant = λ k le lt. same (gate_at k) (omega arith) ∙ o.vacant k le lt;
       single = λ k. omega (arith, pending k, o.single k);
       fits = same_fits (set ws 0 n) o.all o.cleared o.freed o.made vs j w (λ k u _ e. other_fits (o.fits k u e)) (record {
+        full = full;
         posted = λ p. posted ∙ fit.posted (sym posts ∙ p) ∙ ap (λ m. by_poster m o.all) (sym number);
         ended = subst (λ (l : List Ended). (k : ℕ) (e : Ended) → get_elem? l k ≡ some e → e.posted ≡ by_poster e.number o.all) (sym ended) fit.ended;
         flight = flight;
@@ -128,7 +131,7 @@ counts ws vs o j n v w at drains got stage posts number posted ended root poster
     same_stage all c r got t h = stage_same ws (set ws 0 n) all c r got t (λ y _. get_or-set_other ws 0 (gate_at c) n 0 (omega arith)) h
 
     other_fits : {all : List Posting} {c r m : ℕ} {u : View} → Fits ws all c r m u → Fits (set ws 0 n) all c r m u
-    other_fits {all} {c} {r} {m} {u} f = record { drain = λ d. same_stage all c r u.got u.stage (f.drain d); posted = f.posted; ended = f.ended; flight = same_flight all c u.posts u.flight f.flight; root = f.root; child = f.child }
+    other_fits {all} {c} {r} {m} {u} f = record { drain = λ d. same_stage all c r u.got u.stage (f.drain d); posted = f.posted; full = f.full; ended = f.ended; flight = same_flight all c u.posts u.flight f.flight; root = f.root; child = f.child }
 
 -- found is under 2 ^ 64 - 1, so nothing wraps
 pub claims : (id n : ℕ) (v : View) → v.flight ≡ Idle → v.posts ≡ true → Allows Rule n id (v, []) 0 (λ x. (x + 1) % 2 ^ 64) (λ r m. m ≡ (claimed_view v r, []))
@@ -143,7 +146,8 @@ claims id n v idle posts s o wide at _ =
       subst (λ (x : ℕ). RingHolds (set s.words 0 x) (set s.views id w)) (sym next)
           (counts s.words s.views o id (h + 1) v w at refl refl refl refl refl refl refl refl refl refl posts (λ k. ap (pends_of k) (sym idle))
           (omega (arith, ap claim_of idle))
-          (few_enough s.words s.views o h (ap good_of idle) refl)),
+          (few_enough s.words s.views o h (ap good_of idle) refl)
+          (λ le. omega (arith, le, claims_few s.words s.views o, o.held))),
       refl,
     )
   where
@@ -181,7 +185,8 @@ unclaims id n r v claim posts s o wide at low =
           (subst (λ (f : Flight). FlightFits (set s.words 0 (h - 1)) o.all o.cleared v.posts f) (sym after) tt)
           (λ k. ap (pends_of k) after ∙ sym (ap (pends_of k) claim))
           (omega (arith, ap claim_of claim, ap claim_of after, some-held))
-          (omega (arith, ap good_of after, o.few))),
+          (omega (arith, ap good_of after, o.few))
+          (o.fits id v at).full),
       refl,
     )
 
@@ -243,6 +248,7 @@ module _ (ws : List ℕ) (vs : List View) (o : RingHolds ws vs) (id : ℕ) (v : 
         fits = same_fits new o.all o.cleared o.freed o.made vs id w
             (λ k u ne e. let g = o.fits k u e in record {
               posted = g.posted;
+              full = g.full;
               ended = g.ended;
               flight = same_flight k u ne e here u.flight refl g.flight others;
               root = g.root;
@@ -251,6 +257,7 @@ module _ (ws : List ℕ) (vs : List View) (o : RingHolds ws vs) (id : ℕ) (v : 
             })
             (record {
               posted = fit.posted;
+              full = fit.full;
               ended = fit.ended;
               flight = subst (λ (y : Flight). FlightFits new o.all o.cleared v.posts y) (sym after) (f.0, f.1, f.2, get_or-set_same ws i x.handle.0 0 (omega (arith, o.wide)));
               root = fit.root;
@@ -315,9 +322,10 @@ module _ (ws : List ℕ) (vs : List View) (o : RingHolds ws vs) (id : ℕ) (v : 
         vacant = λ k le lt. others k (omega (arith, o.order)) lt (λ e. omega (arith, below_length o.all x.number x f.1)) ∙ o.vacant k le lt;
         single = λ k. dite (ℕ_discrete k x.number) (λ e. omega (arith, gone, ap (λ (j : ℕ). total (pends j) (set vs id w)) e)) (λ ne. omega (arith, pending k ne, o.single k));
         fits = same_fits new o.all o.cleared o.freed o.made vs id w
-            (λ k u ne e. let g = o.fits k u e in record { posted = g.posted; ended = g.ended; flight = kept_flight u.posts u.flight g.flight; root = g.root; child = g.child; drain = λ d. stage_same ws new o.all o.cleared o.freed u.got u.stage unread (g.drain d) })
+            (λ k u ne e. let g = o.fits k u e in record { posted = g.posted; full = g.full; ended = g.ended; flight = kept_flight u.posts u.flight g.flight; root = g.root; child = g.child; drain = λ d. stage_same ws new o.all o.cleared o.freed u.got u.stage unread (g.drain d) })
             (record {
               posted = fit.posted;
+              full = fit.full;
               ended = fit.ended;
               flight = subst (λ (y : Flight). FlightFits new o.all o.cleared v.posts y) (sym after) tt;
               root = fit.root;

@@ -10,10 +10,12 @@ use Rattle.atomic_table.proofs.Lists.{at_snoc, set_else}
 use Rattle.notify_ring.specs.declared.view.Flight.TheVariants.{Idle}
 use Rattle.notify_ring.specs.declared.view.Ended.{Ended}
 use Rattle.notify_ring.specs.declared.view.View.{View}
-use Rattle.notify_ring.specs.Postings.{total, flag, by_poster, gate_at}
+use Rattle.notify_ring.specs.Postings.{flag, by_poster, gate_at}
+use Rattle.list_lemmas.specs.Sums.{total}
 use Rattle.notify_ring.specs.Passes.{blank, split_left, split_right, joined, owns}
-use Rattle.notify_ring.specs.Rule.{first_view, claim_of, good_of, pends_of, claimed, good, pends, poster, rooted, kids, drainer, poster_part, drainer_part, Fits, RingHolds}
-use Rattle.notify_ring.proofs.Sums.{total-append, total-set, terms_le, total-same, alone}
+use Rattle.notify_ring.specs.Rule.{first_view, claim_of, good_of, pends_of, claimed, good, pends, poster, rooted, kids, drainer, Fits, RingHolds}
+use Rattle.notify_ring.specs.Steps.{poster_part, drainer_part}
+use Rattle.list_lemmas.proofs.Sums.{total-append, total-set, terms_le, total-same, alone}
 use Rattle.notify_ring.proofs.Lists.{of-none}
 use Rattle.notify_ring.proofs.Keeps.{off, Rule, same_fits}
 
@@ -57,9 +59,10 @@ splits id v root room s o at =
       single = λ n. omega (arith, quiet n, o.single n);
       fits = λ k u e. ⊎_elim
           (λ (old : get_elem? mid k ≡ some u). same_fits s.words o.all o.cleared o.freed (o.made + 1) vs id left
-          (λ j x ne there. let g = o.fits j x there in record { posted = g.posted; ended = g.ended; flight = g.flight; root = λ is. absurd (only_root vs o.roots id j v x ne at there root is); child = g.child; drain = g.drain })
-          (record { posted = fit.posted; ended = fit.ended; flight = fit.flight; root = λ _. (omega (arith, r.0), omega (arith, r.1), r.2); child = fit.child; drain = fit.drain }) k u old)
+          (λ j x ne there. let g = o.fits j x there in record { posted = g.posted; full = g.full; ended = g.ended; flight = g.flight; root = λ is. absurd (only_root vs o.roots id j v x ne at there root is); child = g.child; drain = g.drain })
+          (record { posted = fit.posted; full = fit.full; ended = fit.ended; flight = fit.flight; root = λ _. (omega (arith, r.0), omega (arith, r.1), r.2); child = fit.child; drain = fit.drain }) k u old)
           (λ (new : right ≡ u). subst (λ (x : View). Fits s.words o.all o.cleared o.freed (o.made + 1) x) new (record {
+            full = λ le. absurd (omega (arith, le));
             posted = λ _. sym (of-none v.posters o.all (λ n x there same. omega (arith, (o.numbered n x there).from, r.0)));
             ended = λ j x there. absurd (some-ne-none x (sym there));
             flight = tt;
@@ -113,6 +116,7 @@ joins id v other u root child posts idle s o at apart there =
       fits = same_fits s.words o.all o.cleared o.freed o.made mid other blank
           (λ j x _ e. same_fits s.words o.all o.cleared o.freed o.made vs id w (λ k y _. o.fits k y) (record {
             posted = fv.posted;
+            full = fv.full;
             ended = λ k e there-e. ⊎_elim (λ t. fv.ended k e t) (λ (t : _ ≡ e). subst (λ (z : Ended). z.posted ≡ by_poster z.number o.all) t (fu.posted posts)) (at_snoc v.ended record { number = u.number; posted = u.posted } e k there-e);
             flight = fv.flight;
             root = λ is. (r.0, omega (arith, r.1), r.2);
@@ -121,6 +125,7 @@ joins id v other u root child posts idle s o at apart there =
           }) j x e)
           (record {
             posted = λ is. absurd (true≢false (sym is));
+            full = λ le. absurd (omega (arith, le));
             ended = λ k e there-e. absurd (some-ne-none e (sym there-e));
             flight = tt;
             root = λ is. absurd (true≢false (sym is));
@@ -180,6 +185,7 @@ begins = record {
   vacant = λ n le lt. zeros-at 514 (gate_at n);
   single = λ n. omega arith;
   fits = λ k u e. ⊎_elim (λ (x : get_elem? [] k ≡ some u). absurd (some-ne-none u (sym x))) (λ (x : first_view ≡ u). subst (λ (y : View). Fits (zeros 514) [] 0 0 1 y) x (record {
+    full = λ le. absurd (omega (arith, le));
     posted = λ _. refl;
     ended = λ j y there. absurd (some-ne-none y (sym there));
     flight = tt;
@@ -228,9 +234,10 @@ halves id v s o at =
       single = λ n. omega (arith, quiet n, o.single n);
       fits = λ k u e. ⊎_elim
           (λ (old : get_elem? mid k ≡ some u). same_fits s.words o.all o.cleared o.freed o.made vs id left (λ j x ne there. o.fits j x there)
-          (record { posted = fit.posted; ended = fit.ended; flight = fit.flight; root = fit.root; child = fit.child; drain = λ is. absurd (true≢false (sym is)) }) k u old)
+          (record { posted = fit.posted; full = fit.full; ended = fit.ended; flight = fit.flight; root = fit.root; child = fit.child; drain = λ is. absurd (true≢false (sym is)) }) k u old)
           (λ (new : right ≡ u). subst (λ (x : View). Fits s.words o.all o.cleared o.freed o.made x) new (record {
             posted = λ is. absurd (true≢false (sym is));
+            full = λ le. absurd (omega (arith, le));
             ended = λ j x there. absurd (some-ne-none x (sym there));
             flight = tt;
             root = λ is. absurd (true≢false (sym is));

@@ -1,5 +1,4 @@
 pub mod Codes
-pub mod Sums
 pub mod Keeps
 pub mod Lists
 pub mod Draws

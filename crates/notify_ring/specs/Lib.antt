@@ -3,3 +3,4 @@ pub mod Postings
 pub mod Passes
 pub mod Rule
 pub mod Words
+pub mod Steps

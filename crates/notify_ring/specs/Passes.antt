@@ -1,5 +1,5 @@
 -- What a poster and a drainer know before and after each call.
-use Rattle.std.specs.Prelude.{◌≡◌, ℕ, ◌+◌, ◌-◌, ◌^◌, ◌≤◌, ◌<◌, List, [], ◌∷◌, ◌++◌, length, cond, ◌==◌, nat_lt, true, false, Result, Ok, Err, Option, Some, None}
+use Rattle.std.specs.Prelude.{◌≡◌, ℕ, ◌+◌, ◌-◌, ◌^◌, ◌≤◌, ◌<◌, List, [], ◌∷◌, ◌++◌, length, take, cond, ◌==◌, nat_lt, true, false, Result, Ok, Err, Option, Some, None}
 use mathlib.Core.Option.{some}
 use lib.ListN.{get_elem?}
 use Rattle.ev_types.specs.declared.upcall.Handle.{Handle}
@@ -10,7 +10,8 @@ use Rattle.notify_ring.specs.declared.view.Flight.TheVariants.{Idle}
 use Rattle.notify_ring.specs.declared.view.Stage.TheVariants.{Resting}
 use Rattle.notify_ring.specs.declared.view.Ended.{Ended}
 use Rattle.notify_ring.specs.declared.view.View.{View}
-use Rattle.notify_ring.specs.Postings.{total, flag, by_poster, code, IsNumbered}
+use Rattle.notify_ring.specs.Postings.{flag, by_poster, code, IsNumbered}
+use Rattle.list_lemmas.specs.Sums.{total}
 
 -- The view of a seat that was joined, and the empty parts of others.
 abbrev pub blank : View
@@ -70,4 +71,8 @@ pub record IsMerged (root drainer : View) (n : ℕ) : Type 0 where
   pub own : root.posted ≡ by_poster root.number all
   pub ended : (k : ℕ) (e : Ended) → get_elem? root.ended k ≡ some e → e.posted ≡ by_poster e.number all
   pub each : (p : ℕ) → owns p root ≡ flag (nat_lt p root.posters)
+  -- each posting's number among its poster's, also of those that were not drained
+  pub seqs : (k : ℕ) (x : Posting) → get_elem? all k ≡ some x → x.seq ≡ length (by_poster x.from (take k all))
   pub got : (rest : List Posting) × (drainer.got ++ rest ≡ all)
+  -- at most 256 were not drained
+  pub few : n ≤ length drainer.got + 256

@@ -3,11 +3,6 @@ use Rattle.std.specs.Prelude.{◌≡◌, ℕ, zero, suc, ◌+◌, ◌*◌, ◌%�
 use Rattle.notify_ring.specs.Kinds.{kind_code}
 use Rattle.notify_ring.specs.declared.posting.Posting.{Posting}
 
--- The sum of f over a list.
-abbrev pub total : {A : Type 0} → (A → ℕ) → List A → ℕ
-total f [] = 0
-total f (x ∷ xs) = f x + total f xs
-
 -- The sum of f over the numbers below n.
 abbrev pub below : (ℕ → ℕ) → ℕ → ℕ
 below f zero = 0

@@ -1,10 +1,7 @@
--- The rule of a ring: what holds of its words and of all views between any two steps, and what each step tells.
-use Rattle.std.specs.Prelude.{◌≡◌, ℕ, ◌+◌, ◌^◌, ◌≤◌, ◌<◌, List, [], ◌∷◌, ◌++◌, length, take, slice_index, cond, ◌==◌, nat_lt, Bool, true, false}
+-- The rule of a ring: what holds of its words and of all views between any two steps.
+use Rattle.std.specs.Prelude.{◌≡◌, ℕ, ◌+◌, ◌^◌, ◌≤◌, ◌<◌, List, [], length, take, slice_index, cond, ◌==◌, nat_lt, Bool, true, false}
 use mathlib.Core.Option.{some}
 use lib.ListN.{get_elem?}
-use Rattle.atomic_table.specs.Table.{Me}
-use Rattle.ev_types.specs.declared.upcall.Handle.{Handle}
-use Rattle.ev_types.specs.declared.upcall.Kind.{Kind}
 use Rattle.notify_ring.specs.declared.posting.Posting.{Posting}
 use Rattle.notify_ring.specs.declared.view.Flight.{Flight}
 use Rattle.notify_ring.specs.declared.view.Flight.TheVariants.{Idle, Claimed, Drawn, Written}
@@ -12,39 +9,13 @@ use Rattle.notify_ring.specs.declared.view.Stage.{Stage}
 use Rattle.notify_ring.specs.declared.view.Stage.TheVariants.{Resting, Seen, Cleared}
 use Rattle.notify_ring.specs.declared.view.Ended.{Ended}
 use Rattle.notify_ring.specs.declared.view.View.{View}
-use Rattle.notify_ring.specs.Postings.{total, flag, by_poster, handle_at, gate_at, code, IsNumbered}
-use Rattle.notify_ring.specs.Passes.{blank, owns, posting_of, IsNext}
+use Rattle.notify_ring.specs.Postings.{flag, by_poster, handle_at, gate_at, code, IsNumbered}
+use Rattle.list_lemmas.specs.Sums.{total}
+use Rattle.notify_ring.specs.Passes.{blank, owns}
 
 -- The one view of a new ring, before the drainer's part is split off.
 abbrev pub first_view : View
 first_view = record blank { drains = true; posts = true; root = true; posters = 1 }
-
--- The poster's part of a view, and the drainer's.
-abbrev pub poster_part : View → View
-poster_part v = record v { drains = false; got = []; loads = 0; gate = 0; stage = Resting }
-
-abbrev pub drainer_part : View → View
-drainer_part v = record blank { drains = v.drains; got = v.got; loads = v.loads; gate = v.gate; stage = v.stage }
-
--- The root, to which the drainer's part came back.
-abbrev pub with_drainer : View → View → View
-with_drainer v u = record v { drains = u.drains; got = u.got; loads = u.loads; gate = u.gate; stage = u.stage }
-
--- The views after each step: a claim that found r, a draw of number n, a claim given back or a handle or a gate stored.
-abbrev pub claimed_view : View → ℕ → View
-claimed_view v r = record v { claims = v.claims + 1; found = r; flight = Claimed r }
-
-abbrev pub drawn_view : View → ℕ → Handle → Kind → View
-drawn_view v n handle kind = record v { posted = v.posted ++ posting_of v n handle kind ∷ []; flight = Drawn (posting_of v n handle kind) }
-
-abbrev pub next_flight : Flight → Flight
-next_flight Idle = Idle
-next_flight (Claimed r) = Idle
-next_flight (Drawn x) = Written x
-next_flight (Written x) = Idle
-
-abbrev pub next_view : View → View
-next_view v = record v { flight = next_flight v.flight }
 
 -- 1 where a claim is in flight.
 abbrev pub claim_of : Flight → ℕ
@@ -107,6 +78,8 @@ pub record Fits (words : List ℕ) (all : List Posting) (cleared freed made : �
   pub posted : v.posts ≡ true → v.posted ≡ by_poster v.number all
   pub ended : (k : ℕ) (e : Ended) → get_elem? v.ended k ≡ some e → e.posted ≡ by_poster e.number all
   pub flight : FlightFits words all cleared v.posts v.flight
+  -- a claim that found 256 places held or in flight: at most 64 were in flight, so as many postings were drawn
+  pub full : 256 ≤ v.found → 192 ≤ length all
   pub root : v.root ≡ true → (v.posters ≡ made) × (v.children < made) × (v.posts ≡ true)
   pub child : v.root ≡ false → v.ended ≡ []
   pub drain : v.drains ≡ true → StageFits words all cleared freed v.got v.stage
@@ -144,27 +117,3 @@ pub record RingHolds (words : List ℕ) (views : List View) : Type 0 where
   pub family : total poster views ≡ total kids views + 1
   pub limit : made ≤ 64
   pub bounded : (p : ℕ) → length (by_poster p all) ≤ 2 ^ 56
-
--- The view after a load of a gate.
-abbrev pub loaded_view : View → ℕ → Stage → View
-loaded_view v g t = record v { loads = v.loads + 1; gate = g; stage = t }
-
--- What a load of the next number's gate tells: it was empty, or it is that of the next posting.
-abbrev pub GateLoaded : Me (Unit {0}) View → ℕ → Me (Unit {0}) View → Type 0
-GateLoaded m r n = (r ≡ 0 → n ≡ (loaded_view m.0 r Resting, [])) × (¬ (r ≡ 0) → (x : Posting) × (r ≡ code x) × IsNext m.0.got x × (n ≡ (loaded_view m.0 r (Seen x), [])))
-
--- What a load of the handle word tells.
-abbrev pub HandleLoaded : Me (Unit {0}) View → ℕ → Me (Unit {0}) View → Type 0
-HandleLoaded m r n = (n ≡ m) × ((x : Posting) → m.0.stage ≡ Seen x → r ≡ x.handle.0)
-
--- The drainer's list once the gate that it found full is cleared.
-abbrev pub got_after : Stage → List Posting → List Posting
-got_after Resting got = got
-got_after (Seen x) got = got ++ x ∷ []
-got_after Cleared got = got
-
-abbrev pub cleared_view : View → View
-cleared_view v = record v { got = got_after v.stage v.got; stage = Cleared }
-
-abbrev pub released_view : View → View
-released_view v = record v { stage = Resting }

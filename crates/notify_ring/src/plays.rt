@@ -18,20 +18,18 @@ impl TableRule<(), View, ()> for RingRule {
 pub struct Claim;
 
 impl Play<(), View> for Claim {
-    ghost use Rattle.notify_ring.specs.Rule.{claimed_view};
-    ghost use Rattle.std.specs.Prelude.{◌≡◌, []};
+    ghost use Rattle.notify_ring.specs.Steps.{ClaimMade};
 
-    ghost then = { λ st m r n. n ≡ (claimed_view m.0 r, []) };
+    ghost then = { λ st m r n. ClaimMade m r n };
 }
 
 /// A claim is given back, or a handle or a gate is stored.
 pub struct NextFlight;
 
 impl Play<(), View> for NextFlight {
-    ghost use Rattle.notify_ring.specs.Rule.{next_view};
-    ghost use Rattle.std.specs.Prelude.{◌≡◌, []};
+    ghost use Rattle.notify_ring.specs.Steps.{FlightMoved};
 
-    ghost then = { λ st m r n. n ≡ (next_view m.0, []) };
+    ghost then = { λ st m r n. FlightMoved m n };
 }
 
 /// What is posted, which a proof picks.
@@ -59,10 +57,9 @@ pub struct Draw<B> {
 }
 
 impl<B: Posted> Play<(), View> for Draw<B> {
-    ghost use Rattle.notify_ring.specs.Rule.{drawn_view};
-    ghost use Rattle.std.specs.Prelude.{◌≡◌, []};
+    ghost use Rattle.notify_ring.specs.Steps.{NumberDrawn};
 
-    ghost then = { λ st m r n. n ≡ (drawn_view m.0 r B.handle B.kind, []) };
+    ghost then = { λ st m r n. NumberDrawn B.handle B.kind m r n };
 }
 
 /// The root makes a poster, or takes one in.
@@ -88,7 +85,7 @@ impl Join<View> for PosterPass {
 pub struct LoadGate;
 
 impl Play<(), View> for LoadGate {
-    ghost use Rattle.notify_ring.specs.Rule.{GateLoaded};
+    ghost use Rattle.notify_ring.specs.Steps.{GateLoaded};
 
     ghost then = { λ st m r n. GateLoaded m r n };
 }
@@ -97,7 +94,7 @@ impl Play<(), View> for LoadGate {
 pub struct LoadHandle;
 
 impl Play<(), View> for LoadHandle {
-    ghost use Rattle.notify_ring.specs.Rule.{HandleLoaded};
+    ghost use Rattle.notify_ring.specs.Steps.{HandleLoaded};
 
     ghost then = { λ st m r n. HandleLoaded m r n };
 }
@@ -106,27 +103,25 @@ impl Play<(), View> for LoadHandle {
 pub struct ClearGate;
 
 impl Play<(), View> for ClearGate {
-    ghost use Rattle.notify_ring.specs.Rule.{cleared_view};
-    ghost use Rattle.std.specs.Prelude.{◌≡◌, []};
+    ghost use Rattle.notify_ring.specs.Steps.{GateCleared};
 
-    ghost then = { λ st m r n. n ≡ (cleared_view m.0, []) };
+    ghost then = { λ st m r n. GateCleared m n };
 }
 
 /// The drainer gives the place back.
 pub struct Release;
 
 impl Play<(), View> for Release {
-    ghost use Rattle.notify_ring.specs.Rule.{released_view};
-    ghost use Rattle.std.specs.Prelude.{◌≡◌, []};
+    ghost use Rattle.notify_ring.specs.Steps.{PlaceReleased};
 
-    ghost then = { λ st m r n. n ≡ (released_view m.0, []) };
+    ghost then = { λ st m r n. PlaceReleased m n };
 }
 
 /// The drainer's part of the first view is split off, and comes back at the end.
 pub struct DrainerPass;
 
 impl Split<View> for DrainerPass {
-    ghost use Rattle.notify_ring.specs.Rule.{poster_part, drainer_part};
+    ghost use Rattle.notify_ring.specs.Steps.{poster_part, drainer_part};
 
     ghost left = { poster_part };
 
@@ -135,7 +130,7 @@ impl Split<View> for DrainerPass {
 
 impl Join<View> for DrainerPass {
     ghost use Rattle.notify_ring.specs.Passes.{blank};
-    ghost use Rattle.notify_ring.specs.Rule.{with_drainer};
+    ghost use Rattle.notify_ring.specs.Steps.{with_drainer};
 
     ghost both = { with_drainer };
 

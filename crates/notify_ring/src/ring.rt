@@ -2,7 +2,7 @@
 ghost use Rattle.std.specs.Prelude.{◌≡◌, ◌≢◌, ◌+◌, ◌-◌, ◌*◌, ◌%◌, ◌^◌, ◌<◌, ◌≤◌, ◌++◌, [], ◌∷◌, true, false, length, IfOk, ℕ};
 ghost use Rattle.notify_ring.specs.Postings.{code};
 ghost use Rattle.notify_ring.specs.Passes.{root_poster, new_drainer, split_left, split_right, joined, HasPosted, HasTaken, IsMerged};
-ghost use Rattle.notify_ring.specs.Rule.{claimed_view, next_view, drawn_view, cleared_view, released_view, GateLoaded, HandleLoaded};
+ghost use Rattle.notify_ring.specs.Steps.{ClaimMade, FlightMoved, NumberDrawn, GateLoaded, HandleLoaded, GateCleared, PlaceReleased};
 ghost use Rattle.notify_ring.specs.Words.{id_of, poster_ring, poster_view, drainer_ring, drainer_view};
 ghost use Rattle.notify_ring.specs.declared.posting.Posting.{Posting as PostingOf};
 ghost use Rattle.notify_ring.specs.declared.view.Stage.TheVariants.{Resting, Seen, Cleared};
@@ -182,7 +182,7 @@ impl Ring {
         requires table { seat.old.table_id ≡ id_of self.now }
         requires idle { (seat.old.me.0.flight ≡ Idle) × (seat.old.me.1 ≡ []) × (seat.old.me.0.posts ≡ true) }
         ensures table { (seat.new.table_id ≡ seat.old.table_id) × (seat.new.id ≡ seat.old.id) }
-        ensures told { seat.new.me ≡ (claimed_view seat.old.me.0 result, []) }
+        ensures told { ClaimMade seat.old.me result seat.new.me }
     {
         self.table.shared.fetch_add::<Claim>(seat, 0, 1)
     }
@@ -192,7 +192,7 @@ impl Ring {
         requires table { seat.old.table_id ≡ id_of self.now }
         requires claimed { ((found : ℕ) × (seat.old.me.0.flight ≡ Claimed found)) × (seat.old.me.1 ≡ []) × (seat.old.me.0.posts ≡ true) }
         ensures table { (seat.new.table_id ≡ seat.old.table_id) × (seat.new.id ≡ seat.old.id) }
-        ensures told { seat.new.me ≡ (next_view seat.old.me.0, []) }
+        ensures told { FlightMoved seat.old.me seat.new.me }
     {
         self.table.shared.fetch_sub::<NextFlight>(seat, 0, 1);
     }
@@ -204,7 +204,7 @@ impl Ring {
         requires room { length seat.old.me.0.posted < 2 ^ 56 }
         requires posts { (seat.old.me.1 ≡ []) × (seat.old.me.0.posts ≡ true) }
         ensures table { (seat.new.table_id ≡ seat.old.table_id) × (seat.new.id ≡ seat.old.id) }
-        ensures told { seat.new.me ≡ (drawn_view seat.old.me.0 result B.handle B.kind, []) }
+        ensures told { NumberDrawn B.handle B.kind seat.old.me result seat.new.me }
     {
         self.table.shared.fetch_add::<Draw<B>>(seat, 1, 1)
     }
@@ -216,7 +216,7 @@ impl Ring {
         requires room { length seat.old.me.0.posted < 2 ^ 56 }
         requires posts { (seat.old.me.1 ≡ []) × (seat.old.me.0.posts ≡ true) }
         ensures table { (seat.new.table_id ≡ seat.old.table_id) × (seat.new.id ≡ seat.old.id) }
-        ensures told { seat.new.me ≡ (drawn_view seat.old.me.0 result _handle _kind, []) }
+        ensures told { NumberDrawn _handle _kind seat.old.me result seat.new.me }
     {
         self.drawn::<Brand>(seat, _handle, _kind)
     }
@@ -226,7 +226,7 @@ impl Ring {
         requires drawn { (x : PostingOf) × (seat.old.me.0.flight ≡ Drawn x) × (place ≡ x.number % 256) × (handle ≡ x.handle.0) }
         requires slots { seat.old.me.1 ≡ [] }
         ensures table { (seat.new.table_id ≡ seat.old.table_id) × (seat.new.id ≡ seat.old.id) }
-        ensures told { seat.new.me ≡ (next_view seat.old.me.0, []) }
+        ensures told { FlightMoved seat.old.me seat.new.me }
     {
         let word = (2 + 2 * place) as usize;
         self.table.shared.store::<NextFlight>(seat, word, handle);
@@ -237,7 +237,7 @@ impl Ring {
         requires written { (x : PostingOf) × (seat.old.me.0.flight ≡ Written x) × (place ≡ x.number % 256) × (gate ≡ code x) }
         requires slots { seat.old.me.1 ≡ [] }
         ensures table { (seat.new.table_id ≡ seat.old.table_id) × (seat.new.id ≡ seat.old.id) }
-        ensures told { seat.new.me ≡ (next_view seat.old.me.0, []) }
+        ensures told { FlightMoved seat.old.me seat.new.me }
     {
         let word = (3 + 2 * place) as usize;
         self.table.shared.store::<NextFlight>(seat, word, gate);
@@ -270,7 +270,7 @@ impl Ring {
         requires table { seat.old.table_id ≡ id_of self.now }
         requires seen { ((x : PostingOf) × (seat.old.me.0.stage ≡ Seen x)) × (seat.old.me.0.drains ≡ true) × (seat.old.me.1 ≡ []) × (place ≡ length seat.old.me.0.got % 256) }
         ensures table { (seat.new.table_id ≡ seat.old.table_id) × (seat.new.id ≡ seat.old.id) }
-        ensures told { seat.new.me ≡ (cleared_view seat.old.me.0, []) }
+        ensures told { GateCleared seat.old.me seat.new.me }
     {
         let word = (3 + 2 * place) as usize;
         self.table.shared.store::<ClearGate>(seat, word, 0);
@@ -281,7 +281,7 @@ impl Ring {
         requires table { seat.old.table_id ≡ id_of self.now }
         requires cleared { (seat.old.me.0.stage ≡ Cleared) × (seat.old.me.0.drains ≡ true) × (seat.old.me.1 ≡ []) }
         ensures table { (seat.new.table_id ≡ seat.old.table_id) × (seat.new.id ≡ seat.old.id) }
-        ensures told { seat.new.me ≡ (released_view seat.old.me.0, []) }
+        ensures told { PlaceReleased seat.old.me seat.new.me }
     {
         self.table.shared.fetch_sub::<Release>(seat, 0, 1);
     }

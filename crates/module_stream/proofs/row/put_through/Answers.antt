@@ -1,4 +1,5 @@
-use Rattle.std.proofs.Common.{◌<◌, ◌+◌, length, get_or, set, refl, ap, arith}
+use Rattle.std.proofs.Common.{◌<◌, ◌+◌, [], ◌∷◌, length, get_or, set, refl, ap, arith}
+use Rattle.module_stream.specs.Passing.{passed_on}
 use Rattle.module_stream.proofs.Rows.{passed_more}
 use Rattle.module_stream.proofs.row.put_through.Goals as goal
 
@@ -7,5 +8,5 @@ pub loop-place-preserved : goal.loop-place-preserved
 loop-place-preserved g c =
     let within : c.loop-place.place < length c.loop-place.tasks = omega arith in
     passed_more (λ task. (goal.Task-dyn g (task.vtable, task.value)).gives task.value) c.args.tasks.now c.loop-place.tasks
-    (set c.loop-place.tasks c.loop-place.place c.put_all.new.task) c.loop-place.place (c.loop-place.place + 1) c.args.messages.items c.loop-place.messages.items
-    c.in_ok-messages.messages.items (get_or c.loop-place.tasks c.loop-place.place c.index-tasks-place.result) c.put_all.new.task refl (omega arith) c.loop-place.invariant within (ap (λ task. get_or c.loop-place.tasks c.loop-place.place task) c.index-tasks-place.is) c.in_ok-messages.ensures
+    (set c.loop-place.tasks c.loop-place.place c.put_on.new.task) c.loop-place.place (c.loop-place.place + 1) (c.args.message ∷ []) (passed_on c.loop-place.passed)
+    (passed_on c.in_ok-passed.passed) (get_or c.loop-place.tasks c.loop-place.place c.index-tasks-place.result) c.put_on.new.task refl (omega arith) c.loop-place.invariant within (ap (λ task. get_or c.loop-place.tasks c.loop-place.place task) c.index-tasks-place.is) c.in_ok-passed.ensures

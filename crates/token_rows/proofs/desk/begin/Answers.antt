@@ -49,5 +49,5 @@ returns-else-begun-clause-mine g c =
     let n = c.push-begun.ensures.no c.if-begun.false in
     let same = c.value-2.ensures.value ∙ c.value.ensures.value in
     let got = c.get-held.ensures.got in
-    let a = after _ _ _ _ c.push-begun.new.desk got [] (view_of c.args.pass.now).mine (stands_same c.get-held.result.value c.push-begun.new.desk got.list got.stood (n.0 ∙ ap (λ (d : Desk). d.notes.items) same)) (omega (arith, n.1, ap (λ (d : Desk). d.faults) same)) (events_same (view_of c.args.pass.now) got.list) c.put-else-begun.ensures.put in
+    let a = after _ _ _ _ c.push-begun.new.desk got [] (view_of c.args.pass.now).mine (stands_same c.get-held.result.value.value c.push-begun.new.desk got.list got.stood (n.0 ∙ ap (λ (d : Desk). d.notes.items) same)) (omega (arith, n.1, ap (λ (d : Desk). d.faults) same)) (events_same (view_of c.args.pass.now) got.list) c.put-else-begun.ensures.put in
     a.0.0 ∙ c.requires.free.1

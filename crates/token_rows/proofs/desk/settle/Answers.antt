@@ -36,12 +36,12 @@ put-requires-else-ended-clause-may g c =
     let n = c.push-ended.ensures.no c.if-ended.false in
     let same = c.value.ensures.value in
     let got = c.get-held.ensures.got in
-    may_put _ _ _ _ got [] (view_of c.args.pass.now).mine (stands_same c.get-held.result.value c.push-ended.new.desk got.list got.stood (n.0 ∙ ap (λ (d : Desk). d.notes.items) same)) (omega (arith, n.1, ap (λ (d : Desk). d.faults) same)) (events_same (view_of c.args.pass.now) got.list)
+    may_put _ _ _ _ got [] (view_of c.args.pass.now).mine (stands_same c.get-held.result.value.value c.push-ended.new.desk got.list got.stood (n.0 ∙ ap (λ (d : Desk). d.notes.items) same)) (omega (arith, n.1, ap (λ (d : Desk). d.faults) same)) (events_same (view_of c.args.pass.now) got.list)
 
 pub returns-else-ended-clause-no : goal.returns-else-ended-clause-no
 returns-else-ended-clause-no g c _ =
     let n = c.push-ended.ensures.no c.if-ended.false in
     let same = c.value.ensures.value in
     let got = c.get-held.ensures.got in
-    let a = after _ _ _ _ c.push-ended.new.desk got [] (view_of c.args.pass.now).mine (stands_same c.get-held.result.value c.push-ended.new.desk got.list got.stood (n.0 ∙ ap (λ (d : Desk). d.notes.items) same)) (omega (arith, n.1, ap (λ (d : Desk). d.faults) same)) (events_same (view_of c.args.pass.now) got.list) c.put-else-ended.ensures.put in
+    let a = after _ _ _ _ c.push-ended.new.desk got [] (view_of c.args.pass.now).mine (stands_same c.get-held.result.value.value c.push-ended.new.desk got.list got.stood (n.0 ∙ ap (λ (d : Desk). d.notes.items) same)) (omega (arith, n.1, ap (λ (d : Desk). d.faults) same)) (events_same (view_of c.args.pass.now) got.list) c.put-else-ended.ensures.put in
     a.0.0 ∙ c.requires.own.1

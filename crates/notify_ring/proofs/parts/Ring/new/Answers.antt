@@ -1,5 +1,5 @@
 use Rattle.std.proofs.Common.{rules, ap, ◌∙◌, sym, length, []}
-use Rattle.notify_ring.specs.Rule.{drainer_part}
+use Rattle.notify_ring.specs.Steps.{drainer_part}
 use Rattle.notify_ring.proofs.Kin.{begins, zeros, halves}
 use Rattle.notify_ring.proofs.Drains.{counts_none}
 use Rattle.notify_ring.proofs.parts.Ring.new.Goals as goal

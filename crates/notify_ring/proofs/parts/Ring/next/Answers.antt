@@ -1,7 +1,7 @@
 use Rattle.std.proofs.Common.{◌≡◌, ◌-◌, ◌/◌, arith, subst, ap, ◌∙◌, sym, length, List, [], ◌∷◌, length-append}
 use Rattle.notify_ring.specs.declared.posting.Posting.{Posting}
 use Rattle.notify_ring.specs.Postings.{code, CountsByPoster}
-use Rattle.notify_ring.specs.Rule.{cleared_view, released_view}
+use Rattle.notify_ring.specs.Steps.{cleared_view, released_view}
 use Rattle.notify_ring.proofs.Drains.{counts_more}
 use Rattle.notify_ring.proofs.Codes.{kind_low}
 use Rattle.notify_ring.proofs.parts.Ring.next.Goals as goal
