@@ -12,7 +12,7 @@ use Rattle.reactor_journal.specs.Event.{Item}
 use Rattle.log_handler.specs.declared.note.ServerNote.{ServerNote}
 use Rattle.log_handler.specs.Laws.{on_input, asks_again, is_input, is_again}
 use Rattle.acceptor.specs.Accepting.{Progress, Course, Gives, OneEnd, NoEnd, Failure, ServesAccept, ServesInput, ServesUpcall, MakesNoAccept, at_start, most_connections}
-use Rattle.acceptor.specs.Numbering.{AreNumbered}
+use Rattle.ev_base.specs.Story.{AreNumbered}
 use Rattle.acceptor.specs.Laws.{Accounts, TakesFront, TakesOffers, number_in, number_accepted, numbers_from, serials_of}
 
 -- ---- the offers that are taken

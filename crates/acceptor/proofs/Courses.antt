@@ -10,7 +10,8 @@ use Rattle.ev_base.specs.End.{EndFacts, IsFresh, TakesSerial}
 use Rattle.reactor_journal.specs.Event.{Item}
 use Rattle.log_handler.specs.declared.note.ServerNote.{ServerNote}
 use Rattle.acceptor.specs.Accepting.{Progress, Turns, Course, ServesUpcall, ServesInput, ServesAccept, Gives, OneEnd, NoEnd, Failure, MakesNoAccept, most_connections}
-use Rattle.acceptor.specs.Numbering.{AreNumbered, NumbersEnds}
+use Rattle.ev_base.specs.Story.{AreNumbered}
+use Rattle.acceptor.specs.Numbering.{NumbersEnds}
 
 -- a course and more turns behind it
 pub course-more : (start : Progress) (had items : List (Item ServerNote)) (p q : Progress) → Course start had p → Course p items q → Course start (had ++ items) q
@@ -94,7 +95,7 @@ module _ {E : Type 0} (tells : E → EndFacts) (keeps : Terms → E → Type 0) 
   -- an end that has a number has the next
   pub next-serial : (n : ℕ) (a b : Option Offering) (given : E) (serial : Option ℕ) → (tells given).serial ≡ serial → keeps t given → (tells given).listener ≡ false → IsFresh (tells given) →
       NumbersEnds tells keeps t n a → TakesSerial a serial b → (number : ℕ) → serial ≡ Some number → number ≡ n
-  next-serial n None None given serial is keeping reader fresh h m number some = absurd (some-none number serial (sym is ∙ h given keeping reader fresh) some)
+  next-serial n None None given serial is keeping reader fresh h m number some = absurd (some-none number serial m some)
   next-serial n None (Some b) given serial is keeping reader fresh h m number some = absurd m
   next-serial n (Some a) b given None is keeping reader fresh h m number some = absurd m
   next-serial n (Some a) None given (Some s) is keeping reader fresh h m number some = absurd m

@@ -7,7 +7,7 @@ use Rattle.log_handler.specs.declared.note.ServerNote.{ServerNote}
 use Rattle.log_handler.specs.declared.note.ServerNote.TheVariants as note
 use Rattle.log_handler.specs.Laws.{on_input, asks_again}
 use Rattle.acceptor.specs.Accepting.{Progress, Course, at_start, most_connections}
-use Rattle.acceptor.specs.Numbering.{AreNumbered}
+use Rattle.ev_base.specs.Story.{AreNumbered}
 
 -- the number of the connection that a turn noted as accepted, if it did
 abbrev pub number_accepted : ServerNote → List ℕ

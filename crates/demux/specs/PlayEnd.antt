@@ -17,6 +17,7 @@ play_end_facts end = record {
   writes = end.writes;
   last_write = last_of end.writes;
   faults = 0;
+  gave = 0;
   over = false;
   bytes = Some (record { given = []; left = [] });
   written = Some [];

@@ -83,6 +83,7 @@ impl Net for PlayNet {
     ghost use Rattle.ev_base.specs.Terms.{Terms};
     ghost use Rattle.ev_base.specs.KeepsStory.{KeepsStory};
     ghost use Rattle.ev_base.specs.Net.{NetWaits, Reserves, NetAttaches, SetsMaskOf, RetiresEnd, TurnsAwayEnd, Attaches, SetsMask, Retires, TurnsAway};
+    ghost use Rattle.net_calls.specs.Groups.{follows_none};
     ghost use Rattle.demux.specs.PlayEnd.{play_end_facts};
     ghost use Rattle.demux.specs.PlayKeeps.{play_net_keeps};
 
@@ -202,4 +203,6 @@ impl Net for PlayNet {
     }
 
     ghost sound = { λ net steady. (refl, refl) };
+
+    ghost keeps_groups = { λ t net keeps. follows_none (play_net_facts net).calls t.groups keeps };
 }

@@ -1,7 +1,7 @@
 -- The places of a source of pieces.
 use Rattle.std.proofs.Common.{◌≡◌, ℕ, zero, suc, ◌+◌, ◌-◌, ◌≤◌, ◌<◌, List, [], ◌∷◌, ◌++◌, length, take, drop, min, get_or, Vec, Some, Bool, false, refl, sym, ◌∙◌, ap, arith, subst, append_assoc, drop-drop}
 use Rattle.std.proofs.Math.Seq.{take-add, take-append-add, drop-append-add}
-use Rattle.std.proofs.lemmas.List.{take-append-le, drop-append-le, take-append-drop, length-drop}
+use Rattle.std.proofs.lemmas.List.{take-append-le, drop-append-le, take-append-drop, length-drop, length-append, length-take-le}
 use Rattle.std.specs.declared.alloc.Global.{Global}
 use Rattle.ev_base.specs.Source.{GivesBytes}
 use Rattle.ev_base.specs.MemoryForms.{joined, given_of, left_of, HasByteAt}
@@ -119,18 +119,22 @@ pub gives-bytes : (faults : ℕ) (over : Bool) (pieces : List (Vec ℕ Global)) 
     left_of next at pieces ≡ left_of was_next was_at pieces →
     at < length bytes → next < length pieces → piece ≡ get_or pieces next piece → bytes ≡ piece.items →
     n ≡ min (length bytes - at) (length buffer) → 0 < length buffer → take n buffer ≡ take n (drop at bytes) →
-    GivesBytes (record { faults = faults; over = over; bytes = Some (record { given = given_of was_next was_at pieces; left = left_of was_next was_at pieces }) }) buffer n
-    (record { faults = faults; over = over; bytes = Some (record { given = given_of next (at + n) pieces; left = left_of next (at + n) pieces }) })
+    GivesBytes (record { faults = faults; gave = length (given_of was_next was_at pieces); over = over; bytes = Some (record { given = given_of was_next was_at pieces; left = left_of was_next was_at pieces }) }) buffer n
+    (record { faults = faults; gave = length (given_of next (at + n) pieces); over = over; bytes = Some (record { given = given_of next (at + n) pieces; left = left_of next (at + n) pieces }) })
 gives-bytes faults over pieces piece bytes buffer was_next was_at next at n closed given left has within is items count room copied =
     let same : length bytes ≡ length piece.items = ap length items in
     let fits : at + n ≤ length piece.items = omega arith in
     let front : take n (drop at piece.items) ≡ take n buffer = ap (λ xs. take n (drop at xs)) (sym items) ∙ sym copied in
+    let moved : given_of next (at + n) pieces ≡ given_of was_next was_at pieces ++ take n buffer = given_of-moves pieces piece next at n within (sym is) fits
+    ∙ ap (λ xs. xs ++ take n (drop at piece.items)) given ∙ ap (λ xs. given_of was_next was_at pieces ++ xs) front in
+    let within_room : n ≤ length buffer = omega arith in
     record {
       some = omega arith;
       within = omega arith;
+      gave = ap length moved ∙ length-append (given_of was_next was_at pieces) (take n buffer) ∙ ap (λ k. length (given_of was_next was_at pieces) + k) (length-take-le n buffer within_room);
       bytes = (
         sym left ∙ left_of-moves pieces piece next at n within (sym is) fits ∙ ap (λ xs. xs ++ left_of next (at + n) pieces) front,
-        given_of-moves pieces piece next at n within (sym is) fits ∙ ap (λ xs. xs ++ take n (drop at piece.items)) given ∙ ap (λ xs. given_of was_next was_at pieces ++ xs) front,
+        moved,
       );
       was_not_over = closed;
       over = closed;

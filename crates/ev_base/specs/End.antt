@@ -1,9 +1,9 @@
 -- What an end of a connection tells, and what its calls do (C++NPv2 chapter 3: `ACE_SOCK_Stream` and `ACE_SOCK_Acceptor`).
-use Rattle.std.specs.Prelude.{◌≡◌, ◌≤◌, ◌⊎◌, ℕ, Bool, true, false, List, [], length, take, Option, Some, None}
+use Rattle.std.specs.Prelude.{◌≡◌, ◌≤◌, ◌+◌, ◌⊎◌, ℕ, Bool, true, false, List, [], length, take, Option, Some, None}
 use Rattle.ev_base.specs.Counts.{counted, Rose}
 use Rattle.ev_base.specs.Bytes.{ReaderBytes, MovesOn, NothingLeft, HasGiven}
 use Rattle.ev_base.specs.Sink.{GrowsBy}
-use Rattle.ev_base.specs.Story.{Part, Offer, Connection, NoneThere, OneFailure, Telling, Offering, TellsNext, TakesOffer, NoOfferLeft}
+use Rattle.ev_base.specs.Story.{Connection, NoneThere, OneFailure, Telling, Offering, TellsNext, TakesOffer, NoOfferLeft}
 use Rattle.ev_base.specs.declared.source.Got.{Got}
 use Rattle.ev_base.specs.declared.source.Got.TheVariants as got
 use Rattle.ev_base.specs.declared.end.Sent.{Sent}
@@ -30,6 +30,8 @@ pub record EndFacts : Type 0 where
   pub last_write : Option Try
   -- how often a call failed
   pub faults : ℕ
+  -- how many bytes its reads gave
+  pub gave : ℕ
   -- whether a read answered Over
   pub over : Bool
   -- the bytes read and those still to come, and the bytes written, where they are told
@@ -56,6 +58,7 @@ pub record IsFresh (e : EndFacts) : Type 0 where
   pub writes : e.writes ≡ 0
   pub last_write : e.last_write ≡ None
   pub faults : e.faults ≡ 0
+  pub gave : e.gave ≡ 0
   pub over : e.over ≡ false
   pub bytes : HasGiven e.bytes []
   pub telling : GaveNoPart e.telling
@@ -78,6 +81,7 @@ pub record EndGives (old : EndFacts) (buffer : List ℕ) (n : ℕ) (new : EndFac
   pub counts : CountsRead old (Moved n) new
   pub some : 1 ≤ n
   pub within : n ≤ length buffer
+  pub gave : new.gave ≡ old.gave + n
   pub bytes : MovesOn old.bytes (take n buffer) new.bytes
   pub telling : TellsNext old.telling (length buffer) (got.Bytes n) (take n buffer) new.telling
   pub was_not_over : old.over ≡ false
@@ -88,6 +92,7 @@ pub record EndGives (old : EndFacts) (buffer : List ℕ) (n : ℕ) (new : EndFac
 -- a read found nothing now
 pub record EndPauses (old : EndFacts) (buffer : List ℕ) (new : EndFacts) : Type 0 where
   pub counts : CountsRead old Paused new
+  pub gave : new.gave ≡ old.gave
   pub bytes : new.bytes ≡ old.bytes
   pub telling : TellsNext old.telling (length buffer) got.Pause [] new.telling
   pub was_not_over : old.over ≡ false
@@ -98,6 +103,7 @@ pub record EndPauses (old : EndFacts) (buffer : List ℕ) (new : EndFacts) : Typ
 -- a read found the end of the input
 pub record EndIsOver (old : EndFacts) (buffer : List ℕ) (new : EndFacts) : Type 0 where
   pub counts : CountsRead old WasOver new
+  pub gave : new.gave ≡ old.gave
   pub bytes : new.bytes ≡ old.bytes
   pub nothing_left : NothingLeft old.bytes
   pub telling : TellsNext old.telling (length buffer) got.Over [] new.telling
@@ -108,6 +114,7 @@ pub record EndIsOver (old : EndFacts) (buffer : List ℕ) (new : EndFacts) : Typ
 -- a read failed
 pub record EndFailsToRead (old : EndFacts) (buffer : List ℕ) (new : EndFacts) : Type 0 where
   pub counts : CountsRead old Faulted new
+  pub gave : new.gave ≡ old.gave
   pub rose : Rose old.faults new.faults
   pub bytes : new.bytes ≡ old.bytes
   pub telling : TellsNext old.telling (length buffer) got.Failed [] new.telling
@@ -131,6 +138,7 @@ pub record CountsWrite (old : EndFacts) (came_to : Try) (new : EndFacts) : Type 
   pub listener : new.listener ≡ old.listener
   pub reads : new.reads ≡ old.reads
   pub last_read : new.last_read ≡ old.last_read
+  pub gave : new.gave ≡ old.gave
   pub over : new.over ≡ old.over
   pub bytes : new.bytes ≡ old.bytes
   pub serial : new.serial ≡ old.serial
@@ -168,13 +176,14 @@ EndWrites old piece sent.Failed new = EndFailsToWrite old new
 -- what a listener's accept leaves as it was
 pub record CountsAccept (old : EndFacts) (came_to : Try) (new : EndFacts) : Type 0 where
   pub counts : CountsRead old came_to new
+  pub gave : new.gave ≡ old.gave
   pub over : new.over ≡ old.over
   pub bytes : new.bytes ≡ old.bytes
   pub telling : new.telling ≡ old.telling
 
--- where the listener tells its story, the end has the serial number of the offer that was next
+-- where the listener tells its story, the end has the serial number of the offer that was next; where it doesn't, the end has none
 abbrev pub TakesSerial : Option Offering → Option ℕ → Option Offering → Type 0
-TakesSerial None serial None = Unit {0}
+TakesSerial None serial None = serial ≡ None
 TakesSerial None serial (Some new) = ⊥
 TakesSerial (Some old) None new = ⊥
 TakesSerial (Some old) (Some serial) new = TakesOffer (Some old) (Connection serial) new

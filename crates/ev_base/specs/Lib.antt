@@ -9,5 +9,9 @@ pub mod Terms
 pub mod End
 pub mod KeepsStory
 pub mod Net
+pub mod Playing
+pub mod Codes
 pub mod Host
 pub mod MemSource
+pub mod Standard
+pub mod Adapters

@@ -1,5 +1,5 @@
 -- The source of pieces in memory.
-use Rattle.std.specs.Prelude.{◌≡◌, ℕ, List, Some, Bool, false, Contains}
+use Rattle.std.specs.Prelude.{◌≡◌, ℕ, List, length, Some, false, Contains}
 use Rattle.ev_base.specs.Source.{SourceFacts}
 use Rattle.ev_base.specs.MemoryForms.{given_of, left_of}
 use Rattle.ev_base.specs.declared.memory.MemSource.{MemSource}
@@ -8,6 +8,7 @@ use Rattle.ev_base.specs.declared.memory.MemSource.{MemSource}
 abbrev pub mem_source_facts : MemSource → SourceFacts
 mem_source_facts source = record {
   faults = source.faults;
+  gave = length (given_of source.next source.at source.pieces.items);
   over = source.over;
   bytes = Some (record { given = given_of source.next source.at source.pieces.items; left = left_of source.next source.at source.pieces.items });
 }

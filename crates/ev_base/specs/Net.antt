@@ -1,12 +1,11 @@
 -- What a net, the demultiplexer of events on ends, tells, and what its calls do (POSA2, Reactor: Synchronous Event
 -- Demultiplexer). What it tells of the past, it tells like the past of a journal: the latest first.
-use Rattle.std.specs.Prelude.{◌≡◌, ◌≤◌, ◌<◌, ◌^◌, ◌+◌, ℕ, Bool, true, false, if◌then◌else◌, ◌==◌, not, ◌&&◌, filter, List, [], ◌∷◌, ◌++◌, length, Option, Some, None, option_map, Result, Ok, Err}
+use Rattle.std.specs.Prelude.{◌≡◌, ◌≤◌, ◌^◌, ◌+◌, ℕ, Bool, true, if◌then◌else◌, ◌==◌, not, ◌&&◌, filter, List, [], ◌∷◌, length, Option, Some, None, option_map, Result, Ok, Err}
 use Rattle.std.specs.List.{list_any, list_all}
 use Rattle.ev_types.specs.declared.upcall.Mask.{Mask}
 use Rattle.ev_types.specs.declared.upcall.Kind.{Kind}
 use Rattle.ev_types.specs.declared.upcall.Kind.TheVariants.{Read, Write, Except}
 use Rattle.ev_types.specs.declared.refusal.NetFailed.{NetFailed}
-use Rattle.ev_types.specs.declared.refusal.NoMemory.{NoMemory}
 use Rattle.ev_base.specs.Counts.{Rose}
 use Rattle.ev_base.specs.declared.net.Report.{Report}
 use Rattle.ev_base.specs.declared.net.Waited.{Waited}

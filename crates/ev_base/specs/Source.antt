@@ -1,5 +1,5 @@
 -- What a source of bytes tells, and what a read does to it.
-use Rattle.std.specs.Prelude.{◌≡◌, ◌≤◌, ℕ, List, length, take, Option, Bool, true, false}
+use Rattle.std.specs.Prelude.{◌≡◌, ◌≤◌, ◌+◌, ℕ, List, length, take, Option, Bool, true, false}
 use Rattle.ev_base.specs.Counts.{Rose}
 use Rattle.ev_base.specs.Bytes.{ReaderBytes, MovesOn, NothingLeft}
 use Rattle.ev_base.specs.declared.source.Got.{Got}
@@ -8,6 +8,8 @@ use Rattle.ev_base.specs.declared.source.Got.TheVariants.{Bytes, Pause, Over, Fa
 pub record SourceFacts : Type 0 where
   -- how often a read failed
   pub faults : ℕ
+  -- how many bytes it gave
+  pub gave : ℕ
   -- whether a read answered Over
   pub over : Bool
   -- the bytes, where they are told
@@ -17,6 +19,7 @@ pub record SourceFacts : Type 0 where
 pub record GivesBytes (old : SourceFacts) (buffer : List ℕ) (n : ℕ) (new : SourceFacts) : Type 0 where
   pub some : 1 ≤ n
   pub within : n ≤ length buffer
+  pub gave : new.gave ≡ old.gave + n
   pub bytes : MovesOn old.bytes (take n buffer) new.bytes
   pub was_not_over : old.over ≡ false
   pub over : new.over ≡ false
@@ -26,12 +29,14 @@ pub record GivesBytes (old : SourceFacts) (buffer : List ℕ) (n : ℕ) (new : S
 pub record GivesEnd (old new : SourceFacts) : Type 0 where
   pub over : new.over ≡ true
   pub nothing_left : NothingLeft old.bytes
+  pub gave : new.gave ≡ old.gave
   pub bytes : new.bytes ≡ old.bytes
   pub faults : new.faults ≡ old.faults
 
 -- a read failed: the count of faults rose, and all else is as before
 pub record FailsToRead (old new : SourceFacts) : Type 0 where
   pub rose : Rose old.faults new.faults
+  pub gave : new.gave ≡ old.gave
   pub was_not_over : old.over ≡ false
   pub over : new.over ≡ false
   pub bytes : new.bytes ≡ old.bytes

@@ -1,5 +1,5 @@
 -- Stories: what an end has to tell from its first call on, where a script or a test lays it down.
-use Rattle.std.specs.Prelude.{◌≡◌, ℕ, ◌+◌, ◌-◌, nat_lt, min, Bool, true, false, if◌then◌else◌, List, [], ◌∷◌, ◌++◌, length, take, drop, Option, Some, None}
+use Rattle.std.specs.Prelude.{◌≡◌, ℕ, suc, ◌+◌, ◌-◌, nat_lt, min, if◌then◌else◌, List, [], ◌∷◌, ◌++◌, length, take, drop, Option, Some, None}
 use Rattle.ev_base.specs.declared.source.Got.{Got}
 use Rattle.ev_base.specs.declared.source.Got.TheVariants.{Bytes, Pause, Over, Failed}
 
@@ -33,6 +33,18 @@ pub record Telling : Type 0 where
 pub record Offering : Type 0 where
   pub given : List Offer
   pub left : List Offer
+
+-- the connections of a listener's story have the serial numbers from this one on, in order
+abbrev pub AreNumbered : ℕ → List Offer → Type 0
+AreNumbered next [] = Unit {0}
+AreNumbered next (Connection serial ∷ offers) = (serial ≡ next) × AreNumbered (suc next) offers
+AreNumbered next (NoneThere ∷ offers) = AreNumbered next offers
+AreNumbered next (OneFailure ∷ offers) = AreNumbered next offers
+
+-- where a listener tells its story, the connections left there have the serial numbers from this one on
+abbrev pub NumbersFrom : ℕ → Option Offering → Type 0
+NumbersFrom next None = Unit {0}
+NumbersFrom next (Some offering) = AreNumbered next offering.left
 
 -- what a read with room for so many bytes answers
 abbrev pub read_answer : ℕ → ℕ → List Part → Got

@@ -30,6 +30,8 @@ pub record Terms : Type 0 where
   pub groups : Option (List Group)
   -- the text of the output at the start
   pub opening : Option (List ℕ)
+  -- how many bytes the input had given at the start
+  pub input_gave : Option ℕ
   -- the counts of faults of input and output at the start
   pub input_faults : Option ℕ
   pub output_faults : Option ℕ
@@ -56,6 +58,7 @@ open_terms most = record {
   stories = None;
   groups = None;
   opening = None;
+  input_gave = None;
   input_faults = None;
   output_faults = None;
   steady = None;

@@ -22,15 +22,16 @@ pub enum Sent {
 pub enum Taken<E> {
     /// The end of a connection.
     One(E),
-    /// No connection waits now.
+    /// No connection waits now. A net that watches the listener reports it again once one waits.
     Pause,
-    /// The accept failed, and the count of faults rose.
+    /// The accept failed, and the count of faults rose. A net that watches the listener reports it again at a later wait, so that
+    /// a connection that waits there still is not forgotten.
     Failed,
 }
 
 /// One end of a connection, or a listener, which gives ends. Its calls never wait. It counts its reads and accepts, its
-/// writes and its faults, and keeps what the last of each came to; where it tells them, also its bytes, its serial
-/// number and its story.
+/// writes, its faults and the bytes that its reads gave, and keeps what the last of each call came to; where it tells them, also
+/// its bytes, its serial number and its story.
 pub trait PeerEnd: Sized {
     /// What contracts see of an end.
     ghost tells: { Self → EndFacts };

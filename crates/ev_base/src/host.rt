@@ -1,7 +1,7 @@
 //! What makes nets and listeners.
 ghost use Rattle.std.specs.Prelude.{ℕ};
 ghost use Rattle.ev_base.specs.Terms.{Terms};
-ghost use Rattle.ev_base.specs.Host.{Listens};
+ghost use Rattle.ev_base.specs.Host.{Listens, LeavesHostOpen};
 
 use super::{Net, PeerEnd, Wake};
 use std::alloc::Global;
@@ -39,4 +39,7 @@ pub trait Host {
         port: u16,
     ) -> Result<(Self::Net, Self::End, Self::Waker), ListenRefused>
         ensures { Listens Self.Net.facts Self.End.tells Self.Net.keeps Self.End.keeps (λ t. keeps t self.old) (faults self.old) result (faults self.new) };
+
+    /// It keeps terms that say nothing of it.
+    ghost keeps_open: { (t : Terms) (host : Self) → LeavesHostOpen t → keeps t host };
 }

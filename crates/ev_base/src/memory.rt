@@ -19,7 +19,7 @@ impl SteadySource {
     /// A source of these bytes.
     pub fn new(bytes: Vec<u8>) -> SteadySource
         ensures { ⟦<SteadySource as Source>⟧.facts result
-            ≡ record { faults = 0; over = false; bytes = Some (record { given = []; left = bytes.items }) } }
+            ≡ record { faults = 0; gave = 0; over = false; bytes = Some (record { given = []; left = bytes.items }) } }
     {
         SteadySource {
             bytes,
@@ -30,7 +30,7 @@ impl SteadySource {
 }
 
 impl Source for SteadySource {
-    ghost facts = { λ s. record { faults = 0; over = s.over; bytes = Some (record { given = take s.at s.bytes.items; left = drop s.at s.bytes.items }) } };
+    ghost facts = { λ s. record { faults = 0; gave = s.at; over = s.over; bytes = Some (record { given = take s.at s.bytes.items; left = drop s.at s.bytes.items }) } };
 
     fn read(&mut self, buf: &mut [u8]) -> Got {
         if self.at >= self.bytes.len() {
@@ -75,7 +75,7 @@ impl MemSource {
     /// A source of these pieces. The reads whose numbers stand in `fails` are to fail.
     pub fn new(pieces: Vec<Vec<u8>>, fails: Vec<u64>) -> MemSource
         ensures facts { mem_source_facts result
-            ≡ record { faults = 0; over = false; bytes = Some (record { given = []; left = joined pieces.items }) } }
+            ≡ record { faults = 0; gave = 0; over = false; bytes = Some (record { given = []; left = joined pieces.items }) } }
         ensures reads { reads_of result ≡ 0 }
         ensures fails { fails_of result ≡ fails.items }
     {
@@ -92,8 +92,10 @@ impl MemSource {
 }
 
 impl Source for MemSource {
+    ghost use Rattle.std.specs.Prelude.{if◌then◌else◌};
+    ghost use Rattle.ev_base.specs.Counts.{counted};
     ghost use Rattle.ev_base.specs.Source.{Reads};
-    ghost use Rattle.ev_base.specs.MemSource.{mem_source_facts, fails_of, IsToFail};
+    ghost use Rattle.ev_base.specs.MemSource.{mem_source_facts, reads_of, fails_of, IsToFail};
 
     ghost facts = { mem_source_facts };
 
@@ -101,6 +103,7 @@ impl Source for MemSource {
         requires { 0 < length buf.old }
         ensures reads { Reads (mem_source_facts self.old) buf.new result (mem_source_facts self.new) }
         ensures failed { (result ≡ Got.Failed) ↔ IsToFail self.old }
+        ensures number { reads_of self.new ≡ (if (mem_source_facts self.old).over then reads_of self.old else counted (reads_of self.old)) }
         ensures fails { fails_of self.new ≡ fails_of self.old }
     {
         if self.over {

@@ -1,6 +1,7 @@
 //! The demultiplexer of events on ends.
 ghost use Rattle.std.specs.Prelude.{◌≡◌, ◌≤◌, ◌<◌, ◌≢◌, ℕ, true, Contains, length, slice_get, Some, OnOk};
 ghost use Rattle.ev_base.specs.Terms.{Terms};
+ghost use Rattle.ev_base.specs.Playing.{FollowsGroups};
 ghost use Rattle.ev_base.specs.Net.{NetFacts, IsSound, NetWaits, Reserves, NetAttaches, SetsMaskOf, RetiresEnd, TurnsAwayEnd};
 
 use super::PeerEnd;
@@ -52,7 +53,9 @@ pub trait Net {
 
     /// Waits for reports, at most so many milliseconds, or without a limit. The moment is not below an earlier one and
     /// at most 2^62. A report whose kind is not in its handle's mask is held back until it is, or until the end is
-    /// retired.
+    /// retired. A report of an end is owed again after a read or an accept of it that paused, and after an accept that
+    /// failed: a later wait gives it once there is something to read or accept. After `Failed` the reports of the wait before
+    /// stand as they were.
     fn wait(&mut self, most_ms: Option<u64>) -> Waited
         ensures waits { NetWaits (facts self.old) most_ms result (facts self.new) }
         ensures kept { (t : Terms) → keeps t self.old → keeps t self.new };
@@ -69,7 +72,8 @@ pub trait Net {
         ensures kept { (t : Terms) → keeps t self.old → keeps t self.new };
 
     /// Begins to watch an end, which leaves all that the end tells as it is. It uses one place, which serves the later
-    /// `retire`. `NetFailed` comes only where the count of failed attaches rose, and leaves the place.
+    /// `retire`. `NetFailed` comes only where the count of failed attaches rose, and leaves the place. A net that has no memory
+    /// to watch the end tells that as `NetFailed` too, with its count.
     fn attach(&mut self, end: &mut Self::End, handle: Handle, mask: Mask) -> Result<(), NetFailed>
         requires place { 1 ≤ (facts self.old).spare }
         requires absent { Contains (facts self.old).attached handle.0 → ⊥ }
@@ -98,6 +102,9 @@ pub trait Net {
 
     /// One that never fails has no fault.
     ghost sound: { (net : Self) → IsSound (facts net) };
+
+    /// Where the terms lay down the groups of a script, one that tells its calls answered each wait as these groups say.
+    ghost keeps_groups: { (t : Terms) (net : Self) → keeps t net → FollowsGroups (facts net).calls t.groups };
 }
 
 /// What makes a waiting net return early, where it can. It promises nothing.

@@ -7,7 +7,7 @@ ghost use Rattle.ev_base.specs.Source.{SourceFacts, Reads};
 pub enum Got {
     /// So many bytes, at least one, now stand at the front of the buffer.
     Bytes(usize),
-    /// Nothing is there now; more may come.
+    /// Nothing is there now; more may come. A net that watches the end reports it again once more came.
     Pause,
     /// The end of the input, which each later read answers again.
     Over,
@@ -15,8 +15,8 @@ pub enum Got {
     Failed,
 }
 
-/// A source of bytes. It has a count of faults that never falls, and where it tells them, the bytes that it has
-/// given and those that it has left.
+/// A source of bytes. It has a count of faults that never falls and a count of the bytes that it gave, and where it tells them,
+/// the bytes that it has given and those that it has left.
 pub trait Source {
     /// What contracts see of a source.
     ghost facts: { Self → SourceFacts };

@@ -37,6 +37,8 @@ impl Host for NoHost {
 
     ghost keeps = { λ t host. Unit {0} };
 
+    ghost keeps_open = { λ t host says_nothing. tt };
+
     fn listen(
         &mut self,
         _alloc: Global,

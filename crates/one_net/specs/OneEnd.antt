@@ -27,6 +27,10 @@ count_of end = end.given
 abbrev pub extra_of : {S : Type 0} → OneEnd S → List ℕ
 extra_of end = option_to_list end.extra
 
+-- how many bytes it took from its source: those that it gave, and the one that it keeps
+abbrev pub took_of : {S : Type 0} → OneEnd S → ℕ
+took_of end = count_of end + length (extra_of end)
+
 -- whether a read of the source failed
 abbrev pub failed_of : {S : Type 0} → OneEnd S → Bool
 failed_of end = end.failed
@@ -83,6 +87,7 @@ one_end_facts facts end = record {
   writes = end.writes;
   last_write = last_of end.writes;
   faults = end.faults;
+  gave = end.given;
   over = is_over end.reads end.extra (facts end.input).over;
   bytes = end_bytes (extra_of end) end.given (facts end.input).bytes;
   written = None;
@@ -105,6 +110,10 @@ pub record MeetsByte {S : Type 0} (facts : S → SourceFacts) (old new : OneEnd 
   pub behind : extra_of old ≡ [] → count_of old ≡ limit_of old
   pub failed : failed_of new ≡ failed_of old
   pub faults : (facts (input_of new)).faults ≡ (facts (input_of old)).faults
+
+-- since one state of the end and another the source gave just the bytes that the end took from it
+abbrev pub TakesAll : {S : Type 0} → (S → SourceFacts) → OneEnd S → OneEnd S → Type 0
+TakesAll facts old new = (facts (input_of new)).gave + took_of old ≡ (facts (input_of old)).gave + took_of new
 
 -- Why a read answers what it answers. A fault is one of the source, or a byte behind the limit.
 abbrev pub OneReads : {S : Type 0} → (S → SourceFacts) → OneEnd S → Got → OneEnd S → Type 0

@@ -1,6 +1,6 @@
 -- What the one end keeps under the terms that a run starts with (C++NPv2 chapter 4: the networked logging server; the terms and
 -- the limit are this project's own).
-use Rattle.std.specs.Prelude.{◌≡◌, ◌≢◌, ◌≤◌, ◌^◌, ◌⊎◌, ℕ, Bool, true, false, List, [], ◌++◌, length, Option, Some, None}
+use Rattle.std.specs.Prelude.{◌≡◌, ◌≢◌, ◌≤◌, ◌+◌, ◌^◌, ◌⊎◌, ℕ, Bool, true, false, List, [], ◌++◌, length, Option, Some, None}
 use Rattle.ev_base.specs.Counts.{Rose}
 use Rattle.ev_base.specs.Bytes.{ReaderBytes, MovesOn, NothingLeft}
 use Rattle.ev_base.specs.Source.{SourceFacts}
@@ -8,7 +8,7 @@ use Rattle.ev_base.specs.Story.{Story, OfBytes, OfParts}
 use Rattle.ev_base.specs.Terms.{Terms, story_of}
 use Rattle.ev_base.specs.End.{Paused}
 use Rattle.one_net.specs.declared.one_end.OneEnd.{OneEnd}
-use Rattle.one_net.specs.OneEnd.{input_of, limit_of, count_of, extra_of, failed_of, given_of, one_end_facts}
+use Rattle.one_net.specs.OneEnd.{input_of, limit_of, count_of, extra_of, took_of, failed_of, given_of, one_end_facts}
 
 -- the limit of the command `one` in bytes
 abbrev pub most_input : ℕ
@@ -34,6 +34,7 @@ IsStoryOfSource t = (story : Story) → story_of t 0 ≡ Some story → (bytes :
 
 -- the terms lay down what a source tells at the start of a run
 pub record StartsAt (t : Terms) (source : SourceFacts) : Type 0 where
+  pub gave : (g : ℕ) → t.input_gave ≡ Some g → g ≡ source.gave
   pub faults : (f : ℕ) → t.input_faults ≡ Some f → f ≡ source.faults
   pub bytes : bytes_at_start t ≡ source.bytes
   pub story : IsStoryOfSource t
@@ -63,6 +64,8 @@ pub record OneEndKeeps {S : Type 0} (facts : S → SourceFacts) (t : Terms) (end
   pub cause : 1 ≤ (one_end_facts facts end).faults → (failed_of end ≡ true) ⊎ (extra_of end ≢ [])
   -- the source's count of faults is that of the start, or rose where a read of it failed
   pub source_faults : (f : ℕ) → t.input_faults ≡ Some f → FaultsSince (failed_of end) f (facts (input_of end)).faults
+  -- since the start the source gave as many bytes as the end took, whether it tells them or not
+  pub took : (g : ℕ) → t.input_gave ≡ Some g → (facts (input_of end)).gave ≡ g + took_of end
   -- since the start the source gave the bytes that the end gave and the byte that it keeps
   pub bytes : MovesOn (bytes_at_start t) (given_of facts end ++ extra_of end) (facts (input_of end)).bytes
   -- and those are as many as it counts

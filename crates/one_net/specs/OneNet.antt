@@ -50,6 +50,11 @@ abbrev pub last_answer : List Call → Option Waited
 last_answer (Waits most answer reports ∷ calls) = Some answer
 last_answer _ = None
 
--- It follows no script. Where its last call was a wait, that was answered by what is attached.
+-- It follows no script: such a run has terms that lay down no groups. Where its last call was a wait, that was answered by what is
+-- attached.
+pub record OneNetKeeps {S : Type 0} (t : Terms) (net : OneNet S) : Type 0 where
+  pub no_script : t.groups ≡ None
+  pub answered : (answer : Waited) → last_answer net.calls ≡ Some answer → answer ≡ answer_of (first_report (masks_of net))
+
 abbrev pub one_net_keeps : {S : Type 0} → Terms → OneNet S → Type 0
-one_net_keeps t net = (answer : Waited) → last_answer net.calls ≡ Some answer → answer ≡ answer_of (first_report (masks_of net))
+one_net_keeps t net = OneNetKeeps t net

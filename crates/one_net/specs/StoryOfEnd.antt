@@ -38,4 +38,5 @@ module _ {S : Type 0} (facts : S → SourceFacts) (t : Terms) (end : OneEnd S) (
   keeps_its_story = record {
     connection = λ serial story connection is_zero told. is_story story (subst (λ number. story_at t number ≡ Some story) (sym is_zero) told);
     listener = λ offers listener told. absurd (subst IsNot listener tt);
+    unnumbered = λ offers listener told. absurd (subst IsNot listener tt);
   }

@@ -29,7 +29,7 @@ pub struct OneEnd<S> {
 
 impl<S: Source> OneEnd<S> {
     ghost use Rattle.ev_base.specs.End.{IsFresh, EndReads};
-    ghost use Rattle.one_net.specs.OneEnd.{input_of, limit_of, count_of, extra_of, failed_of, one_end_facts, OneReads};
+    ghost use Rattle.one_net.specs.OneEnd.{input_of, limit_of, count_of, extra_of, failed_of, one_end_facts, OneReads, TakesAll};
     ghost use Rattle.one_net.specs.OneKeeps.{most_input, StartsAt, OneEndKeeps};
 
     /// An end that has made no call, over this source and with this limit.
@@ -92,6 +92,8 @@ impl<S: Source> OneEnd<S> {
         ensures reads { (buffer : List ℕ) → EndReads (one_end_facts S.facts self.old) buffer result (one_end_facts S.facts self.new) }
         ensures kept { (t : Terms) → OneEndKeeps S.facts t self.old → OneEndKeeps S.facts t self.new }
         ensures causes { OneReads S.facts self.old result self.new }
+        ensures took { TakesAll S.facts self.old self.new }
+        ensures within { count_of self.new ≤ limit_of self.new }
         ensures limit { limit_of self.new ≡ limit_of self.old }
         ensures failed { result ≡ Got.Failed }
         ensures input { input_of self.new ≡ input_of self.old }
@@ -109,6 +111,8 @@ impl<S: Source> OneEnd<S> {
         ensures reads { (buffer : List ℕ) → EndReads (one_end_facts S.facts self.old) buffer result (one_end_facts S.facts self.new) }
         ensures kept { (t : Terms) → OneEndKeeps S.facts t self.old → OneEndKeeps S.facts t self.new }
         ensures causes { OneReads S.facts self.old result self.new }
+        ensures took { TakesAll S.facts self.old self.new }
+        ensures within { count_of self.new ≤ limit_of self.new }
         ensures limit { limit_of self.new ≡ limit_of self.old }
     {
         let mut behind = [0];
@@ -142,6 +146,8 @@ impl<S: Source> OneEnd<S> {
         ensures reads { EndReads (one_end_facts S.facts self.old) part.new result (one_end_facts S.facts self.new) }
         ensures kept { (t : Terms) → OneEndKeeps S.facts t self.old → OneEndKeeps S.facts t self.new }
         ensures causes { OneReads S.facts self.old result self.new }
+        ensures took { TakesAll S.facts self.old self.new }
+        ensures within { count_of self.new ≤ limit_of self.new }
         ensures limit { limit_of self.new ≡ limit_of self.old }
     {
         self.reads = self.reads.saturating_add(1);
@@ -168,7 +174,7 @@ impl<S: Source> OneEnd<S> {
 
 impl<S: Source> PeerEnd for OneEnd<S> {
     ghost use Rattle.ev_base.specs.End.{EndReads, EndWrites};
-    ghost use Rattle.one_net.specs.OneEnd.{input_of, limit_of, count_of, extra_of, failed_of, one_end_facts, OneReads};
+    ghost use Rattle.one_net.specs.OneEnd.{input_of, limit_of, count_of, extra_of, failed_of, one_end_facts, OneReads, TakesAll};
     ghost use Rattle.one_net.specs.OneKeeps.{OneEndKeeps};
     ghost use Rattle.one_net.specs.StoryOfEnd.{keeps_its_story};
 
@@ -186,6 +192,8 @@ impl<S: Source> PeerEnd for OneEnd<S> {
         ensures reads { EndReads (one_end_facts S.facts self.old) buf.new result (one_end_facts S.facts self.new) }
         ensures kept { (t : Terms) → OneEndKeeps S.facts t self.old → OneEndKeeps S.facts t self.new }
         ensures causes { OneReads S.facts self.old result self.new }
+        ensures took { TakesAll S.facts self.old self.new }
+        ensures within { count_of self.new ≤ limit_of self.new }
         ensures limit { limit_of self.new ≡ limit_of self.old }
         ensures refused { extra_of self.old ≢ [] → (result ≡ Got.Failed) × (input_of self.new ≡ input_of self.old) }
     {

@@ -90,6 +90,7 @@ impl<S: Source> Net for OneNet<S> {
     ghost use Rattle.std.specs.Prelude.{refl};
     ghost use Rattle.ev_base.specs.Terms.{Terms};
     ghost use Rattle.ev_base.specs.Net.{NetWaits, Reserves, NetAttaches, SetsMaskOf, RetiresEnd, TurnsAwayEnd};
+    ghost use Rattle.net_calls.specs.Groups.{follows_none};
     ghost use Rattle.one_net.specs.OneEnd.{one_end_facts};
     ghost use Rattle.one_net.specs.OneKeeps.{OneEndKeeps};
     ghost use Rattle.one_net.specs.OneNet.{one_net_facts, one_net_keeps, masks_of};
@@ -185,4 +186,6 @@ impl<S: Source> Net for OneNet<S> {
     }
 
     ghost sound = { λ net steady. (refl, refl) };
+
+    ghost keeps_groups = { λ t net keeps. follows_none (one_net_facts net).calls t.groups keeps.no_script };
 }

@@ -27,8 +27,8 @@ pub record Handling (H E N : Type 0) : Type 1 where
   pub may : Terms → Upcall → Deed → Type 0
   -- the notes whose turn always carries an `Install`
   pub installs : N → Bool
-  -- the serial number that an origin names for the handler's end, if it does
-  pub serial : Terms → Option (Origin N) → Option ℕ
+  -- what an origin says of the serial number of the handler's end: nothing, or exactly which it is, if the end has one at all
+  pub serial : Terms → Option (Origin N) → Option (Option ℕ)
 
 -- no answer is Close
 abbrev pub GoesOn : Answer → Type 0
@@ -51,7 +51,7 @@ EndsInClose [] = ⊥
 EndsInClose (item ∷ []) = IsClose item.answer
 EndsInClose (item ∷ next ∷ items) = EndsInClose (next ∷ items)
 
--- where a serial number is named, it is this one
-abbrev pub Names : Option ℕ → Option ℕ → Type 0
+-- where something is said of a serial number, it is as said
+abbrev pub Names : Option (Option ℕ) → Option ℕ → Type 0
 Names None serial = Unit {0}
-Names (Some named) serial = serial ≡ Some named
+Names (Some named) serial = serial ≡ named

@@ -1,4 +1,6 @@
 //! What no contract says: that volumes are taken where memory is ample, and that the checker is passed on.
+ghost use Rattle.std.specs.Prelude.{◌≡◌, length, IfOk};
+
 use super::*;
 use ev_types::{Handle, Mask};
 use std::alloc::Global;
@@ -11,7 +13,9 @@ const READ: Mask = Mask {
 };
 
 /// A journal of one opened handle and one wait.
-fn volume(alloc: Global, handle: u64) -> Result<Journal<u8>, Fail> {
+fn volume(alloc: Global, handle: u64) -> Result<Journal<u8>, Fail>
+    ensures { IfOk result (λ journal. length journal.entries ≡ 2) }
+{
     let mut journal = Journal::new(alloc);
     journal.reserve(2).map_err(|_| Fail::from("memory"))?;
     journal.append(Entry::Opened {
@@ -33,9 +37,11 @@ fn volumes_are_kept_in_order(rt: HostRuntime) -> Result<(), Fail> {
             assert_eq!(rt; why, TakeRefused::Failed);
             assert_eq!(rt; back.len(), 2);
             assert!(rt; volumes.take(2, back).is_ok());
+            volumes.begin();
+            assert!(rt; volumes.take(0, volume(alloc, 2)?).is_ok());
         }
     }
-    assert_eq!(rt; volumes.entries().len(), 4);
+    assert_eq!(rt; volumes.entries().len(), 6);
     assert!(rt; DropVolumes.take(0, volume(alloc, 0)?).is_ok());
     Ok(())
 }

@@ -11,6 +11,7 @@ returns-in-Failed-clause-kept g c t kept = record {
   too_long = search rules;
   sound = search rules;
   cause = search rules;
+  took = search rules;
   source_faults = λ f told. faults_rose c.args.self.now.failed f _ _ (kept.source_faults f told) c.in-Failed.ensures.rose;
   bytes = search rules;
   counts = search rules;

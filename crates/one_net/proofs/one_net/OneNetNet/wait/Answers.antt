@@ -11,10 +11,13 @@ returns-clause-waits g c =
     (all_wanted c.args.self.now.watched.items given (c.first_report-self.ensures ∙ ap first_report c.deref.ensures.value))
 
 pub returns-clause-kept : goal.returns-clause-kept
-returns-clause-kept g c t kept answer last =
-    let here = ap last_answer c.add.ensures in
-    let same : answer ≡ c.answer_of-answer.result = sym (some_same _ _ (sym here ∙ last)) in
-    same ∙ (c.answer_of-answer.ensures ∙ ap answer_of (c.first_report-self.ensures ∙ ap first_report c.deref.ensures.value))
+returns-clause-kept g c t kept = record {
+  no_script = kept.no_script;
+  answered = λ answer last.
+      let here = ap last_answer c.add.ensures in
+      let same : answer ≡ c.answer_of-answer.result = sym (some_same _ _ (sym here ∙ last)) in
+      same ∙ (c.answer_of-answer.ensures ∙ ap answer_of (c.first_report-self.ensures ∙ ap first_report c.deref.ensures.value));
+}
   where
     some_same : {A : Type 0} (a b : A) → ◌≡◌ {A = Option A} (Some a) (Some b) → a ≡ b
     some_same a b q = cc
