@@ -23,7 +23,7 @@ use Rattle.log_handler.specs.declared.note.ServerNote.TheVariants as note
 use Rattle.log_handler.specs.declared.connection.LogConnection.{LogConnection}
 use Rattle.log_handler.specs.declared.line_sink.LineSink.{LineSink}
 use Rattle.log_handler.specs.Connections.{connections}
-use Rattle.log_handler.specs.LineSink.{PutsLines}
+use Rattle.log_handler.specs.LineSink.{PutsLines, line_sink_faults, is_broken}
 use Rattle.one_net.specs.declared.one_end.OneEnd.{OneEnd}
 use Rattle.one_net.specs.declared.one_net.OneNet.{OneNet}
 use Rattle.one_net.specs.OneEnd.{one_end_facts}
@@ -37,7 +37,7 @@ use Rattle.one_run.specs.declared.serving.Halt.TheVariants as halt
 abbrev pub one_meaning : {S K V : Type 0} {G : Ghosts (OneEnd S)} → (S → SourceFacts) → (K → SinkFacts) → (V → VolumesFacts ServerNote)
     → Meaning (LogConnection (OneEnd S) G) (OneNet S) Content (LineSink K) V ServerNote (OneEnd S)
 one_meaning source sink volumes =
-    meaning (connections (one_end_facts source) (OneEndKeeps source)) one_net_facts one_net_keeps (Shows (λ q. q.timers)) (HasPlaces (λ q. q.spare)) IsPlaced (PutsLines sink) volumes
+    meaning (connections (one_end_facts source) (OneEndKeeps source)) one_net_facts one_net_keeps (Shows (λ q. q.timers)) (HasPlaces (λ q. q.spare)) IsPlaced (PutsLines sink) (line_sink_faults sink) is_broken volumes
 
 -- the terms of a run of `one`: a wait has no limit, and a connection is never closed for being quiet
 pub record AreOfOne (t : Terms) : Type 0 where

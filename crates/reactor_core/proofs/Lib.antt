@@ -30,6 +30,7 @@ pub mod Acted
 pub mod Refused
 pub mod ActsOf
 pub mod HandOver
+pub mod Frames
 pub mod Still
 pub mod Watched
 pub mod WaitNumbers

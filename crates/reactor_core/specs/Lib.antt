@@ -2,6 +2,7 @@ pub mod Handlers
 pub mod Ends
 pub mod Calls
 pub mod Stands
+pub mod Rest
 pub mod Upcalls
 pub mod Closing
 pub mod Settling

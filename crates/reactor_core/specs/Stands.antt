@@ -1,6 +1,6 @@
 -- When a one-thread reactor stands for a history: the entries that it handed over, then those that it holds
 -- (POSA2, Reactor: Initiation Dispatcher; C++NPv2 chapter 3, `ACE_Reactor`).
-use Rattle.std.specs.Prelude.{ℕ, ◌≡◌, ◌≤◌, ◌+◌, ◌^◌, true, false, List, [], ◌++◌, length, take, drop, Option, Some, None}
+use Rattle.std.specs.Prelude.{ℕ, ◌≡◌, ◌≤◌, ◌+◌, ◌^◌, Bool, true, false, List, [], ◌++◌, length, take, drop, Option, Some, None}
 use Rattle.std.specs.List.{list_any}
 use Rattle.ev_base.specs.Terms.{Terms}
 use Rattle.ev_base.specs.Net.{NetFacts, Reserves}
@@ -31,10 +31,12 @@ pub record Meaning (H M Q W V N E : Type 0) : Type 1 where
   pub places : Places → ReactorState Q → Type 0
   pub placed : ReactorState Q → Pick → Type 0
   pub watched : Terms → W → List (Entry N) → Type 0
+  pub faults : W → ℕ
+  pub is_broken : W → Bool
   pub volumes : V → VolumesFacts N
 
-abbrev pub meaning : {H M Q W V N E : Type 0} → Handling H E N → (M → NetFacts E) → (Terms → M → Type 0) → (ReactorState Q → Summary → Type 0) → (Places → ReactorState Q → Type 0) → (ReactorState Q → Pick → Type 0) → (Terms → W → List (Entry N) → Type 0) → (V → VolumesFacts N) → Meaning H M Q W V N E
-meaning means facts keeps shows places placed watched volumes = record { means = means; facts = facts; keeps = keeps; shows = shows; places = places; placed = placed; watched = watched; volumes = volumes }
+abbrev pub meaning : {H M Q W V N E : Type 0} → Handling H E N → (M → NetFacts E) → (Terms → M → Type 0) → (ReactorState Q → Summary → Type 0) → (Places → ReactorState Q → Type 0) → (ReactorState Q → Pick → Type 0) → (Terms → W → List (Entry N) → Type 0) → (W → ℕ) → (W → Bool) → (V → VolumesFacts N) → Meaning H M Q W V N E
+meaning means facts keeps shows places placed watched faults is_broken volumes = record { means = means; facts = facts; keeps = keeps; shows = shows; places = places; placed = placed; watched = watched; faults = faults; is_broken = is_broken; volumes = volumes }
 
 -- the entries held are those of the history from number F on
 pub record JournalStands {H M Q W V N E : Type 0} (core : Core H M Q W V N E) (F : ℕ) (h : List (Entry N)) : Type 0 where
@@ -173,3 +175,7 @@ pub record StandsQuiet {H M Q W V N E : Type 0} (m : Meaning H M Q W V N E) (t :
 
 abbrev pub QuietWith : {H M Q W V N E : Type 0} → Meaning H M Q W V N E → (Terms → List (Entry N) → Type 0) → Core H M Q W V N E → Type 0
 QuietWith {N = N} m P core = (t : Terms) × (F : ℕ) × (h : List (Entry N)) × StandsQuiet m t core F h × P t h
+
+-- P holds of each history that the core stands for, of which it handed the first F entries over
+abbrev pub From : {H M Q W V N E : Type 0} → Meaning H M Q W V N E → Core H M Q W V N E → (Terms → ℕ → List (Entry N) → Type 0) → Type 0
+From {N = N} m core P = (t : Terms) (F : ℕ) (h : List (Entry N)) → Stands m t core F h → P t F h

@@ -1,21 +1,20 @@
 //! What a turn asks for, once its upcall is settled.
-ghost use Rattle.std.specs.Prelude.{◌≡◌, ◌≤◌, ◌+◌, ◌++◌, ◌∷◌, [], ℕ, List, true, false};
-ghost use Rattle.ev_base.specs.Counts.{Rose};
+ghost use Rattle.std.specs.Prelude.{◌≡◌, ◌+◌, ◌++◌, ◌∷◌, [], ℕ, List, true, false};
 ghost use Rattle.ev_base.specs.Terms.{Terms};
 ghost use Rattle.reactor_journal.specs.declared.entry.Entry.{Entry};
 ghost use Rattle.reactor_journal.specs.Past.{past_of};
 ghost use Rattle.reactor_summary.specs.Summary.{summary, is_alive};
 ghost use Rattle.reactor_summary.specs.Rules.{live};
 ghost use Rattle.reactor_model.specs.Turns.{IsTimer};
-ghost use Rattle.reactor_state.specs.State.{Shows, HasPlaces, IsPlaced};
-ghost use Rattle.reactor_core.specs.Faults.{HasNotFallen};
-ghost use Rattle.reactor_core.specs.Stands.{meaning, Stands, StandsWith, StandsWithRoom};
+ghost use Rattle.reactor_core.specs.Rest.{LeavesRest};
+ghost use Rattle.reactor_core.specs.Stands.{From, Stands, StandsWith, StandsWithRoom};
 ghost use Rattle.reactor_core.specs.Registering.{IsOffered};
 ghost use Rattle.reactor_core.specs.Settling.{act_places};
 ghost use Rattle.reactor_core.specs.Upcalls.{DoneFits};
 ghost use Rattle.reactor_core.specs.Acting.{FitsAct, Acts, Installs, MayRefuse, Settles, is_mine, is_of, mask_mine, cancel_mine};
 
 use crate::append::append;
+use crate::means::Means;
 use crate::registering::has_place;
 use crate::{Core, Done};
 use ev_base::Net;
@@ -56,17 +55,10 @@ impl<
     /// itself where its own answer ended its life and else as it was removed, and `Closed` follows; else the handler goes home. Then
     /// the act of the turn is done. It takes no memory and cannot fail.
     pub fn settle(&mut self, done: Done<H>) -> Settled
-        requires { StandsWith (meaning H.means M.facts M.keeps (Shows Q.timers) (HasPlaces Q.spare) IsPlaced W.stands V.facts) (λ t h. DoneFits H.means t (past_of h) done) self.old }
-        ensures stands { (t : Terms) (F : ℕ) (h : List (Entry H.Note)) → Stands (meaning H.means M.facts M.keeps (Shows Q.timers) (HasPlaces Q.spare) IsPlaced W.stands V.facts) t self.old F h → DoneFits H.means t (past_of h) done
-            → Settles (meaning H.means M.facts M.keeps (Shows Q.timers) (HasPlaces Q.spare) IsPlaced W.stands V.facts) t F h done self.old self.new result }
-        ensures volume { self.new.volume ≡ self.old.volume }
-        ensures marks { self.new.marks ≡ self.old.marks }
-        ensures volumes { self.new.volumes ≡ self.old.volumes }
-        ensures wait_faults { HasNotFallen (M.facts self.old.net).failed_waits (M.facts self.new.net).failed_waits }
-        ensures attach_faults { HasNotFallen (M.facts self.old.net).failed_attaches (M.facts self.new.net).failed_attaches }
-        ensures watch_faults { W.faults self.old.watch ≤ W.faults self.new.watch }
-        ensures watch_stays { W.is_broken self.old.watch ≡ true → W.is_broken self.new.watch ≡ true }
-        ensures watch_breaks { W.is_broken self.old.watch ≡ false → W.is_broken self.new.watch ≡ true → Rose (W.faults self.old.watch) (W.faults self.new.watch) }
+        requires { StandsWith ⟦<Self as Means>⟧.m (λ t h. DoneFits H.means t (past_of h) done) self.old }
+        ensures stands { From ⟦<Self as Means>⟧.m self.old (λ t F h. DoneFits H.means t (past_of h) done
+            → Settles ⟦<Self as Means>⟧.m t F h done self.old self.new result) }
+        ensures rest { LeavesRest ⟦<Self as Means>⟧.m self.old self.new }
     {
         let Done {
             event,
@@ -98,17 +90,10 @@ impl<
 
     /// Does the act of a turn of the handle's handler.
     fn act(&mut self, handle: Handle, act: Option<Act<H>>)
-        requires { (t : Terms) × (F : ℕ) × (h : List (Entry H.Note)) × StandsWithRoom (meaning H.means M.facts M.keeps (Shows Q.timers) (HasPlaces Q.spare) IsPlaced W.stands V.facts) 4 act_places t self.old F h × FitsAct H.means t (past_of h) act }
-        ensures stands { (t : Terms) (F : ℕ) (h : List (Entry H.Note)) → StandsWithRoom (meaning H.means M.facts M.keeps (Shows Q.timers) (HasPlaces Q.spare) IsPlaced W.stands V.facts) 4 act_places t self.old F h → FitsAct H.means t (past_of h) act
-            → Acts (meaning H.means M.facts M.keeps (Shows Q.timers) (HasPlaces Q.spare) IsPlaced W.stands V.facts) t F h handle act self.old self.new }
-        ensures volume { self.new.volume ≡ self.old.volume }
-        ensures marks { self.new.marks ≡ self.old.marks }
-        ensures volumes { self.new.volumes ≡ self.old.volumes }
-        ensures wait_faults { HasNotFallen (M.facts self.old.net).failed_waits (M.facts self.new.net).failed_waits }
-        ensures attach_faults { HasNotFallen (M.facts self.old.net).failed_attaches (M.facts self.new.net).failed_attaches }
-        ensures watch_faults { W.faults self.old.watch ≤ W.faults self.new.watch }
-        ensures watch_stays { W.is_broken self.old.watch ≡ true → W.is_broken self.new.watch ≡ true }
-        ensures watch_breaks { W.is_broken self.old.watch ≡ false → W.is_broken self.new.watch ≡ true → Rose (W.faults self.old.watch) (W.faults self.new.watch) }
+        requires { (t : Terms) × (F : ℕ) × (h : List (Entry H.Note)) × StandsWithRoom ⟦<Self as Means>⟧.m 4 act_places t self.old F h × FitsAct H.means t (past_of h) act }
+        ensures stands { (t : Terms) (F : ℕ) (h : List (Entry H.Note)) → StandsWithRoom ⟦<Self as Means>⟧.m 4 act_places t self.old F h → FitsAct H.means t (past_of h) act
+            → Acts ⟦<Self as Means>⟧.m t F h handle act self.old self.new }
+        ensures rest { LeavesRest ⟦<Self as Means>⟧.m self.old self.new }
     {
         match act {
             None => {}
@@ -127,18 +112,11 @@ impl<
 
     /// Registers a handler that an upcall offered, or refuses it.
     fn install(&mut self, handler: H, mask: Mask, timer: Option<(u64, u64)>)
-        requires stands { (t : Terms) × (F : ℕ) × (h : List (Entry H.Note)) × StandsWithRoom (meaning H.means M.facts M.keeps (Shows Q.timers) (HasPlaces Q.spare) IsPlaced W.stands V.facts) 4 act_places t self.old F h × IsOffered H.means t (past_of h) handler }
+        requires stands { (t : Terms) × (F : ℕ) × (h : List (Entry H.Note)) × StandsWithRoom ⟦<Self as Means>⟧.m 4 act_places t self.old F h × IsOffered H.means t (past_of h) handler }
         requires timer { IsTimer timer }
-        ensures stands { (t : Terms) (F : ℕ) (h : List (Entry H.Note)) → StandsWithRoom (meaning H.means M.facts M.keeps (Shows Q.timers) (HasPlaces Q.spare) IsPlaced W.stands V.facts) 4 act_places t self.old F h → IsOffered H.means t (past_of h) handler
-            → Installs (meaning H.means M.facts M.keeps (Shows Q.timers) (HasPlaces Q.spare) IsPlaced W.stands V.facts) t F h mask timer self.old self.new }
-        ensures volume { self.new.volume ≡ self.old.volume }
-        ensures marks { self.new.marks ≡ self.old.marks }
-        ensures volumes { self.new.volumes ≡ self.old.volumes }
-        ensures wait_faults { HasNotFallen (M.facts self.old.net).failed_waits (M.facts self.new.net).failed_waits }
-        ensures attach_faults { HasNotFallen (M.facts self.old.net).failed_attaches (M.facts self.new.net).failed_attaches }
-        ensures watch_faults { W.faults self.old.watch ≤ W.faults self.new.watch }
-        ensures watch_stays { W.is_broken self.old.watch ≡ true → W.is_broken self.new.watch ≡ true }
-        ensures watch_breaks { W.is_broken self.old.watch ≡ false → W.is_broken self.new.watch ≡ true → Rose (W.faults self.old.watch) (W.faults self.new.watch) }
+        ensures stands { (t : Terms) (F : ℕ) (h : List (Entry H.Note)) → StandsWithRoom ⟦<Self as Means>⟧.m 4 act_places t self.old F h → IsOffered H.means t (past_of h) handler
+            → Installs ⟦<Self as Means>⟧.m t F h mask timer self.old self.new }
+        ensures rest { LeavesRest ⟦<Self as Means>⟧.m self.old self.new }
     {
         if self.state.is_ended() {
             self.refuse(handler, false);
@@ -158,20 +136,13 @@ impl<
 
     /// Closes a handler that is not registered, and turns its end away.
     fn refuse(&mut self, handler: H, fault: bool)
-        requires { (t : Terms) × (F : ℕ) × (h : List (Entry H.Note)) × StandsWithRoom (meaning H.means M.facts M.keeps (Shows Q.timers) (HasPlaces Q.spare) IsPlaced W.stands V.facts) 4 act_places t self.old F h × IsOffered H.means t (past_of h) handler
-            × MayRefuse (meaning H.means M.facts M.keeps (Shows Q.timers) (HasPlaces Q.spare) IsPlaced W.stands V.facts) t.most self.old (past_of h) fault }
-        ensures stands { (t : Terms) (F : ℕ) (h : List (Entry H.Note)) → StandsWithRoom (meaning H.means M.facts M.keeps (Shows Q.timers) (HasPlaces Q.spare) IsPlaced W.stands V.facts) 4 act_places t self.old F h → IsOffered H.means t (past_of h) handler
-            → MayRefuse (meaning H.means M.facts M.keeps (Shows Q.timers) (HasPlaces Q.spare) IsPlaced W.stands V.facts) t.most self.old (past_of h) fault
-            → (note : H.Note) × Stands (meaning H.means M.facts M.keeps (Shows Q.timers) (HasPlaces Q.spare) IsPlaced W.stands V.facts) t self.new F (h ++ Entry.Refused (live (summary (past_of h))) fault note ∷ []) }
+        requires { (t : Terms) × (F : ℕ) × (h : List (Entry H.Note)) × StandsWithRoom ⟦<Self as Means>⟧.m 4 act_places t self.old F h × IsOffered H.means t (past_of h) handler
+            × MayRefuse ⟦<Self as Means>⟧.m t.most self.old (past_of h) fault }
+        ensures stands { (t : Terms) (F : ℕ) (h : List (Entry H.Note)) → StandsWithRoom ⟦<Self as Means>⟧.m 4 act_places t self.old F h → IsOffered H.means t (past_of h) handler
+            → MayRefuse ⟦<Self as Means>⟧.m t.most self.old (past_of h) fault
+            → (note : H.Note) × Stands ⟦<Self as Means>⟧.m t self.new F (h ++ Entry.Refused (live (summary (past_of h))) fault note ∷ []) }
         ensures faults { (M.facts self.new.net).failed_attaches ≡ (M.facts self.old.net).failed_attaches }
-        ensures volume { self.new.volume ≡ self.old.volume }
-        ensures marks { self.new.marks ≡ self.old.marks }
-        ensures volumes { self.new.volumes ≡ self.old.volumes }
-        ensures wait_faults { HasNotFallen (M.facts self.old.net).failed_waits (M.facts self.new.net).failed_waits }
-        ensures attach_faults { HasNotFallen (M.facts self.old.net).failed_attaches (M.facts self.new.net).failed_attaches }
-        ensures watch_faults { W.faults self.old.watch ≤ W.faults self.new.watch }
-        ensures watch_stays { W.is_broken self.old.watch ≡ true → W.is_broken self.new.watch ≡ true }
-        ensures watch_breaks { W.is_broken self.old.watch ≡ false → W.is_broken self.new.watch ≡ true → Rose (W.faults self.old.watch) (W.faults self.new.watch) }
+        ensures rest { LeavesRest ⟦<Self as Means>⟧.m self.old self.new }
     {
         let live = self.state.live();
         let (end, note) = handler.handle_close(Why::Refused);
@@ -186,17 +157,10 @@ impl<
 
     /// Changes the mask of a handle where it is alive.
     fn mask_mine(&mut self, handle: Handle, mask: Mask)
-        requires { (t : Terms) × (F : ℕ) × (h : List (Entry H.Note)) × StandsWithRoom (meaning H.means M.facts M.keeps (Shows Q.timers) (HasPlaces Q.spare) IsPlaced W.stands V.facts) 4 act_places t self.old F h }
-        ensures stands { (t : Terms) (F : ℕ) (h : List (Entry H.Note)) → StandsWithRoom (meaning H.means M.facts M.keeps (Shows Q.timers) (HasPlaces Q.spare) IsPlaced W.stands V.facts) 4 act_places t self.old F h
-            → Stands (meaning H.means M.facts M.keeps (Shows Q.timers) (HasPlaces Q.spare) IsPlaced W.stands V.facts) t self.new F (h ++ mask_mine (is_alive (summary (past_of h)) handle.0) handle mask) }
-        ensures volume { self.new.volume ≡ self.old.volume }
-        ensures marks { self.new.marks ≡ self.old.marks }
-        ensures volumes { self.new.volumes ≡ self.old.volumes }
-        ensures wait_faults { HasNotFallen (M.facts self.old.net).failed_waits (M.facts self.new.net).failed_waits }
-        ensures attach_faults { HasNotFallen (M.facts self.old.net).failed_attaches (M.facts self.new.net).failed_attaches }
-        ensures watch_faults { W.faults self.old.watch ≤ W.faults self.new.watch }
-        ensures watch_stays { W.is_broken self.old.watch ≡ true → W.is_broken self.new.watch ≡ true }
-        ensures watch_breaks { W.is_broken self.old.watch ≡ false → W.is_broken self.new.watch ≡ true → Rose (W.faults self.old.watch) (W.faults self.new.watch) }
+        requires { (t : Terms) × (F : ℕ) × (h : List (Entry H.Note)) × StandsWithRoom ⟦<Self as Means>⟧.m 4 act_places t self.old F h }
+        ensures stands { (t : Terms) (F : ℕ) (h : List (Entry H.Note)) → StandsWithRoom ⟦<Self as Means>⟧.m 4 act_places t self.old F h
+            → Stands ⟦<Self as Means>⟧.m t self.new F (h ++ mask_mine (is_alive (summary (past_of h)) handle.0) handle mask) }
+        ensures rest { LeavesRest ⟦<Self as Means>⟧.m self.old self.new }
     {
         if !self.state.is_alive(handle) {
             return;
@@ -212,17 +176,10 @@ impl<
 
     /// Takes a timer away where it is one of the handle.
     fn cancel_mine(&mut self, handle: Handle, timer: u64)
-        requires { (t : Terms) × (F : ℕ) × (h : List (Entry H.Note)) × StandsWithRoom (meaning H.means M.facts M.keeps (Shows Q.timers) (HasPlaces Q.spare) IsPlaced W.stands V.facts) 4 act_places t self.old F h }
-        ensures stands { (t : Terms) (F : ℕ) (h : List (Entry H.Note)) → StandsWithRoom (meaning H.means M.facts M.keeps (Shows Q.timers) (HasPlaces Q.spare) IsPlaced W.stands V.facts) 4 act_places t self.old F h
-            → Stands (meaning H.means M.facts M.keeps (Shows Q.timers) (HasPlaces Q.spare) IsPlaced W.stands V.facts) t self.new F (h ++ cancel_mine (is_mine (summary (past_of h)) handle.0 timer) timer) }
-        ensures volume { self.new.volume ≡ self.old.volume }
-        ensures marks { self.new.marks ≡ self.old.marks }
-        ensures volumes { self.new.volumes ≡ self.old.volumes }
-        ensures wait_faults { HasNotFallen (M.facts self.old.net).failed_waits (M.facts self.new.net).failed_waits }
-        ensures attach_faults { HasNotFallen (M.facts self.old.net).failed_attaches (M.facts self.new.net).failed_attaches }
-        ensures watch_faults { W.faults self.old.watch ≤ W.faults self.new.watch }
-        ensures watch_stays { W.is_broken self.old.watch ≡ true → W.is_broken self.new.watch ≡ true }
-        ensures watch_breaks { W.is_broken self.old.watch ≡ false → W.is_broken self.new.watch ≡ true → Rose (W.faults self.old.watch) (W.faults self.new.watch) }
+        requires { (t : Terms) × (F : ℕ) × (h : List (Entry H.Note)) × StandsWithRoom ⟦<Self as Means>⟧.m 4 act_places t self.old F h }
+        ensures stands { (t : Terms) (F : ℕ) (h : List (Entry H.Note)) → StandsWithRoom ⟦<Self as Means>⟧.m 4 act_places t self.old F h
+            → Stands ⟦<Self as Means>⟧.m t self.new F (h ++ cancel_mine (is_mine (summary (past_of h)) handle.0 timer) timer) }
+        ensures rest { LeavesRest ⟦<Self as Means>⟧.m self.old self.new }
     {
         if !self.is_mine(handle, timer) {
             return;
@@ -237,7 +194,7 @@ impl<
 
     /// Whether a timer is one of the handle, and is armed or has an event that waits to be started.
     fn is_mine(&self, handle: Handle, timer: u64) -> bool
-        ensures { (t : Terms) (F : ℕ) (h : List (Entry H.Note)) → Stands (meaning H.means M.facts M.keeps (Shows Q.timers) (HasPlaces Q.spare) IsPlaced W.stands V.facts) t self.now F h → result ≡ is_mine (summary (past_of h)) handle.0 timer }
+        ensures { From ⟦<Self as Means>⟧.m self.now (λ t F h. result ≡ is_mine (summary (past_of h)) handle.0 timer) }
     {
         is_of(handle, self.state.armed_handle(timer))
             || is_of(handle, self.state.timeout_handle(timer))

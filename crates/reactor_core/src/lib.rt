@@ -1,5 +1,5 @@
 //! The one-thread reactor (POSA2, Reactor: Initiation Dispatcher; C++NPv2 chapter 3, `ACE_Reactor`).
-#![tactic(auto)]
+#![tactic(auto, using(crate::proofs::Frames::rest_goes_on, crate::proofs::Frames::counts_go_on, crate::proofs::Frames::counts_of))]
 
 mod acting;
 mod append;
@@ -7,6 +7,7 @@ mod closing;
 mod job;
 pub mod laws;
 mod marks;
+mod means;
 mod polling;
 mod postings;
 mod reactor;
@@ -21,6 +22,7 @@ mod volumes;
 
 pub use acting::Settled;
 pub use job::{Done, Job};
+pub use means::Means;
 pub use polling::{PollRefused, Polled};
 pub use postings::PostRefused;
 pub use reactor::{Core, Parts};

@@ -1,5 +1,5 @@
 //! The wait for events, and their entries.
-ghost use Rattle.std.specs.Prelude.{◌≡◌, ◌≤◌, ◌<◌, ◌+◌, ◌++◌, ◌↔◌, ℕ, List, map, filter, length, true, None, OnOk, OnErr, IfOk, IfSome, IfNone, false};
+ghost use Rattle.std.specs.Prelude.{◌≡◌, ◌≤◌, ◌<◌, ◌+◌, ◌++◌, ◌↔◌, ℕ, List, map, filter, length, true, None, OnOk, OnErr, IfOk, IfSome, IfNone};
 ghost use Rattle.ev_base.specs.Counts.{Rose};
 ghost use Rattle.ev_base.specs.Net.{NetWaits};
 ghost use Rattle.ev_base.specs.Terms.{Terms};
@@ -8,16 +8,16 @@ ghost use Rattle.reactor_journal.specs.declared.entry.Entry.{Entry};
 ghost use Rattle.reactor_journal.specs.Past.{past_of, count};
 ghost use Rattle.reactor_summary.specs.Summary.{Summary, summary};
 ghost use Rattle.reactor_core.specs.Calls.{least_limit, is_taken};
-ghost use Rattle.reactor_core.specs.Faults.{HasNotFallen};
-ghost use Rattle.reactor_core.specs.Stands.{meaning, Stands, StandsWith, StandsAsBefore, Keeps, HasRoom};
+ghost use Rattle.reactor_core.specs.Rest.{LeavesRest, CountsHold};
+ghost use Rattle.reactor_core.specs.Stands.{From, Stands, StandsWith, StandsAsBefore, Keeps, HasRoom};
 ghost use Rattle.reactor_core.specs.Marks.{is_polled, marks_after, marks_found, marks_polled};
 ghost use Rattle.reactor_core.specs.Polling.{FitsLimit, name_of, ready_of, Polls, WaitsOnce};
 ghost use Rattle.reactor_core.specs.Taking.{moment_of, count_of, event_places, MayWait, WaitGives, IsTakingDues, TakesDues, IsTakingReports, HasTakenReports};
-ghost use Rattle.reactor_state.specs.State.{Shows, HasPlaces, IsPlaced};
 
 use crate::Core;
 use crate::append::append;
 use crate::marks::marked;
+use crate::means::Means;
 use ev_base::{Net, Waited};
 use ev_types::NoMemory;
 use reactor_model::{Entry, EventHandler, Volumes, Watch};
@@ -111,24 +111,16 @@ impl<
     /// events that a wait may bring. `NetFailed` comes only where the net's count of failed waits rose. After an Err the journal,
     /// the handlers and the timers are as before.
     pub fn poll(&mut self, most_ms: Option<u64>) -> Result<Polled, PollRefused>
-        requires stands { StandsWith (meaning H.means M.facts M.keeps (Shows Q.timers) (HasPlaces Q.spare) IsPlaced W.stands V.facts) (λ t h. FitsLimit t most_ms) self.old }
-        ensures ok { IfOk result (λ polled. (t : Terms) (F : ℕ) (h : List (Entry H.Note)) → Stands (meaning H.means M.facts M.keeps (Shows Q.timers) (HasPlaces Q.spare) IsPlaced W.stands V.facts) t self.old F h
-            → FitsLimit t most_ms → Polls (meaning H.means M.facts M.keeps (Shows Q.timers) (HasPlaces Q.spare) IsPlaced W.stands V.facts) t F h most_ms polled self.old self.new) }
-        ensures err { OnErr result (StandsAsBefore (meaning H.means M.facts M.keeps (Shows Q.timers) (HasPlaces Q.spare) IsPlaced W.stands V.facts) self.old self.new) }
-        ensures stopped { (t : Terms) (F : ℕ) (h : List (Entry H.Note)) → Stands (meaning H.means M.facts M.keeps (Shows Q.timers) (HasPlaces Q.spare) IsPlaced W.stands V.facts) t self.old F h
-            → (result ≡ Err PollRefused.Stopped) ↔ ((summary (past_of h)).ended ≡ true) }
+        requires stands { StandsWith ⟦<Self as Means>⟧.m (λ t h. FitsLimit t most_ms) self.old }
+        ensures ok { IfOk result (λ polled. From ⟦<Self as Means>⟧.m self.old (λ t F h. FitsLimit t most_ms → Polls ⟦<Self as Means>⟧.m t F h most_ms polled self.old self.new)) }
+        ensures err { OnErr result (StandsAsBefore ⟦<Self as Means>⟧.m self.old self.new) }
+        ensures stopped { From ⟦<Self as Means>⟧.m self.old (λ t F h. (result ≡ Err PollRefused.Stopped) ↔ ((summary (past_of h)).ended ≡ true)) }
         ensures failed { result ≡ Err PollRefused.NetFailed → Rose (M.facts self.old.net).failed_waits (M.facts self.new.net).failed_waits }
-        ensures volume { self.new.volume ≡ self.old.volume }
+        ensures counts { CountsHold ⟦<Self as Means>⟧.m self.old self.new }
         ensures marks { self.new.marks ≡ marks_polled result self.old.marks }
         ensures over { self.old.marks.over ≤ self.new.marks.over }
-        ensures number { (t : Terms) (F : ℕ) (h : List (Entry H.Note)) → Stands (meaning H.means M.facts M.keeps (Shows Q.timers) (HasPlaces Q.spare) IsPlaced W.stands V.facts) t self.new F h
-            → result ≡ Ok Polled.Over → self.new.marks.over ≡ count is_polled (past_of h) }
+        ensures number { From ⟦<Self as Means>⟧.m self.new (λ t F h. result ≡ Ok Polled.Over → self.new.marks.over ≡ count is_polled (past_of h)) }
         ensures volumes { self.new.volumes ≡ self.old.volumes }
-        ensures wait_faults { HasNotFallen (M.facts self.old.net).failed_waits (M.facts self.new.net).failed_waits }
-        ensures attach_faults { HasNotFallen (M.facts self.old.net).failed_attaches (M.facts self.new.net).failed_attaches }
-        ensures watch_faults { W.faults self.old.watch ≤ W.faults self.new.watch }
-        ensures watch_stays { W.is_broken self.old.watch ≡ true → W.is_broken self.new.watch ≡ true }
-        ensures watch_breaks { W.is_broken self.old.watch ≡ false → W.is_broken self.new.watch ≡ true → Rose (W.faults self.old.watch) (W.faults self.new.watch) }
     {
         if self.state.is_ended() {
             return Err(PollRefused::Stopped);
@@ -147,17 +139,9 @@ impl<
 
     /// Makes room for the entries of a wait, with so many timers, and for their events.
     fn make_poll_room(&mut self, armed: usize) -> Result<(), NoMemory>
-        ensures kept { Keeps (meaning H.means M.facts M.keeps (Shows Q.timers) (HasPlaces Q.spare) IsPlaced W.stands V.facts) self.old self.new }
-        ensures room { OnOk result ((t : Terms) (F : ℕ) (h : List (Entry H.Note)) → Stands (meaning H.means M.facts M.keeps (Shows Q.timers) (HasPlaces Q.spare) IsPlaced W.stands V.facts) t self.old F h
-            → HasRoom (meaning H.means M.facts M.keeps (Shows Q.timers) (HasPlaces Q.spare) IsPlaced W.stands V.facts) (armed + 257) (event_places armed 256) self.new (summary (past_of h))) }
-        ensures volume { self.new.volume ≡ self.old.volume }
-        ensures marks { self.new.marks ≡ self.old.marks }
-        ensures volumes { self.new.volumes ≡ self.old.volumes }
-        ensures wait_faults { HasNotFallen (M.facts self.old.net).failed_waits (M.facts self.new.net).failed_waits }
-        ensures attach_faults { HasNotFallen (M.facts self.old.net).failed_attaches (M.facts self.new.net).failed_attaches }
-        ensures watch_faults { W.faults self.old.watch ≤ W.faults self.new.watch }
-        ensures watch_stays { W.is_broken self.old.watch ≡ true → W.is_broken self.new.watch ≡ true }
-        ensures watch_breaks { W.is_broken self.old.watch ≡ false → W.is_broken self.new.watch ≡ true → Rose (W.faults self.old.watch) (W.faults self.new.watch) }
+        ensures kept { Keeps ⟦<Self as Means>⟧.m self.old self.new }
+        ensures room { OnOk result (From ⟦<Self as Means>⟧.m self.old (λ t F h. HasRoom ⟦<Self as Means>⟧.m (armed + 257) (event_places armed 256) self.new (summary (past_of h)))) }
+        ensures rest { LeavesRest ⟦<Self as Means>⟧.m self.old self.new }
     {
         let Some(entries) = armed.checked_add(MOST_REPORTS + 1) else {
             return Err(NoMemory);
@@ -176,19 +160,14 @@ impl<
 
     /// Makes one wait, with so many armed timers, and appends its entries. None comes exactly where the wait failed.
     fn take_events(&mut self, limit: Option<u64>, armed: usize) -> Option<Polled>
-        requires { (t : Terms) × (F : ℕ) × (h : List (Entry H.Note)) × MayWait (meaning H.means M.facts M.keeps (Shows Q.timers) (HasPlaces Q.spare) IsPlaced W.stands V.facts) armed limit t self.old F h }
-        ensures waits { IfSome result (λ polled. (t : Terms) (F : ℕ) (h : List (Entry H.Note)) → MayWait (meaning H.means M.facts M.keeps (Shows Q.timers) (HasPlaces Q.spare) IsPlaced W.stands V.facts) armed limit t self.old F h
-            → WaitsOnce (meaning H.means M.facts M.keeps (Shows Q.timers) (HasPlaces Q.spare) IsPlaced W.stands V.facts) t F h limit polled (M.facts self.old.net) self.new) }
-        ensures stands { IfNone result (StandsAsBefore (meaning H.means M.facts M.keeps (Shows Q.timers) (HasPlaces Q.spare) IsPlaced W.stands V.facts) self.old self.new) }
+        requires { (t : Terms) × (F : ℕ) × (h : List (Entry H.Note)) × MayWait ⟦<Self as Means>⟧.m armed limit t self.old F h }
+        ensures waits { IfSome result (λ polled. (t : Terms) (F : ℕ) (h : List (Entry H.Note)) → MayWait ⟦<Self as Means>⟧.m armed limit t self.old F h
+            → WaitsOnce ⟦<Self as Means>⟧.m t F h limit polled (M.facts self.old.net) self.new) }
+        ensures stands { IfNone result (StandsAsBefore ⟦<Self as Means>⟧.m self.old self.new) }
         ensures rose { IfNone result (Rose (M.facts self.old.net).failed_waits (M.facts self.new.net).failed_waits) }
-        ensures volume { self.new.volume ≡ self.old.volume }
+        ensures counts { CountsHold ⟦<Self as Means>⟧.m self.old self.new }
         ensures marks { self.new.marks ≡ marks_found result self.old.marks }
         ensures volumes { self.new.volumes ≡ self.old.volumes }
-        ensures wait_faults { HasNotFallen (M.facts self.old.net).failed_waits (M.facts self.new.net).failed_waits }
-        ensures attach_faults { HasNotFallen (M.facts self.old.net).failed_attaches (M.facts self.new.net).failed_attaches }
-        ensures watch_faults { W.faults self.old.watch ≤ W.faults self.new.watch }
-        ensures watch_stays { W.is_broken self.old.watch ≡ true → W.is_broken self.new.watch ≡ true }
-        ensures watch_breaks { W.is_broken self.old.watch ≡ false → W.is_broken self.new.watch ≡ true → Rose (W.faults self.old.watch) (W.faults self.new.watch) }
     {
         let answer = self.wait_for(limit);
         let Some(polled) = name_of(answer) else {
@@ -201,19 +180,14 @@ impl<
 
     /// Makes one wait, and appends its `Polled` where it did not fail.
     fn wait_for(&mut self, limit: Option<u64>) -> Waited
-        requires { (t : Terms) × (F : ℕ) × (h : List (Entry H.Note)) × (armed : ℕ) × MayWait (meaning H.means M.facts M.keeps (Shows Q.timers) (HasPlaces Q.spare) IsPlaced W.stands V.facts) armed limit t self.old F h }
+        requires { (t : Terms) × (F : ℕ) × (h : List (Entry H.Note)) × (armed : ℕ) × MayWait ⟦<Self as Means>⟧.m armed limit t self.old F h }
         ensures waits { NetWaits (M.facts self.old.net) limit result (M.facts self.new.net) }
-        ensures gives { (t : Terms) (F : ℕ) (h : List (Entry H.Note)) (armed : ℕ) → MayWait (meaning H.means M.facts M.keeps (Shows Q.timers) (HasPlaces Q.spare) IsPlaced W.stands V.facts) armed limit t self.old F h
-            → WaitGives (meaning H.means M.facts M.keeps (Shows Q.timers) (HasPlaces Q.spare) IsPlaced W.stands V.facts) armed t F h (moment_of result) self.new }
-        ensures failed { moment_of result ≡ None → StandsAsBefore (meaning H.means M.facts M.keeps (Shows Q.timers) (HasPlaces Q.spare) IsPlaced W.stands V.facts) self.old self.new }
-        ensures volume { self.new.volume ≡ self.old.volume }
+        ensures gives { (t : Terms) (F : ℕ) (h : List (Entry H.Note)) (armed : ℕ) → MayWait ⟦<Self as Means>⟧.m armed limit t self.old F h
+            → WaitGives ⟦<Self as Means>⟧.m armed t F h (moment_of result) self.new }
+        ensures failed { moment_of result ≡ None → StandsAsBefore ⟦<Self as Means>⟧.m self.old self.new }
+        ensures counts { CountsHold ⟦<Self as Means>⟧.m self.old self.new }
         ensures marks { self.new.marks ≡ marks_after result self.old.marks }
         ensures volumes { self.new.volumes ≡ self.old.volumes }
-        ensures wait_faults { HasNotFallen (M.facts self.old.net).failed_waits (M.facts self.new.net).failed_waits }
-        ensures attach_faults { HasNotFallen (M.facts self.old.net).failed_attaches (M.facts self.new.net).failed_attaches }
-        ensures watch_faults { W.faults self.old.watch ≤ W.faults self.new.watch }
-        ensures watch_stays { W.is_broken self.old.watch ≡ true → W.is_broken self.new.watch ≡ true }
-        ensures watch_breaks { W.is_broken self.old.watch ≡ false → W.is_broken self.new.watch ≡ true → Rose (W.faults self.old.watch) (W.faults self.new.watch) }
     {
         let answer = self.net.wait(limit);
         let Some(now) = moment_of(answer) else {
@@ -228,19 +202,12 @@ impl<
     /// Appends a `Due` for each timer whose deadline is reached, of which there are at most so many.
     fn take_dues(&mut self, most: usize)
         requires { (t : Terms) × (F : ℕ) × (h : List (Entry H.Note)) × (s : Summary) × (events : ℕ) × (pending : List Report)
-            × IsTakingDues (meaning H.means M.facts M.keeps (Shows Q.timers) (HasPlaces Q.spare) IsPlaced W.stands V.facts) s most events t self.old F h pending }
+            × IsTakingDues ⟦<Self as Means>⟧.m s most events t self.old F h pending }
         ensures dues { (t : Terms) (F : ℕ) (h : List (Entry H.Note)) (s : Summary) (events : ℕ) (pending : List Report)
-            → IsTakingDues (meaning H.means M.facts M.keeps (Shows Q.timers) (HasPlaces Q.spare) IsPlaced W.stands V.facts) s most events t self.old F h pending
-            → TakesDues (meaning H.means M.facts M.keeps (Shows Q.timers) (HasPlaces Q.spare) IsPlaced W.stands V.facts) s events t self.new F h pending }
+            → IsTakingDues ⟦<Self as Means>⟧.m s most events t self.old F h pending
+            → TakesDues ⟦<Self as Means>⟧.m s events t self.new F h pending }
         ensures net { self.new.net ≡ self.old.net }
-        ensures volume { self.new.volume ≡ self.old.volume }
-        ensures marks { self.new.marks ≡ self.old.marks }
-        ensures volumes { self.new.volumes ≡ self.old.volumes }
-        ensures wait_faults { HasNotFallen (M.facts self.old.net).failed_waits (M.facts self.new.net).failed_waits }
-        ensures attach_faults { HasNotFallen (M.facts self.old.net).failed_attaches (M.facts self.new.net).failed_attaches }
-        ensures watch_faults { W.faults self.old.watch ≤ W.faults self.new.watch }
-        ensures watch_stays { W.is_broken self.old.watch ≡ true → W.is_broken self.new.watch ≡ true }
-        ensures watch_breaks { W.is_broken self.old.watch ≡ false → W.is_broken self.new.watch ≡ true → Rose (W.faults self.old.watch) (W.faults self.new.watch) }
+        ensures rest { LeavesRest ⟦<Self as Means>⟧.m self.old self.new }
     {
         let mut left = most;
         while left > 0 {
@@ -255,22 +222,15 @@ impl<
     /// Appends a `Ready` for each report of the wait that is taken.
     fn take_reports(&mut self, count: usize)
         requires stands { (t : Terms) × (F : ℕ) × (h : List (Entry H.Note)) × (s : Summary) × (left : ℕ)
-            × IsTakingReports (meaning H.means M.facts M.keeps (Shows Q.timers) (HasPlaces Q.spare) IsPlaced W.stands V.facts) s left t self.old F h (filter (is_taken s) (M.facts self.old.net).reports)
+            × IsTakingReports ⟦<Self as Means>⟧.m s left t self.old F h (filter (is_taken s) (M.facts self.old.net).reports)
             × (count ≤ left) }
         requires all { count ≡ length (M.facts self.old.net).reports }
         ensures stands { (t : Terms) (F : ℕ) (h : List (Entry H.Note)) (s : Summary) (left : ℕ)
-            → IsTakingReports (meaning H.means M.facts M.keeps (Shows Q.timers) (HasPlaces Q.spare) IsPlaced W.stands V.facts) s left t self.old F h (filter (is_taken s) (M.facts self.old.net).reports)
+            → IsTakingReports ⟦<Self as Means>⟧.m s left t self.old F h (filter (is_taken s) (M.facts self.old.net).reports)
             → count ≤ left
-            → Stands (meaning H.means M.facts M.keeps (Shows Q.timers) (HasPlaces Q.spare) IsPlaced W.stands V.facts) t self.new F (h ++ map ready_of (filter (is_taken s) (M.facts self.old.net).reports)) }
+            → Stands ⟦<Self as Means>⟧.m t self.new F (h ++ map ready_of (filter (is_taken s) (M.facts self.old.net).reports)) }
         ensures net { self.new.net ≡ self.old.net }
-        ensures volume { self.new.volume ≡ self.old.volume }
-        ensures marks { self.new.marks ≡ self.old.marks }
-        ensures volumes { self.new.volumes ≡ self.old.volumes }
-        ensures wait_faults { HasNotFallen (M.facts self.old.net).failed_waits (M.facts self.new.net).failed_waits }
-        ensures attach_faults { HasNotFallen (M.facts self.old.net).failed_attaches (M.facts self.new.net).failed_attaches }
-        ensures watch_faults { W.faults self.old.watch ≤ W.faults self.new.watch }
-        ensures watch_stays { W.is_broken self.old.watch ≡ true → W.is_broken self.new.watch ≡ true }
-        ensures watch_breaks { W.is_broken self.old.watch ≡ false → W.is_broken self.new.watch ≡ true → Rose (W.faults self.old.watch) (W.faults self.new.watch) }
+        ensures rest { LeavesRest ⟦<Self as Means>⟧.m self.old self.new }
     {
         for at in 0..count {
             self.take_report(at);
@@ -281,19 +241,12 @@ impl<
     fn take_report(&mut self, at: usize)
         requires within { at < length (M.facts self.old.net).reports }
         requires stands { (t : Terms) × (F : ℕ) × (h : List (Entry H.Note)) × (s : Summary)
-            × HasTakenReports (meaning H.means M.facts M.keeps (Shows Q.timers) (HasPlaces Q.spare) IsPlaced W.stands V.facts) s (M.facts self.old.net).reports at t self.old F h }
+            × HasTakenReports ⟦<Self as Means>⟧.m s (M.facts self.old.net).reports at t self.old F h }
         ensures stands { (t : Terms) (F : ℕ) (h : List (Entry H.Note)) (s : Summary)
-            → HasTakenReports (meaning H.means M.facts M.keeps (Shows Q.timers) (HasPlaces Q.spare) IsPlaced W.stands V.facts) s (M.facts self.old.net).reports at t self.old F h
-            → HasTakenReports (meaning H.means M.facts M.keeps (Shows Q.timers) (HasPlaces Q.spare) IsPlaced W.stands V.facts) s (M.facts self.old.net).reports (at + 1) t self.new F h }
+            → HasTakenReports ⟦<Self as Means>⟧.m s (M.facts self.old.net).reports at t self.old F h
+            → HasTakenReports ⟦<Self as Means>⟧.m s (M.facts self.old.net).reports (at + 1) t self.new F h }
         ensures net { self.new.net ≡ self.old.net }
-        ensures volume { self.new.volume ≡ self.old.volume }
-        ensures marks { self.new.marks ≡ self.old.marks }
-        ensures volumes { self.new.volumes ≡ self.old.volumes }
-        ensures wait_faults { HasNotFallen (M.facts self.old.net).failed_waits (M.facts self.new.net).failed_waits }
-        ensures attach_faults { HasNotFallen (M.facts self.old.net).failed_attaches (M.facts self.new.net).failed_attaches }
-        ensures watch_faults { W.faults self.old.watch ≤ W.faults self.new.watch }
-        ensures watch_stays { W.is_broken self.old.watch ≡ true → W.is_broken self.new.watch ≡ true }
-        ensures watch_breaks { W.is_broken self.old.watch ≡ false → W.is_broken self.new.watch ≡ true → Rose (W.faults self.old.watch) (W.faults self.new.watch) }
+        ensures rest { LeavesRest ⟦<Self as Means>⟧.m self.old self.new }
     {
         let report = self.net.report(at);
         if !self.state.is_wanted(report.handle, report.kind) {

@@ -1,18 +1,16 @@
 //! Notifications that are posted to event handlers.
-ghost use Rattle.std.specs.Prelude.{◌≡◌, ◌<◌, ◌≤◌, ◌+◌, ◌-◌, ◌++◌, ◌∷◌, [], ℕ, List, OnOk, OnErr, false, true};
-ghost use Rattle.ev_base.specs.Counts.{Rose};
-ghost use Rattle.ev_base.specs.Terms.{Terms};
+ghost use Rattle.std.specs.Prelude.{◌≡◌, ◌<◌, ◌+◌, ◌-◌, ◌++◌, ◌∷◌, [], OnOk, OnErr, false};
 ghost use Rattle.reactor_journal.specs.declared.entry.Entry.{Entry};
 ghost use Rattle.reactor_journal.specs.Past.{past_of};
 ghost use Rattle.reactor_summary.specs.Summary.{summary};
-ghost use Rattle.reactor_core.specs.Faults.{HasNotFallen};
-ghost use Rattle.reactor_core.specs.Stands.{meaning, Stands, IsStanding, StandsWith, StandsAsBefore, HasRoom, Keeps};
+ghost use Rattle.reactor_core.specs.Rest.{LeavesRest};
+ghost use Rattle.reactor_core.specs.Stands.{From, Stands, IsStanding, StandsWith, StandsAsBefore, HasRoom, Keeps};
 ghost use Rattle.reactor_core.specs.Requests.{GoesOnBy, WhereStanding};
 ghost use Rattle.reactor_core.specs.Postings.{posting, post_places, IsPostAnswer};
-ghost use Rattle.reactor_state.specs.State.{Shows, HasPlaces, IsPlaced};
 
 use crate::Core;
 use crate::append::append;
+use crate::means::Means;
 use ev_base::Net;
 use ev_types::{Handle, Kind, NoMemory};
 use reactor_model::{Entry, EventHandler, Volumes, Watch};
@@ -54,18 +52,11 @@ impl<
         from: u64,
         seq: u64,
     ) -> Result<(), PostRefused>
-        requires stands { IsStanding (meaning H.means M.facts M.keeps (Shows Q.timers) (HasPlaces Q.spare) IsPlaced W.stands V.facts) self.old }
-        ensures ok { OnOk result (GoesOnBy (meaning H.means M.facts M.keeps (Shows Q.timers) (HasPlaces Q.spare) IsPlaced W.stands V.facts) self.old (λ s. posting s handle kind from seq) self.new) }
-        ensures err { OnErr result (StandsAsBefore (meaning H.means M.facts M.keeps (Shows Q.timers) (HasPlaces Q.spare) IsPlaced W.stands V.facts) self.old self.new) }
-        ensures cause { WhereStanding (meaning H.means M.facts M.keeps (Shows Q.timers) (HasPlaces Q.spare) IsPlaced W.stands V.facts) self.old (λ s. IsPostAnswer s result) }
-        ensures volume { self.new.volume ≡ self.old.volume }
-        ensures marks { self.new.marks ≡ self.old.marks }
-        ensures volumes { self.new.volumes ≡ self.old.volumes }
-        ensures wait_faults { HasNotFallen (M.facts self.old.net).failed_waits (M.facts self.new.net).failed_waits }
-        ensures attach_faults { HasNotFallen (M.facts self.old.net).failed_attaches (M.facts self.new.net).failed_attaches }
-        ensures watch_faults { W.faults self.old.watch ≤ W.faults self.new.watch }
-        ensures watch_stays { W.is_broken self.old.watch ≡ true → W.is_broken self.new.watch ≡ true }
-        ensures watch_breaks { W.is_broken self.old.watch ≡ false → W.is_broken self.new.watch ≡ true → Rose (W.faults self.old.watch) (W.faults self.new.watch) }
+        requires stands { IsStanding ⟦<Self as Means>⟧.m self.old }
+        ensures ok { OnOk result (GoesOnBy ⟦<Self as Means>⟧.m self.old (λ s. posting s handle kind from seq) self.new) }
+        ensures err { OnErr result (StandsAsBefore ⟦<Self as Means>⟧.m self.old self.new) }
+        ensures cause { WhereStanding ⟦<Self as Means>⟧.m self.old (λ s. IsPostAnswer s result) }
+        ensures rest { LeavesRest ⟦<Self as Means>⟧.m self.old self.new }
     {
         if self.state.is_ended() {
             return Err(PostRefused::Stopped);
@@ -81,18 +72,11 @@ impl<
     /// Makes room for one notification, beside what is owed. Nothing changes but the room: after `NoMemory` there is no less of it
     /// than before.
     pub fn reserve_post(&mut self) -> Result<(), NoMemory>
-        ensures kept { Keeps (meaning H.means M.facts M.keeps (Shows Q.timers) (HasPlaces Q.spare) IsPlaced W.stands V.facts) self.old self.new }
-        ensures stands { StandsAsBefore (meaning H.means M.facts M.keeps (Shows Q.timers) (HasPlaces Q.spare) IsPlaced W.stands V.facts) self.old self.new }
-        ensures room { OnOk result (WhereStanding (meaning H.means M.facts M.keeps (Shows Q.timers) (HasPlaces Q.spare) IsPlaced W.stands V.facts) self.old
-            (λ s. HasRoom (meaning H.means M.facts M.keeps (Shows Q.timers) (HasPlaces Q.spare) IsPlaced W.stands V.facts) 1 post_places self.new s)) }
-        ensures volume { self.new.volume ≡ self.old.volume }
-        ensures marks { self.new.marks ≡ self.old.marks }
-        ensures volumes { self.new.volumes ≡ self.old.volumes }
-        ensures wait_faults { HasNotFallen (M.facts self.old.net).failed_waits (M.facts self.new.net).failed_waits }
-        ensures attach_faults { HasNotFallen (M.facts self.old.net).failed_attaches (M.facts self.new.net).failed_attaches }
-        ensures watch_faults { W.faults self.old.watch ≤ W.faults self.new.watch }
-        ensures watch_stays { W.is_broken self.old.watch ≡ true → W.is_broken self.new.watch ≡ true }
-        ensures watch_breaks { W.is_broken self.old.watch ≡ false → W.is_broken self.new.watch ≡ true → Rose (W.faults self.old.watch) (W.faults self.new.watch) }
+        ensures kept { Keeps ⟦<Self as Means>⟧.m self.old self.new }
+        ensures stands { StandsAsBefore ⟦<Self as Means>⟧.m self.old self.new }
+        ensures room { OnOk result (WhereStanding ⟦<Self as Means>⟧.m self.old
+            (λ s. HasRoom ⟦<Self as Means>⟧.m 1 post_places self.new s)) }
+        ensures rest { LeavesRest ⟦<Self as Means>⟧.m self.old self.new }
     {
         self.make_room(1, POST_PLACES)
     }
@@ -100,19 +84,11 @@ impl<
     /// Posts a notification for which there is room, while the reactor was not stopped. It appends what `post` appends, uses that
     /// room and takes no memory.
     pub fn post_reserved(&mut self, handle: Handle, kind: Kind, from: u64, seq: u64)
-        requires stands { StandsWith (meaning H.means M.facts M.keeps (Shows Q.timers) (HasPlaces Q.spare) IsPlaced W.stands V.facts)
-            (λ t h. HasRoom (meaning H.means M.facts M.keeps (Shows Q.timers) (HasPlaces Q.spare) IsPlaced W.stands V.facts) 1 post_places self.old (summary (past_of h)) × ((summary (past_of h)).ended ≡ false)) self.old }
-        ensures stands { (t : Terms) (F : ℕ) (h : List (Entry H.Note)) → Stands (meaning H.means M.facts M.keeps (Shows Q.timers) (HasPlaces Q.spare) IsPlaced W.stands V.facts) t self.old F h
-            → HasRoom (meaning H.means M.facts M.keeps (Shows Q.timers) (HasPlaces Q.spare) IsPlaced W.stands V.facts) 1 post_places self.old (summary (past_of h)) → (summary (past_of h)).ended ≡ false
-            → Stands (meaning H.means M.facts M.keeps (Shows Q.timers) (HasPlaces Q.spare) IsPlaced W.stands V.facts) t self.new F (h ++ posting (summary (past_of h)) handle kind from seq ∷ []) }
-        ensures volume { self.new.volume ≡ self.old.volume }
-        ensures marks { self.new.marks ≡ self.old.marks }
-        ensures volumes { self.new.volumes ≡ self.old.volumes }
-        ensures wait_faults { HasNotFallen (M.facts self.old.net).failed_waits (M.facts self.new.net).failed_waits }
-        ensures attach_faults { HasNotFallen (M.facts self.old.net).failed_attaches (M.facts self.new.net).failed_attaches }
-        ensures watch_faults { W.faults self.old.watch ≤ W.faults self.new.watch }
-        ensures watch_stays { W.is_broken self.old.watch ≡ true → W.is_broken self.new.watch ≡ true }
-        ensures watch_breaks { W.is_broken self.old.watch ≡ false → W.is_broken self.new.watch ≡ true → Rose (W.faults self.old.watch) (W.faults self.new.watch) }
+        requires stands { StandsWith ⟦<Self as Means>⟧.m
+            (λ t h. HasRoom ⟦<Self as Means>⟧.m 1 post_places self.old (summary (past_of h)) × ((summary (past_of h)).ended ≡ false)) self.old }
+        ensures stands { From ⟦<Self as Means>⟧.m self.old (λ t F h. HasRoom ⟦<Self as Means>⟧.m 1 post_places self.old (summary (past_of h)) → (summary (past_of h)).ended ≡ false
+            → Stands ⟦<Self as Means>⟧.m t self.new F (h ++ posting (summary (past_of h)) handle kind from seq ∷ [])) }
+        ensures rest { LeavesRest ⟦<Self as Means>⟧.m self.old self.new }
     {
         if self.state.is_alive(handle) {
             self.state.post(handle, kind);

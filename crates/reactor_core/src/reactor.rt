@@ -5,13 +5,13 @@ ghost use Rattle.ev_base.specs.Terms.{Terms};
 ghost use Rattle.reactor_journal.specs.declared.entry.Entry.{Entry};
 ghost use Rattle.reactor_journal.specs.Past.{past_of};
 ghost use Rattle.reactor_summary.specs.Summary.{summary};
-ghost use Rattle.reactor_state.specs.State.{Shows, HasPlaces, IsPlaced};
-ghost use Rattle.reactor_core.specs.Stands.{meaning, Stands, StandsWith};
+ghost use Rattle.reactor_core.specs.Stands.{From, Stands, StandsWith};
 ghost use Rattle.reactor_core.specs.Ends.{WhereTold};
 ghost use Rattle.reactor_core.specs.Marks.{IsOverAt, answers};
 ghost use Rattle.reactor_core.specs.Beginning.{CanBegin, IsOver, PartsStand};
 
 use crate::marks::WaitMarks;
+use crate::means::Means;
 use ev_base::Net;
 use ev_types::NoMemory;
 use handler_repo::Repo;
@@ -86,7 +86,7 @@ impl<
         requires volume { 1 ≤ volume }
         requires begins { (t : Terms) × CanBegin (M.facts net) (M.keeps t net) (Q.timers timers) (W.stands t watch []) (V.facts volumes) t most }
         ensures ok { IfOk result (λ core. (t : Terms) → CanBegin (M.facts net) (M.keeps t net) (Q.timers timers) (W.stands t watch []) (V.facts volumes) t most
-            → Stands (meaning H.means M.facts M.keeps (Shows Q.timers) (HasPlaces Q.spare) IsPlaced W.stands V.facts) t core 0 []) }
+            → Stands ⟦<Self as Means>⟧.m t core 0 []) }
         ensures volume { IfOk result (λ core. core.volume ≡ volume) }
         ensures parts { IfOk result (λ core. (core.net ≡ net) × (core.watch ≡ watch) × (core.volumes ≡ volumes)) }
         ensures err { IfErr result (λ back. (back.0 ≡ net) × (back.1 ≡ timers) × (back.2 ≡ watch) × (back.3 ≡ volumes)) }
@@ -116,30 +116,28 @@ impl<
 
     /// The entries that were not handed over, in order.
     pub fn journal(&self) -> &Journal<H::Note>
-        ensures { (t : Terms) (F : ℕ) (h : List (Entry H.Note)) → Stands (meaning H.means M.facts M.keeps (Shows Q.timers) (HasPlaces Q.spare) IsPlaced W.stands V.facts) t self.now F h
-            → result.now.entries ≡ drop F h }
+        ensures { From ⟦<Self as Means>⟧.m self.now (λ t F h. result.now.entries ≡ drop F h) }
     {
         &self.journal
     }
 
     /// How many entries were handed over.
     pub fn first(&self) -> u64
-        ensures { (t : Terms) (F : ℕ) (h : List (Entry H.Note)) → Stands (meaning H.means M.facts M.keeps (Shows Q.timers) (HasPlaces Q.spare) IsPlaced W.stands V.facts) t self.now F h → result ≡ F }
+        ensures { From ⟦<Self as Means>⟧.m self.now (λ t F h. result ≡ F) }
     {
         self.first
     }
 
     /// How many handlers may be live at once.
     pub fn most(&self) -> u64
-        ensures { (t : Terms) (F : ℕ) (h : List (Entry H.Note)) → Stands (meaning H.means M.facts M.keeps (Shows Q.timers) (HasPlaces Q.spare) IsPlaced W.stands V.facts) t self.now F h → result ≡ t.most }
+        ensures { From ⟦<Self as Means>⟧.m self.now (λ t F h. result ≡ t.most) }
     {
         self.most
     }
 
     /// Whether it was stopped.
     pub fn is_ended(&self) -> bool
-        ensures { (t : Terms) (F : ℕ) (h : List (Entry H.Note)) → Stands (meaning H.means M.facts M.keeps (Shows Q.timers) (HasPlaces Q.spare) IsPlaced W.stands V.facts) t self.now F h
-            → result ≡ (summary (past_of h)).ended }
+        ensures { From ⟦<Self as Means>⟧.m self.now (λ t F h. result ≡ (summary (past_of h)).ended) }
     {
         self.state.is_ended()
     }
@@ -147,7 +145,7 @@ impl<
     /// Whether its watch failed. Where it did, a fault rose after the start.
     pub fn is_broken(&self) -> bool
         ensures told { result ≡ W.is_broken self.now.watch }
-        ensures rose { (t : Terms) (F : ℕ) (h : List (Entry H.Note)) (before : ℕ) → Stands (meaning H.means M.facts M.keeps (Shows Q.timers) (HasPlaces Q.spare) IsPlaced W.stands V.facts) t self.now F h
+        ensures rose { (t : Terms) (F : ℕ) (h : List (Entry H.Note)) (before : ℕ) → Stands ⟦<Self as Means>⟧.m t self.now F h
             → result ≡ true → t.output_faults ≡ Some before → Rose before (W.faults self.now.watch) }
     {
         self.watch.broken()
@@ -157,8 +155,7 @@ impl<
     /// the n-th `Polled` of the journal.
     pub fn over(&self) -> u64
         ensures mark { result ≡ self.now.marks.over }
-        ensures there { (t : Terms) (F : ℕ) (h : List (Entry H.Note)) → Stands (meaning H.means M.facts M.keeps (Shows Q.timers) (HasPlaces Q.spare) IsPlaced W.stands V.facts) t self.now F h
-            → 1 ≤ result → WhereTold (λ calls. IsOverAt result (answers calls)) (M.facts self.now.net).calls }
+        ensures there { From ⟦<Self as Means>⟧.m self.now (λ t F h. 1 ≤ result → WhereTold (λ calls. IsOverAt result (answers calls)) (M.facts self.now.net).calls) }
     {
         self.marks.over
     }
@@ -166,9 +163,8 @@ impl<
     /// Takes apart a reactor that was stopped and whose handlers were all closed. The net, the watch and the volumes are its own, so
     /// their counts of faults are those of its last call.
     pub fn into_parts(self) -> Parts<H::Note, M, Q, W, V>
-        requires { StandsWith (meaning H.means M.facts M.keeps (Shows Q.timers) (HasPlaces Q.spare) IsPlaced W.stands V.facts) (λ t h. IsOver (summary (past_of h))) self }
-        ensures stands { (t : Terms) (F : ℕ) (h : List (Entry H.Note)) → Stands (meaning H.means M.facts M.keeps (Shows Q.timers) (HasPlaces Q.spare) IsPlaced W.stands V.facts) t self F h
-            → PartsStand (meaning H.means M.facts M.keeps (Shows Q.timers) (HasPlaces Q.spare) IsPlaced W.stands V.facts) Q.timers t F h result }
+        requires { StandsWith ⟦<Self as Means>⟧.m (λ t h. IsOver (summary (past_of h))) self }
+        ensures stands { From ⟦<Self as Means>⟧.m self (λ t F h. PartsStand ⟦<Self as Means>⟧.m Q.timers t F h result) }
         ensures net { result.net ≡ self.net }
         ensures watch { result.watch ≡ self.watch }
         ensures volumes { result.volumes ≡ self.volumes }

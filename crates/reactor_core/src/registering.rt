@@ -1,21 +1,21 @@
 //! The registration of handlers.
 ghost use Rattle.std.specs.Prelude.{nat_lt, ◌&&◌, ◌≡◌, ◌≤◌, ◌+◌, ◌-◌, ◌++◌, ◌∷◌, [], ℕ, List, true, false, None, IfOk, IfErr};
-ghost use Rattle.ev_base.specs.Counts.{Rose};
 ghost use Rattle.ev_base.specs.Terms.{Terms};
 ghost use Rattle.reactor_journal.specs.declared.entry.Entry.{Entry};
 ghost use Rattle.reactor_journal.specs.Past.{past_of};
 ghost use Rattle.reactor_summary.specs.Summary.{summary, is_alive};
 ghost use Rattle.reactor_model.specs.Turns.{IsTimer};
 ghost use Rattle.reactor_state.specs.declared.places.Places.{Places};
-ghost use Rattle.reactor_state.specs.State.{HasNumber, Shows, HasPlaces, IsPlaced, no_places};
-ghost use Rattle.reactor_core.specs.Faults.{HasNotFallen};
-ghost use Rattle.reactor_core.specs.Stands.{meaning, Tracks, TracksWith, Stands, StandsWith, StandsWithRoom};
+ghost use Rattle.reactor_state.specs.State.{HasNumber, HasPlaces, no_places};
+ghost use Rattle.reactor_core.specs.Rest.{LeavesRest};
+ghost use Rattle.reactor_core.specs.Stands.{From, Tracks, TracksWith, StandsWith, StandsWithRoom};
 ghost use Rattle.reactor_core.specs.Registering.{HasPlaceFor, IsOffered, registered};
 ghost use Rattle.reactor_core.specs.Offering.{TakesHandle, ComesBack, RegisterGives, AdmitGives};
 ghost use Rattle.reactor_core.specs.Settling.{act_places};
 
 use crate::Core;
 use crate::append::append;
+use crate::means::Means;
 use ev_base::Net;
 use ev_types::{Handle, Mask};
 use reactor_model::{Entry, EventHandler, Volumes, Watch};
@@ -80,19 +80,11 @@ impl<
         mask: Mask,
         timer: Option<(u64, u64)>,
     ) -> Result<Handle, (H, RegisterRefused)>
-        requires stands { StandsWith (meaning H.means M.facts M.keeps (Shows Q.timers) (HasPlaces Q.spare) IsPlaced W.stands V.facts) (λ t h. IsOffered H.means t (past_of h) handler) self.old }
+        requires stands { StandsWith ⟦<Self as Means>⟧.m (λ t h. IsOffered H.means t (past_of h) handler) self.old }
         requires timer { IsTimer timer }
-        ensures stands { (t : Terms) (F : ℕ) (h : List (Entry H.Note)) → Stands (meaning H.means M.facts M.keeps (Shows Q.timers) (HasPlaces Q.spare) IsPlaced W.stands V.facts) t self.old F h
-            → IsOffered H.means t (past_of h) handler
-            → RegisterGives (meaning H.means M.facts M.keeps (Shows Q.timers) (HasPlaces Q.spare) IsPlaced W.stands V.facts) t F h mask timer self.old result self.new }
-        ensures volume { self.new.volume ≡ self.old.volume }
-        ensures marks { self.new.marks ≡ self.old.marks }
-        ensures volumes { self.new.volumes ≡ self.old.volumes }
-        ensures wait_faults { HasNotFallen (M.facts self.old.net).failed_waits (M.facts self.new.net).failed_waits }
-        ensures attach_faults { HasNotFallen (M.facts self.old.net).failed_attaches (M.facts self.new.net).failed_attaches }
-        ensures watch_faults { W.faults self.old.watch ≤ W.faults self.new.watch }
-        ensures watch_stays { W.is_broken self.old.watch ≡ true → W.is_broken self.new.watch ≡ true }
-        ensures watch_breaks { W.is_broken self.old.watch ≡ false → W.is_broken self.new.watch ≡ true → Rose (W.faults self.old.watch) (W.faults self.new.watch) }
+        ensures stands { From ⟦<Self as Means>⟧.m self.old (λ t F h. IsOffered H.means t (past_of h) handler
+            → RegisterGives ⟦<Self as Means>⟧.m t F h mask timer self.old result self.new) }
+        ensures rest { LeavesRest ⟦<Self as Means>⟧.m self.old self.new }
     {
         if self.state.is_ended() {
             return Err((handler, RegisterRefused::Stopped));
@@ -119,20 +111,13 @@ impl<
         mask: Mask,
         timer: Option<(u64, u64)>,
     ) -> Result<Handle, H>
-        requires stands { (t : Terms) × (F : ℕ) × (h : List (Entry H.Note)) × StandsWithRoom (meaning H.means M.facts M.keeps (Shows Q.timers) (HasPlaces Q.spare) IsPlaced W.stands V.facts) 4 act_places t self.old F h
+        requires stands { (t : Terms) × (F : ℕ) × (h : List (Entry H.Note)) × StandsWithRoom ⟦<Self as Means>⟧.m 4 act_places t self.old F h
             × HasPlaceFor t.most (summary (past_of h)) × IsOffered H.means t (past_of h) handler }
         requires timer { IsTimer timer }
-        ensures stands { (t : Terms) (F : ℕ) (h : List (Entry H.Note)) → StandsWithRoom (meaning H.means M.facts M.keeps (Shows Q.timers) (HasPlaces Q.spare) IsPlaced W.stands V.facts) 4 act_places t self.old F h
+        ensures stands { (t : Terms) (F : ℕ) (h : List (Entry H.Note)) → StandsWithRoom ⟦<Self as Means>⟧.m 4 act_places t self.old F h
             → HasPlaceFor t.most (summary (past_of h)) → IsOffered H.means t (past_of h) handler
-            → AdmitGives (meaning H.means M.facts M.keeps (Shows Q.timers) (HasPlaces Q.spare) IsPlaced W.stands V.facts) t F h mask timer self.old result self.new }
-        ensures volume { self.new.volume ≡ self.old.volume }
-        ensures marks { self.new.marks ≡ self.old.marks }
-        ensures volumes { self.new.volumes ≡ self.old.volumes }
-        ensures wait_faults { HasNotFallen (M.facts self.old.net).failed_waits (M.facts self.new.net).failed_waits }
-        ensures attach_faults { HasNotFallen (M.facts self.old.net).failed_attaches (M.facts self.new.net).failed_attaches }
-        ensures watch_faults { W.faults self.old.watch ≤ W.faults self.new.watch }
-        ensures watch_stays { W.is_broken self.old.watch ≡ true → W.is_broken self.new.watch ≡ true }
-        ensures watch_breaks { W.is_broken self.old.watch ≡ false → W.is_broken self.new.watch ≡ true → Rose (W.faults self.old.watch) (W.faults self.new.watch) }
+            → AdmitGives ⟦<Self as Means>⟧.m t F h mask timer self.old result self.new }
+        ensures rest { LeavesRest ⟦<Self as Means>⟧.m self.old self.new }
     {
         match self.open_handler(handler, mask) {
             Ok(handle) => match timer {
@@ -149,29 +134,22 @@ impl<
     /// Registers a handler for which there is room: its end is attached, and the journal has `Opened`. Where the net cannot take
     /// the end the handler comes back.
     fn open_handler(&mut self, handler: H, mask: Mask) -> Result<Handle, H>
-        requires tracks { TracksWith (meaning H.means M.facts M.keeps (Shows Q.timers) (HasPlaces Q.spare) IsPlaced W.stands V.facts) None []
+        requires tracks { TracksWith ⟦<Self as Means>⟧.m None []
             (λ t h. HasPlaceFor t.most (summary (past_of h)) × HasNumber (summary (past_of h)) × IsOffered H.means t (past_of h) handler) self.old }
         requires journal { 1 ≤ self.old.journal.spare }
         requires seats { 1 ≤ self.old.repo.spare }
         requires net { 1 ≤ (M.facts self.old.net).spare }
         requires places { HasPlaces Q.spare (record no_places { handles = 1 }) self.old.state }
         ensures ok { IfOk result (λ handle. (t : Terms) (F : ℕ) (h : List (Entry H.Note)) → HasPlaceFor t.most (summary (past_of h)) → HasNumber (summary (past_of h)) → IsOffered H.means t (past_of h) handler
-            → Tracks (meaning H.means M.facts M.keeps (Shows Q.timers) (HasPlaces Q.spare) IsPlaced W.stands V.facts) t self.old F h None []
-            → Tracks (meaning H.means M.facts M.keeps (Shows Q.timers) (HasPlaces Q.spare) IsPlaced W.stands V.facts) t self.new F (h ++ Entry.Opened handle mask ∷ []) None []) }
-        ensures number { IfOk result (λ handle. (t : Terms) (F : ℕ) (h : List (Entry H.Note)) → Tracks (meaning H.means M.facts M.keeps (Shows Q.timers) (HasPlaces Q.spare) IsPlaced W.stands V.facts) t self.old F h None []
+            → Tracks ⟦<Self as Means>⟧.m t self.old F h None []
+            → Tracks ⟦<Self as Means>⟧.m t self.new F (h ++ Entry.Opened handle mask ∷ []) None []) }
+        ensures number { IfOk result (λ handle. (t : Terms) (F : ℕ) (h : List (Entry H.Note)) → Tracks ⟦<Self as Means>⟧.m t self.old F h None []
             → handle.0 ≡ (summary (past_of h)).opened) }
-        ensures room { IfOk result (λ handle. TakesHandle (meaning H.means M.facts M.keeps (Shows Q.timers) (HasPlaces Q.spare) IsPlaced W.stands V.facts) self.old self.new) }
+        ensures room { IfOk result (λ handle. TakesHandle ⟦<Self as Means>⟧.m self.old self.new) }
         ensures err { IfErr result (λ back. (t : Terms) (F : ℕ) (h : List (Entry H.Note)) → IsOffered H.means t (past_of h) handler → HasNumber (summary (past_of h))
-            → Tracks (meaning H.means M.facts M.keeps (Shows Q.timers) (HasPlaces Q.spare) IsPlaced W.stands V.facts) t self.old F h None []
-            → ComesBack (meaning H.means M.facts M.keeps (Shows Q.timers) (HasPlaces Q.spare) IsPlaced W.stands V.facts) t F h back self.old self.new) }
-        ensures volume { self.new.volume ≡ self.old.volume }
-        ensures marks { self.new.marks ≡ self.old.marks }
-        ensures volumes { self.new.volumes ≡ self.old.volumes }
-        ensures wait_faults { HasNotFallen (M.facts self.old.net).failed_waits (M.facts self.new.net).failed_waits }
-        ensures attach_faults { HasNotFallen (M.facts self.old.net).failed_attaches (M.facts self.new.net).failed_attaches }
-        ensures watch_faults { W.faults self.old.watch ≤ W.faults self.new.watch }
-        ensures watch_stays { W.is_broken self.old.watch ≡ true → W.is_broken self.new.watch ≡ true }
-        ensures watch_breaks { W.is_broken self.old.watch ≡ false → W.is_broken self.new.watch ≡ true → Rose (W.faults self.old.watch) (W.faults self.new.watch) }
+            → Tracks ⟦<Self as Means>⟧.m t self.old F h None []
+            → ComesBack ⟦<Self as Means>⟧.m t F h back self.old self.new) }
+        ensures rest { LeavesRest ⟦<Self as Means>⟧.m self.old self.new }
     {
         let mut handler = handler;
         let handle = Handle(self.state.opened());
@@ -191,30 +169,23 @@ impl<
 
     /// Sets a timer of a handle that is alive: its first delay, from 1, and its period in milliseconds, 0 for once.
     pub(crate) fn arm(&mut self, handle: Handle, delay: u64, every: u64) -> u64
-        requires tracks { TracksWith (meaning H.means M.facts M.keeps (Shows Q.timers) (HasPlaces Q.spare) IsPlaced W.stands V.facts) None []
+        requires tracks { TracksWith ⟦<Self as Means>⟧.m None []
             (λ t h. HasNumber (summary (past_of h))) self.old }
         requires delay { delay ≤ 4294967295 }
         requires every { every ≤ 4294967295 }
         requires journal { 1 ≤ self.old.journal.spare }
         requires places { HasPlaces Q.spare (record no_places { timers = 1 }) self.old.state }
         ensures tracks { (t : Terms) (F : ℕ) (h : List (Entry H.Note)) → 1 ≤ delay → is_alive (summary (past_of h)) handle.0 ≡ true → (summary (past_of h)).ended ≡ false → HasNumber (summary (past_of h))
-            → Tracks (meaning H.means M.facts M.keeps (Shows Q.timers) (HasPlaces Q.spare) IsPlaced W.stands V.facts) t self.old F h None []
-            → Tracks (meaning H.means M.facts M.keeps (Shows Q.timers) (HasPlaces Q.spare) IsPlaced W.stands V.facts) t self.new F
+            → Tracks ⟦<Self as Means>⟧.m t self.old F h None []
+            → Tracks ⟦<Self as Means>⟧.m t self.new F
             (h ++ Entry.Scheduled (summary (past_of h)).scheduled handle ((summary (past_of h)).moment + delay) every ∷ []) None [] }
-        ensures number { (t : Terms) (F : ℕ) (h : List (Entry H.Note)) → Tracks (meaning H.means M.facts M.keeps (Shows Q.timers) (HasPlaces Q.spare) IsPlaced W.stands V.facts) t self.old F h None []
+        ensures number { (t : Terms) (F : ℕ) (h : List (Entry H.Note)) → Tracks ⟦<Self as Means>⟧.m t self.old F h None []
             → result ≡ (summary (past_of h)).scheduled }
         ensures journal { self.new.journal.spare + 1 ≡ self.old.journal.spare }
         ensures places { (p : Places) → HasPlaces Q.spare p self.old.state → HasPlaces Q.spare (record p { timers = p.timers - 1 }) self.new.state }
         ensures repo { self.new.repo ≡ self.old.repo }
         ensures net { self.new.net ≡ self.old.net }
-        ensures volume { self.new.volume ≡ self.old.volume }
-        ensures marks { self.new.marks ≡ self.old.marks }
-        ensures volumes { self.new.volumes ≡ self.old.volumes }
-        ensures wait_faults { HasNotFallen (M.facts self.old.net).failed_waits (M.facts self.new.net).failed_waits }
-        ensures attach_faults { HasNotFallen (M.facts self.old.net).failed_attaches (M.facts self.new.net).failed_attaches }
-        ensures watch_faults { W.faults self.old.watch ≤ W.faults self.new.watch }
-        ensures watch_stays { W.is_broken self.old.watch ≡ true → W.is_broken self.new.watch ≡ true }
-        ensures watch_breaks { W.is_broken self.old.watch ≡ false → W.is_broken self.new.watch ≡ true → Rose (W.faults self.old.watch) (W.faults self.new.watch) }
+        ensures rest { LeavesRest ⟦<Self as Means>⟧.m self.old self.new }
     {
         let first = self.state.moment() + delay;
         let timer = self.state.schedule(handle, first, every);

@@ -1,17 +1,13 @@
 //! What a user asks of a handle: to suspend it, to resume it, and to change its mask.
-ghost use Rattle.std.specs.Prelude.{◌≡◌, ◌<◌, ◌≤◌, ◌+◌, ℕ, List, OnOk, OnErr, true, false};
-ghost use Rattle.ev_base.specs.Counts.{Rose};
-ghost use Rattle.ev_base.specs.Terms.{Terms};
+ghost use Rattle.std.specs.Prelude.{◌≡◌, ◌<◌, OnOk, OnErr, true, false};
 ghost use Rattle.reactor_journal.specs.declared.entry.Entry.{Entry};
-ghost use Rattle.reactor_journal.specs.Past.{past_of};
-ghost use Rattle.reactor_summary.specs.Summary.{summary};
-ghost use Rattle.reactor_core.specs.Faults.{HasNotFallen};
-ghost use Rattle.reactor_core.specs.Stands.{meaning, IsStanding, StandsAsBefore};
+ghost use Rattle.reactor_core.specs.Rest.{LeavesRest};
+ghost use Rattle.reactor_core.specs.Stands.{IsStanding, StandsAsBefore};
 ghost use Rattle.reactor_core.specs.Requests.{GoesOnBy, WhereStanding, suspension, IsStateAnswer, IsLiveAnswer};
-ghost use Rattle.reactor_state.specs.State.{Shows, HasPlaces, IsPlaced};
 
 use crate::Core;
 use crate::append::append;
+use crate::means::Means;
 use ev_base::Net;
 use ev_types::{Handle, Mask};
 use reactor_model::{Entry, EventHandler, Volumes, Watch};
@@ -58,18 +54,11 @@ impl<
     /// (ACE's `suspend_handler`). The journal has one more entry, `Suspended`. `NotLive` comes exactly where the handle is not
     /// alive, and `Same` exactly where it is alive and suspended already; after a refusal nothing has changed.
     pub fn suspend(&mut self, handle: Handle) -> Result<(), StateRefused>
-        requires stands { IsStanding (meaning H.means M.facts M.keeps (Shows Q.timers) (HasPlaces Q.spare) IsPlaced W.stands V.facts) self.old }
-        ensures ok { OnOk result (GoesOnBy (meaning H.means M.facts M.keeps (Shows Q.timers) (HasPlaces Q.spare) IsPlaced W.stands V.facts) self.old (λ s. Entry.Suspended handle) self.new) }
-        ensures err { OnErr result (StandsAsBefore (meaning H.means M.facts M.keeps (Shows Q.timers) (HasPlaces Q.spare) IsPlaced W.stands V.facts) self.old self.new) }
-        ensures cause { WhereStanding (meaning H.means M.facts M.keeps (Shows Q.timers) (HasPlaces Q.spare) IsPlaced W.stands V.facts) self.old (λ s. IsStateAnswer s handle.0 true result) }
-        ensures volume { self.new.volume ≡ self.old.volume }
-        ensures marks { self.new.marks ≡ self.old.marks }
-        ensures volumes { self.new.volumes ≡ self.old.volumes }
-        ensures wait_faults { HasNotFallen (M.facts self.old.net).failed_waits (M.facts self.new.net).failed_waits }
-        ensures attach_faults { HasNotFallen (M.facts self.old.net).failed_attaches (M.facts self.new.net).failed_attaches }
-        ensures watch_faults { W.faults self.old.watch ≤ W.faults self.new.watch }
-        ensures watch_stays { W.is_broken self.old.watch ≡ true → W.is_broken self.new.watch ≡ true }
-        ensures watch_breaks { W.is_broken self.old.watch ≡ false → W.is_broken self.new.watch ≡ true → Rose (W.faults self.old.watch) (W.faults self.new.watch) }
+        requires stands { IsStanding ⟦<Self as Means>⟧.m self.old }
+        ensures ok { OnOk result (GoesOnBy ⟦<Self as Means>⟧.m self.old (λ s. Entry.Suspended handle) self.new) }
+        ensures err { OnErr result (StandsAsBefore ⟦<Self as Means>⟧.m self.old self.new) }
+        ensures cause { WhereStanding ⟦<Self as Means>⟧.m self.old (λ s. IsStateAnswer s handle.0 true result) }
+        ensures rest { LeavesRest ⟦<Self as Means>⟧.m self.old self.new }
     {
         match self.suspension(handle) {
             None => return Err(StateRefused::NotLive),
@@ -93,18 +82,11 @@ impl<
     /// entry, `Resumed`. `NotLive` comes exactly where the handle is not alive, and `Same` exactly where it is alive and not
     /// suspended; after a refusal nothing has changed.
     pub fn resume(&mut self, handle: Handle) -> Result<(), StateRefused>
-        requires stands { IsStanding (meaning H.means M.facts M.keeps (Shows Q.timers) (HasPlaces Q.spare) IsPlaced W.stands V.facts) self.old }
-        ensures ok { OnOk result (GoesOnBy (meaning H.means M.facts M.keeps (Shows Q.timers) (HasPlaces Q.spare) IsPlaced W.stands V.facts) self.old (λ s. Entry.Resumed handle) self.new) }
-        ensures err { OnErr result (StandsAsBefore (meaning H.means M.facts M.keeps (Shows Q.timers) (HasPlaces Q.spare) IsPlaced W.stands V.facts) self.old self.new) }
-        ensures cause { WhereStanding (meaning H.means M.facts M.keeps (Shows Q.timers) (HasPlaces Q.spare) IsPlaced W.stands V.facts) self.old (λ s. IsStateAnswer s handle.0 false result) }
-        ensures volume { self.new.volume ≡ self.old.volume }
-        ensures marks { self.new.marks ≡ self.old.marks }
-        ensures volumes { self.new.volumes ≡ self.old.volumes }
-        ensures wait_faults { HasNotFallen (M.facts self.old.net).failed_waits (M.facts self.new.net).failed_waits }
-        ensures attach_faults { HasNotFallen (M.facts self.old.net).failed_attaches (M.facts self.new.net).failed_attaches }
-        ensures watch_faults { W.faults self.old.watch ≤ W.faults self.new.watch }
-        ensures watch_stays { W.is_broken self.old.watch ≡ true → W.is_broken self.new.watch ≡ true }
-        ensures watch_breaks { W.is_broken self.old.watch ≡ false → W.is_broken self.new.watch ≡ true → Rose (W.faults self.old.watch) (W.faults self.new.watch) }
+        requires stands { IsStanding ⟦<Self as Means>⟧.m self.old }
+        ensures ok { OnOk result (GoesOnBy ⟦<Self as Means>⟧.m self.old (λ s. Entry.Resumed handle) self.new) }
+        ensures err { OnErr result (StandsAsBefore ⟦<Self as Means>⟧.m self.old self.new) }
+        ensures cause { WhereStanding ⟦<Self as Means>⟧.m self.old (λ s. IsStateAnswer s handle.0 false result) }
+        ensures rest { LeavesRest ⟦<Self as Means>⟧.m self.old self.new }
     {
         match self.suspension(handle) {
             None => return Err(StateRefused::NotLive),
@@ -126,7 +108,7 @@ impl<
 
     /// Whether an alive handle is suspended, or None where the handle is not alive.
     fn suspension(&self, handle: Handle) -> Option<bool>
-        ensures { WhereStanding (meaning H.means M.facts M.keeps (Shows Q.timers) (HasPlaces Q.spare) IsPlaced W.stands V.facts) self.now (λ s. result ≡ suspension s handle.0) }
+        ensures { WhereStanding ⟦<Self as Means>⟧.m self.now (λ s. result ≡ suspension s handle.0) }
     {
         let Some(live) = self.state.live_handle(handle) else {
             return None;
@@ -142,18 +124,11 @@ impl<
     /// of a kind that it lacks are dropped. The journal has one more entry, `Masked`. `NotLive` comes exactly where the handle is
     /// not alive; after a refusal nothing has changed.
     pub fn set_mask(&mut self, handle: Handle, mask: Mask) -> Result<(), LiveRefused>
-        requires stands { IsStanding (meaning H.means M.facts M.keeps (Shows Q.timers) (HasPlaces Q.spare) IsPlaced W.stands V.facts) self.old }
-        ensures ok { OnOk result (GoesOnBy (meaning H.means M.facts M.keeps (Shows Q.timers) (HasPlaces Q.spare) IsPlaced W.stands V.facts) self.old (λ s. Entry.Masked handle mask) self.new) }
-        ensures err { OnErr result (StandsAsBefore (meaning H.means M.facts M.keeps (Shows Q.timers) (HasPlaces Q.spare) IsPlaced W.stands V.facts) self.old self.new) }
-        ensures cause { WhereStanding (meaning H.means M.facts M.keeps (Shows Q.timers) (HasPlaces Q.spare) IsPlaced W.stands V.facts) self.old (λ s. IsLiveAnswer s handle.0 result) }
-        ensures volume { self.new.volume ≡ self.old.volume }
-        ensures marks { self.new.marks ≡ self.old.marks }
-        ensures volumes { self.new.volumes ≡ self.old.volumes }
-        ensures wait_faults { HasNotFallen (M.facts self.old.net).failed_waits (M.facts self.new.net).failed_waits }
-        ensures attach_faults { HasNotFallen (M.facts self.old.net).failed_attaches (M.facts self.new.net).failed_attaches }
-        ensures watch_faults { W.faults self.old.watch ≤ W.faults self.new.watch }
-        ensures watch_stays { W.is_broken self.old.watch ≡ true → W.is_broken self.new.watch ≡ true }
-        ensures watch_breaks { W.is_broken self.old.watch ≡ false → W.is_broken self.new.watch ≡ true → Rose (W.faults self.old.watch) (W.faults self.new.watch) }
+        requires stands { IsStanding ⟦<Self as Means>⟧.m self.old }
+        ensures ok { OnOk result (GoesOnBy ⟦<Self as Means>⟧.m self.old (λ s. Entry.Masked handle mask) self.new) }
+        ensures err { OnErr result (StandsAsBefore ⟦<Self as Means>⟧.m self.old self.new) }
+        ensures cause { WhereStanding ⟦<Self as Means>⟧.m self.old (λ s. IsLiveAnswer s handle.0 result) }
+        ensures rest { LeavesRest ⟦<Self as Means>⟧.m self.old self.new }
     {
         if !self.state.is_alive(handle) {
             return Err(LiveRefused::NotLive);

@@ -1,15 +1,12 @@
 //! Room for what a call appends, and for what is owed.
-ghost use Rattle.std.specs.Prelude.{◌≡◌, ◌≤◌, ◌+◌, ◌<◌, ◌^◌, max, ℕ, List, OnOk, IfSome, IfNone, true, false};
-ghost use Rattle.ev_base.specs.Counts.{Rose};
-ghost use Rattle.ev_base.specs.Terms.{Terms};
-ghost use Rattle.reactor_journal.specs.declared.entry.Entry.{Entry};
+ghost use Rattle.std.specs.Prelude.{◌≡◌, ◌≤◌, ◌+◌, ◌<◌, ◌^◌, max, OnOk, IfSome, IfNone};
 ghost use Rattle.reactor_journal.specs.Past.{past_of};
 ghost use Rattle.reactor_summary.specs.Summary.{summary};
-ghost use Rattle.reactor_core.specs.Faults.{HasNotFallen};
-ghost use Rattle.reactor_core.specs.Stands.{meaning, Stands, Keeps, HasRoom, places_for};
-ghost use Rattle.reactor_state.specs.State.{Shows, HasPlaces, IsPlaced};
+ghost use Rattle.reactor_core.specs.Rest.{LeavesRest};
+ghost use Rattle.reactor_core.specs.Stands.{From, Keeps, HasRoom, places_for};
 
 use crate::Core;
+use crate::means::Means;
 use ev_base::Net;
 use ev_types::NoMemory;
 use reactor_model::{EventHandler, Volumes, Watch};
@@ -59,17 +56,9 @@ impl<
     /// entries, or the places would pass the greatest `usize`: there is no memory for so many. After it there is no less room than
     /// before.
     pub(crate) fn make_room(&mut self, entries: usize, more: Places) -> Result<(), NoMemory>
-        ensures kept { Keeps (meaning H.means M.facts M.keeps (Shows Q.timers) (HasPlaces Q.spare) IsPlaced W.stands V.facts) self.old self.new }
-        ensures room { OnOk result ((t : Terms) (F : ℕ) (h : List (Entry H.Note)) → Stands (meaning H.means M.facts M.keeps (Shows Q.timers) (HasPlaces Q.spare) IsPlaced W.stands V.facts) t self.old F h
-            → HasRoom (meaning H.means M.facts M.keeps (Shows Q.timers) (HasPlaces Q.spare) IsPlaced W.stands V.facts) entries more self.new (summary (past_of h))) }
-        ensures volume { self.new.volume ≡ self.old.volume }
-        ensures marks { self.new.marks ≡ self.old.marks }
-        ensures volumes { self.new.volumes ≡ self.old.volumes }
-        ensures wait_faults { HasNotFallen (M.facts self.old.net).failed_waits (M.facts self.new.net).failed_waits }
-        ensures attach_faults { HasNotFallen (M.facts self.old.net).failed_attaches (M.facts self.new.net).failed_attaches }
-        ensures watch_faults { W.faults self.old.watch ≤ W.faults self.new.watch }
-        ensures watch_stays { W.is_broken self.old.watch ≡ true → W.is_broken self.new.watch ≡ true }
-        ensures watch_breaks { W.is_broken self.old.watch ≡ false → W.is_broken self.new.watch ≡ true → Rose (W.faults self.old.watch) (W.faults self.new.watch) }
+        ensures kept { Keeps ⟦<Self as Means>⟧.m self.old self.new }
+        ensures room { OnOk result (From ⟦<Self as Means>⟧.m self.old (λ t F h. HasRoom ⟦<Self as Means>⟧.m entries more self.new (summary (past_of h)))) }
+        ensures rest { LeavesRest ⟦<Self as Means>⟧.m self.old self.new }
     {
         let open = self.state.open_count();
         let Some(entries) = entries_for(self.state.owed(), entries, self.state.entries()) else {

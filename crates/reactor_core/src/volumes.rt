@@ -1,12 +1,10 @@
 //! How the entries that a reactor holds are handed over: a long run cannot keep its whole journal.
-ghost use Rattle.std.specs.Prelude.{◌≡◌, ℕ, true, List, IfOk, IfErr, OnErr};
-ghost use Rattle.ev_base.specs.Terms.{Terms};
-ghost use Rattle.reactor_journal.specs.declared.entry.Entry.{Entry};
-ghost use Rattle.reactor_core.specs.Stands.{meaning, Stands, IsStanding, StandsAsBefore};
+ghost use Rattle.std.specs.Prelude.{◌≡◌, true, IfOk, IfErr, OnErr};
+ghost use Rattle.reactor_core.specs.Stands.{From, IsStanding, StandsAsBefore};
 ghost use Rattle.reactor_core.specs.HandingOver.{is_due, HandsOver, HandsNothing, HasCause, refusal_of};
-ghost use Rattle.reactor_state.specs.State.{Shows, HasPlaces, IsPlaced};
 
 use crate::Core;
+use crate::means::Means;
 use crate::room::MOST_ENTRIES;
 use ev_base::Net;
 use reactor_journal::Journal;
@@ -35,14 +33,12 @@ impl<
     /// is 0 and nothing has changed. A refusal comes only where it is due, and changes nothing but, with `Failed`, the volumes'
     /// count of faults.
     pub fn hand_over(&mut self) -> Result<u64, HandOverRefused>
-        requires { IsStanding (meaning H.means M.facts M.keeps (Shows Q.timers) (HasPlaces Q.spare) IsPlaced W.stands V.facts) self.old }
-        ensures ok { IfOk result (λ n. (t : Terms) (F : ℕ) (h : List (Entry H.Note)) → Stands (meaning H.means M.facts M.keeps (Shows Q.timers) (HasPlaces Q.spare) IsPlaced W.stands V.facts) t self.old F h
-            → HandsOver (meaning H.means M.facts M.keeps (Shows Q.timers) (HasPlaces Q.spare) IsPlaced W.stands V.facts) t F h n self.old self.new) }
-        ensures due { OnErr result ((t : Terms) (F : ℕ) (h : List (Entry H.Note)) → Stands (meaning H.means M.facts M.keeps (Shows Q.timers) (HasPlaces Q.spare) IsPlaced W.stands V.facts) t self.old F h
-            → is_due self.old F h ≡ true) }
-        ensures err { OnErr result (StandsAsBefore (meaning H.means M.facts M.keeps (Shows Q.timers) (HasPlaces Q.spare) IsPlaced W.stands V.facts) self.old self.new) }
-        ensures same { OnErr result (HandsNothing (meaning H.means M.facts M.keeps (Shows Q.timers) (HasPlaces Q.spare) IsPlaced W.stands V.facts) self.old self.new) }
-        ensures cause { IfErr result (λ refused. HasCause (meaning H.means M.facts M.keeps (Shows Q.timers) (HasPlaces Q.spare) IsPlaced W.stands V.facts) refused self.old self.new) }
+        requires { IsStanding ⟦<Self as Means>⟧.m self.old }
+        ensures ok { IfOk result (λ n. From ⟦<Self as Means>⟧.m self.old (λ t F h. HandsOver ⟦<Self as Means>⟧.m t F h n self.old self.new)) }
+        ensures due { OnErr result (From ⟦<Self as Means>⟧.m self.old (λ t F h. is_due self.old F h ≡ true)) }
+        ensures err { OnErr result (StandsAsBefore ⟦<Self as Means>⟧.m self.old self.new) }
+        ensures same { OnErr result (HandsNothing ⟦<Self as Means>⟧.m self.old self.new) }
+        ensures cause { IfErr result (λ refused. HasCause ⟦<Self as Means>⟧.m refused self.old self.new) }
     {
         if !self.is_volume_due() {
             return Ok(0);
@@ -73,8 +69,7 @@ impl<
 
     // Whether as many entries are held as a volume has at least, and the whole journal has fewer than 2^62.
     fn is_volume_due(&self) -> bool
-        ensures { (t : Terms) (F : ℕ) (h : List (Entry H.Note)) → Stands (meaning H.means M.facts M.keeps (Shows Q.timers) (HasPlaces Q.spare) IsPlaced W.stands V.facts) t self.now F h
-            → result ≡ is_due self.now F h }
+        ensures { From ⟦<Self as Means>⟧.m self.now (λ t F h. result ≡ is_due self.now F h) }
     {
         self.journal.len() >= self.volume && self.state.entries() < MOST_ENTRIES
     }

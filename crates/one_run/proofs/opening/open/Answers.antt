@@ -66,7 +66,7 @@ returns-in-Err-register-clause-err g c =
         faults = ap (λ k. (g.S.Source.facts k).faults) c.abandon.ensures.input ∙ source.1;
         output_faults = left.output_faults o.faults refl;
       },
-      c.abandon.ensures.volumes ∙ (c.in-Err-register.ensures.volumes ∙ c.in-Ok.ensures.parts.2),
+      c.abandon.ensures.volumes ∙ (c.in-Err-register.ensures.rest.volumes ∙ c.in-Ok.ensures.parts.2),
     )
 
 pub returns-in-Err-clause-err : goal.returns-in-Err-clause-err

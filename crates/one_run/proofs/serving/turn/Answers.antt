@@ -59,7 +59,7 @@ returns-in_default g c = record {
       (turned _ _ _ _ t over.0 h r c.in-Ok-Some.job c.run-done.result _ _ _ gives.0 gives.1 fits c.run-done.ensures.same settles c.run-done.result.turn.answer refl);
   closes = λ lost told. not_some told;
   err = tt;
-  volumes = ap (λ v. (g.V.Volumes.facts v).faults) (c.settle.ensures.volumes ∙ c.in-Ok-Some.ensures.volumes) ∙ c.in-Ok.ensures.volumes;
+  volumes = ap (λ v. (g.V.Volumes.facts v).faults) (c.settle.ensures.rest.volumes ∙ c.in-Ok-Some.ensures.rest.volumes) ∙ c.in-Ok.ensures.volumes;
   broken = λ told. not_err told;
 }
   where

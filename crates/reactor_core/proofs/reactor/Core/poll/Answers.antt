@@ -41,9 +41,9 @@ returns-in-Err-clause-err g c t F h o = stands_kept _ t _ _ F h c.in-Err.ensures
 
 pub returns-in-Some-clause-over : goal.returns-in-Some-clause-over
 returns-in-Some-clause-over g c =
-    subst (λ (marks : WaitMarks). c.args.self.now.marks.over ≤ marks.over) (sym (c.in-Some.ensures.marks ∙ ap (marks_found (Some c.in-Some.polled)) c.in-Ok.ensures.marks))
+    subst (λ (marks : WaitMarks). c.args.self.now.marks.over ≤ marks.over) (sym (c.in-Some.ensures.marks ∙ ap (marks_found (Some c.in-Some.polled)) c.in-Ok.ensures.rest.marks))
     (polled_later c.in-Some.polled c.args.self.now.marks c.requires.stands.3.tracks.marks.within)
 
 pub returns-in-Some-clause-number : goal.returns-in-Some-clause-number
 returns-in-Some-clause-number g c t F h o is =
-    polled_number c.in-Some.polled c.args.self.now.marks c.take_events.new.self.marks (past_of h) _ (c.in-Some.ensures.marks ∙ ap (marks_found (Some c.in-Some.polled)) c.in-Ok.ensures.marks) is o.tracks.marks
+    polled_number c.in-Some.polled c.args.self.now.marks c.take_events.new.self.marks (past_of h) _ (c.in-Some.ensures.marks ∙ ap (marks_found (Some c.in-Some.polled)) c.in-Ok.ensures.rest.marks) is o.tracks.marks

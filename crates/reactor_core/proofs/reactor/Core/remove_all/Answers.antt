@@ -2,11 +2,11 @@ use Rattle.std.proofs.Common.{refl, ◌∙◌, arith}
 use Rattle.reactor_journal.specs.Past.{past_of}
 use Rattle.reactor_summary.specs.Summary.{summary}
 use Rattle.reactor_core.proofs.Stopped.{removes_none, removes_more, removes_all, none_left_of, removes_stopped}
-use Rattle.reactor_core.proofs.Watched.{breaks_none, breaks_over}
+use Rattle.reactor_core.proofs.Frames.{rest_begins, rest_goes_on}
 use Rattle.reactor_core.proofs.reactor.Core.remove_all.Goals as goal
 
 pub loop-removed-init : goal.loop-removed-init
-loop-removed-init g c = record { stands = λ t F h st. removes_none _ t c.args.self.now F h st; volume = refl; marks = refl; volumes = refl; wait_faults = omega arith; attach_faults = omega arith; watch_faults = omega arith; watch_stays = λ failed. failed; watch_breaks = breaks_none _ _ }
+loop-removed-init g c = record { stands = λ t F h st. removes_none _ t c.args.self.now F h st; rest = rest_begins _ _ }
 
 pub remove_first-requires : goal.remove_first-requires
 remove_first-requires g c =
@@ -19,14 +19,7 @@ loop-removed-preserved g c = record {
   stands = λ t F h st.
       let r = c.loop-removed.invariant.stands t F h st in
       removes_more _ c.loop-removed._removed t c.loop-removed.self _ F h r (c.remove_first.ensures.some c.if-not-remove_first.false t F _ r.stands);
-  volume = c.remove_first.ensures.volume ∙ c.loop-removed.invariant.volume;
-  marks = c.remove_first.ensures.marks ∙ c.loop-removed.invariant.marks;
-  volumes = c.remove_first.ensures.volumes ∙ c.loop-removed.invariant.volumes;
-  wait_faults = let a = c.remove_first.ensures.wait_faults in let i = c.loop-removed.invariant.wait_faults in omega (arith, a, i);
-  attach_faults = let a = c.remove_first.ensures.attach_faults in let i = c.loop-removed.invariant.attach_faults in omega (arith, a, i);
-  watch_faults = let a = c.remove_first.ensures.watch_faults in let i = c.loop-removed.invariant.watch_faults in omega (arith, a, i);
-  watch_stays = λ failed. c.remove_first.ensures.watch_stays (c.loop-removed.invariant.watch_stays failed);
-  watch_breaks = breaks_over _ _ _ _ _ _ c.loop-removed.invariant.watch_faults c.remove_first.ensures.watch_faults c.loop-removed.invariant.watch_breaks c.remove_first.ensures.watch_breaks;
+  rest = rest_goes_on c.loop-removed.invariant.rest c.remove_first.ensures.rest;
 }
 
 pub returns-then-not-remove_first-clause-stands : goal.returns-then-not-remove_first-clause-stands

@@ -1,11 +1,11 @@
 use Rattle.reactor_state.proofs.Fewer.{has_fewer}
 use Rattle.std.proofs.Common.{refl, arith}
 use Rattle.reactor_core.proofs.PollDue.{dues_begin, dues_may, may_take, dues_go_on, dues_stop, dues_all}
-use Rattle.reactor_core.proofs.Watched.{breaks_none, breaks_over}
+use Rattle.reactor_core.proofs.Frames.{rest_begins, rest_goes_on}
 use Rattle.reactor_core.proofs.reactor.Core.take_dues.Goals as goal
 
 pub loop-left-init : goal.loop-left-init
-loop-left-init g c = record { dues = λ t F h s events pending k. dues_begin _ t c.args.self.now F s c.args.most events h pending k; net = refl; volume = refl; marks = refl; volumes = refl; wait_faults = omega arith; attach_faults = omega arith; watch_faults = omega arith; watch_stays = λ failed. failed; watch_breaks = breaks_none _ _ }
+loop-left-init g c = record { dues = λ t F h s events pending k. dues_begin _ t c.args.self.now F s c.args.most events h pending k; net = refl; rest = rest_begins _ _ }
 
 pub due-requires-clause-can : goal.due-requires-clause-can
 due-requires-clause-can g c =
@@ -40,14 +40,7 @@ loop-left-preserved g c = record {
         places = c.in-Some.ensures.places;
       }) (may_take _ t c.loop-left.self F s c.loop-left.left events h pending (omega (arith, c.loop-left-test.true)) (c.loop-left.invariant.dues t F h s events pending k));
   net = c.loop-left.invariant.net;
-  volume = c.loop-left.invariant.volume;
-  marks = c.loop-left.invariant.marks;
-  volumes = c.loop-left.invariant.volumes;
-  wait_faults = c.loop-left.invariant.wait_faults;
-  attach_faults = c.loop-left.invariant.attach_faults;
-  watch_faults = let a = c.append.ensures.later in let i = c.loop-left.invariant.watch_faults in omega (arith, a, i);
-  watch_stays = λ failed. c.append.ensures.stays (c.loop-left.invariant.watch_stays failed);
-  watch_breaks = breaks_over _ _ _ _ _ _ c.loop-left.invariant.watch_faults c.append.ensures.later c.loop-left.invariant.watch_breaks c.append.ensures.breaks;
+  rest = rest_goes_on c.loop-left.invariant.rest (record { marks = refl; volumes = refl; counts = record { volume = refl; wait_faults = omega arith; attach_faults = omega arith; watch_faults = c.append.ensures.later; watch_stays = c.append.ensures.stays; watch_breaks = c.append.ensures.breaks } });
 }
 
 pub returns-clause-dues : goal.returns-clause-dues

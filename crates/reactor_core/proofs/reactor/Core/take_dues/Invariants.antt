@@ -6,6 +6,7 @@ use Rattle.ev_base.specs.declared.net.Report.{Report}
 use Rattle.reactor_journal.specs.declared.entry.Entry.{Entry}
 use Rattle.reactor_summary.specs.Summary.{Summary}
 use Rattle.reactor_core.specs.Faults.{HasNotFallen}
+use Rattle.reactor_core.specs.Rest.{LeavesRest}
 use Rattle.reactor_core.specs.Stands.{meaning}
 use Rattle.reactor_core.specs.Taking.{IsTakingDues, HasTakenDues}
 use Rattle.reactor_core.proofs.reactor.Core.take_dues.Given as goal
@@ -13,18 +14,11 @@ use Rattle.reactor_core.proofs.reactor.Core.take_dues.Given as goal
 -- the timers that came due so far were taken, and at most so many are left
 abbrev pub invariant-loop-left : goal.invariant-loop-left
 invariant-loop-left g l =
-    let m = meaning g.H.EventHandler.means g.M.Net.facts g.M.Net.keeps (Shows g.Q.TimerQueue.timers) (HasPlaces g.Q.TimerQueue.spare) IsPlaced g.W.Watch.stands g.V.Volumes.facts in
+    let m = meaning g.H.EventHandler.means g.M.Net.facts g.M.Net.keeps (Shows g.Q.TimerQueue.timers) (HasPlaces g.Q.TimerQueue.spare) IsPlaced g.W.Watch.stands g.W.Watch.faults g.W.Watch.is_broken g.V.Volumes.facts in
     record {
       dues : (t : Terms) (F : ℕ) (h : List (Entry g.row.H-Note.Denot)) (s : Summary) (events : ℕ) (pending : List Report) → IsTakingDues m s l.most events t l.fn.self F h pending → HasTakenDues m s l.left events t l.self F h pending;
       net : l.self.net ≡ l.fn.self.net;
-      volume : l.self.volume ≡ l.fn.self.volume;
-      marks : l.self.marks ≡ l.fn.self.marks;
-      volumes : l.self.volumes ≡ l.fn.self.volumes;
-      wait_faults : HasNotFallen (g.M.Net.facts l.fn.self.net).failed_waits (g.M.Net.facts l.self.net).failed_waits;
-      attach_faults : HasNotFallen (g.M.Net.facts l.fn.self.net).failed_attaches (g.M.Net.facts l.self.net).failed_attaches;
-      watch_faults : g.W.Watch.faults l.fn.self.watch ≤ g.W.Watch.faults l.self.watch;
-      watch_stays : g.W.Watch.is_broken l.fn.self.watch ≡ true → g.W.Watch.is_broken l.self.watch ≡ true;
-      watch_breaks : g.W.Watch.is_broken l.fn.self.watch ≡ false → g.W.Watch.is_broken l.self.watch ≡ true → Rose (g.W.Watch.faults l.fn.self.watch) (g.W.Watch.faults l.self.watch);
+      rest : LeavesRest (meaning g.H.EventHandler.means g.M.Net.facts g.M.Net.keeps (Shows g.Q.TimerQueue.timers) (HasPlaces g.Q.TimerQueue.spare) IsPlaced g.W.Watch.stands g.W.Watch.faults g.W.Watch.is_broken g.V.Volumes.facts) l.fn.self l.self;
     }
 
 abbrev pub decreases-loop-left : goal.decreases-loop-left

@@ -44,7 +44,7 @@ returns-clause-waits g c t F h o =
     named c.wait_for-answer.ensures.waits w k c.take_dues.ensures.net c.take_reports.ensures.net (c.take_reports.ensures.stands t F _ s 256 taking counts.few)
 
 pub returns-clause-marks : goal.returns-clause-marks
-returns-clause-marks g c = c.take_reports.ensures.marks ∙ (c.take_dues.ensures.marks ∙ (c.wait_for-answer.ensures.marks ∙ found_of c.wait_for-answer.result _ _ (sym c.name_of.ensures ∙ c.in-Some.is)))
+returns-clause-marks g c = c.take_reports.ensures.rest.marks ∙ (c.take_dues.ensures.rest.marks ∙ (c.wait_for-answer.ensures.marks ∙ found_of c.wait_for-answer.result _ _ (sym c.name_of.ensures ∙ c.in-Some.is)))
 
 pub returns-in_default-clause-marks : goal.returns-in_default-clause-marks
 returns-in_default-clause-marks g c = c.wait_for-answer.ensures.marks ∙ found_of c.wait_for-answer.result _ _ (sym c.name_of.ensures ∙ c.in_default.is)

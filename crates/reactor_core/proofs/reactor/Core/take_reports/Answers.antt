@@ -1,21 +1,14 @@
 use Rattle.reactor_state.proofs.Fewer.{has_fewer}
 use Rattle.std.proofs.Common.{refl, sym, ap, ◌∙◌, length, arith}
 use Rattle.reactor_core.proofs.PollReady.{reports_begin, reports_end, same_reports}
-use Rattle.reactor_core.proofs.Watched.{breaks_none, breaks_over}
+use Rattle.reactor_core.proofs.Frames.{rest_begins, rest_goes_on}
 use Rattle.reactor_core.proofs.reactor.Core.take_reports.Goals as goal
 
 pub loop-at-init : goal.loop-at-init
 loop-at-init g c = record {
   stands = λ t F h s left k le. reports_begin _ t c.args.self.now F s h _ left (let all = c.requires.all in omega (arith, all, le)) k;
   net = refl;
-  volume = refl;
-  marks = refl;
-  volumes = refl;
-  wait_faults = omega arith;
-  attach_faults = omega arith;
-  watch_faults = omega arith;
-  watch_stays = λ failed. failed;
-  watch_breaks = breaks_none _ _;
+  rest = rest_begins _ _;
 }
 
 pub take_report-requires-clause-within : goal.take_report-requires-clause-within
@@ -35,14 +28,7 @@ loop-at-preserved g c = record {
       same_reports _ t c.take_report.new.self F s h c.loop-at.self.net _ _ c.loop-at.invariant.net
       (c.take_report.ensures.stands t F h s (same_reports _ t c.loop-at.self F s h _ c.loop-at.self.net c.loop-at.at (sym c.loop-at.invariant.net) (c.loop-at.invariant.stands t F h s left k le)));
   net = c.take_report.ensures.net ∙ c.loop-at.invariant.net;
-  volume = c.take_report.ensures.volume ∙ c.loop-at.invariant.volume;
-  marks = c.take_report.ensures.marks ∙ c.loop-at.invariant.marks;
-  volumes = c.take_report.ensures.volumes ∙ c.loop-at.invariant.volumes;
-  wait_faults = let a = c.take_report.ensures.wait_faults in let i = c.loop-at.invariant.wait_faults in omega (arith, a, i);
-  attach_faults = let a = c.take_report.ensures.attach_faults in let i = c.loop-at.invariant.attach_faults in omega (arith, a, i);
-  watch_faults = let a = c.take_report.ensures.watch_faults in let i = c.loop-at.invariant.watch_faults in omega (arith, a, i);
-  watch_stays = λ failed. c.take_report.ensures.watch_stays (c.loop-at.invariant.watch_stays failed);
-  watch_breaks = breaks_over _ _ _ _ _ _ c.loop-at.invariant.watch_faults c.take_report.ensures.watch_faults c.loop-at.invariant.watch_breaks c.take_report.ensures.watch_breaks;
+  rest = rest_goes_on c.loop-at.invariant.rest c.take_report.ensures.rest;
 }
 
 pub returns-clause-stands : goal.returns-clause-stands

@@ -6,6 +6,7 @@ use Rattle.reactor_journal.specs.declared.entry.Entry.{Entry}
 use Rattle.reactor_summary.specs.Summary.{Summary}
 use Rattle.reactor_core.specs.Calls.{is_taken}
 use Rattle.reactor_core.specs.Faults.{HasNotFallen}
+use Rattle.reactor_core.specs.Rest.{LeavesRest}
 use Rattle.reactor_core.specs.Stands.{meaning}
 use Rattle.reactor_core.specs.Taking.{IsTakingReports, HasTakenReports}
 use Rattle.reactor_core.proofs.reactor.Core.take_reports.Given as goal
@@ -13,17 +14,10 @@ use Rattle.reactor_core.proofs.reactor.Core.take_reports.Given as goal
 -- the reports so far were taken, so far as they are to be
 abbrev pub invariant-loop-at : goal.invariant-loop-at
 invariant-loop-at g l =
-    let m = meaning g.H.EventHandler.means g.M.Net.facts g.M.Net.keeps (Shows g.Q.TimerQueue.timers) (HasPlaces g.Q.TimerQueue.spare) IsPlaced g.W.Watch.stands g.V.Volumes.facts in
+    let m = meaning g.H.EventHandler.means g.M.Net.facts g.M.Net.keeps (Shows g.Q.TimerQueue.timers) (HasPlaces g.Q.TimerQueue.spare) IsPlaced g.W.Watch.stands g.W.Watch.faults g.W.Watch.is_broken g.V.Volumes.facts in
     record {
       stands : (t : Terms) (F : ℕ) (h : List (Entry g.row.H-Note.Denot)) (s : Summary) (left : ℕ)
           → IsTakingReports m s left t l.fn.self F h (filter (is_taken s) (g.M.Net.facts l.fn.self.net).reports) → l.count ≤ left → HasTakenReports m s (g.M.Net.facts l.fn.self.net).reports l.at t l.self F h;
       net : l.self.net ≡ l.fn.self.net;
-      volume : l.self.volume ≡ l.fn.self.volume;
-      marks : l.self.marks ≡ l.fn.self.marks;
-      volumes : l.self.volumes ≡ l.fn.self.volumes;
-      wait_faults : HasNotFallen (g.M.Net.facts l.fn.self.net).failed_waits (g.M.Net.facts l.self.net).failed_waits;
-      attach_faults : HasNotFallen (g.M.Net.facts l.fn.self.net).failed_attaches (g.M.Net.facts l.self.net).failed_attaches;
-      watch_faults : g.W.Watch.faults l.fn.self.watch ≤ g.W.Watch.faults l.self.watch;
-      watch_stays : g.W.Watch.is_broken l.fn.self.watch ≡ true → g.W.Watch.is_broken l.self.watch ≡ true;
-      watch_breaks : g.W.Watch.is_broken l.fn.self.watch ≡ false → g.W.Watch.is_broken l.self.watch ≡ true → Rose (g.W.Watch.faults l.fn.self.watch) (g.W.Watch.faults l.self.watch);
+      rest : LeavesRest (meaning g.H.EventHandler.means g.M.Net.facts g.M.Net.keeps (Shows g.Q.TimerQueue.timers) (HasPlaces g.Q.TimerQueue.spare) IsPlaced g.W.Watch.stands g.W.Watch.faults g.W.Watch.is_broken g.V.Volumes.facts) l.fn.self l.self;
     }
