@@ -6,7 +6,7 @@ use Rattle.ev_types.specs.declared.upcall.Answer.TheVariants.{Keep}
 use Rattle.ev_types.specs.declared.upcall.Upcall.{Upcall}
 use Rattle.ev_types.specs.declared.upcall.Upcall.TheVariants.{Input, Output, Except, Timeout, Notice}
 use Rattle.ev_base.specs.Counts.{Counts, Rose, counted}
-use Rattle.ev_base.specs.Story.{Offer, Offering, NoneThere, OneFailure, TakesOffer, NoOfferLeft}
+use Rattle.ev_base.specs.Story.{Offer, Offering, NoneThere, OneFailure, NumbersFrom, TakesOffer, NoOfferLeft}
 use Rattle.ev_base.specs.Terms.{Terms}
 use Rattle.ev_base.specs.KeepsStory.{KeepsStory, IsOffering}
 use Rattle.ev_base.specs.End.{EndFacts, Try, Accepted, Paused, Faulted, IsFresh, GaveNoOffer, CountsAccept, AcceptsEnd, AcceptsNone, FailsToAccept, TakesSerial}
@@ -19,14 +19,13 @@ use Rattle.reactor_model.specs.declared.handler.Act.TheVariants.{Install, Stop}
 use Rattle.log_handler.specs.declared.note.ServerNote.{ServerNote}
 use Rattle.log_handler.specs.declared.note.ServerNote.TheVariants as note
 use Rattle.log_handler.specs.declared.connection.LogConnection.{LogConnection}
-use Rattle.log_handler.specs.Connections.{MayComeFrom, serial_named}
+use Rattle.log_handler.specs.Connections.{MayComeFrom}
 use Rattle.log_handler.specs.Steps.{item_of}
 use Rattle.acceptor.specs.declared.acceptor.Acceptor.{Acceptor}
 use Rattle.acceptor.specs.declared.server.ServerHandler.{ServerHandler}
 use Rattle.acceptor.specs.declared.server.ServerHandler.TheVariants.{Talk}
 use Rattle.acceptor.specs.Idle.{idle_timer}
 use Rattle.acceptor.specs.Accepting.{Progress, Turns, ServesUpcall, ServesInput, OneEnd, NoEnd, Failure, after_accept, at_start, most_connections}
-use Rattle.acceptor.specs.Numbering.{NumbersEnds}
 use Rattle.acceptor.specs.Acceptors.{HasFaults, HasListened, AcceptorFits, BeginsOffers, listener_of, count_taken, idle_of_acceptor}
 use Rattle.acceptor.specs.Servers.{servers, read_alone}
 use Rattle.acceptor.specs.Steps.{TakesAcceptorTurn, OffersConnection}
@@ -68,15 +67,15 @@ same-faults failed n m is h = subst (λ (k : ℕ). HasFaults failed k) (sym is) 
 
 -- the connection that an accept gave may come from the turn of the accept
 comes-from : {E : Type 0} (tells : E → EndFacts) (keeps : Terms → E → Type 0) (t : Terms) (conn : ℕ) (idle : Option ℕ) (now : ℕ) (said : ServerNote) (e f : EndFacts) (given : E) → said ≡ note.Accepted conn → KeepsStory t e → e.listener ≡ true →
-    NumbersEnds tells keeps t conn e.offering → AcceptsEnd e (tells given) f → keeps t given → ((time : Option ℕ) → t.idle ≡ Some time → idle ≡ time) →
+    NumbersFrom conn e.offering → AcceptsEnd e (tells given) f → keeps t given → ((time : Option ℕ) → t.idle ≡ Some time → idle ≡ time) →
     MayComeFrom t (Some (record { note = said; moment = now })) conn idle now (tells given).serial
 comes-from tells keeps t conn idle now said e f given notes story listens numbered took keeping waits = record {
   offered = λ offers is. (
     ap (λ (n : ServerNote). origin-at n now) notes,
-    told-serial tells keeps t conn e.offering f.offering (tells given).serial offers numbered took.offering (story.listener offers listens is),
+    told-serial conn e.offering f.offering (tells given).serial offers numbered took.offering (story.listener offers listens is),
   );
   waits = waits;
-  numbered = next-serial tells keeps t conn e.offering f.offering given (tells given).serial refl keeping took.no_listener took.fresh numbered took.offering;
+  numbered = next-serial conn e.offering f.offering (tells given).serial numbered took.offering;
 }
 
 -- ---- one turn more
@@ -89,15 +88,17 @@ no-more n m is many = grind (arith, nat_tests)
 
 module _ {E : Type 0} {G : Ghosts E} (tells : E → EndFacts) (keeps : Terms → E → Type 0) where
   fits-more : (t : Terms) (origin : Option (Origin ServerNote)) (old new : Acceptor E G) (had : List (Item ServerNote)) (item : Item ServerNote) (next : Progress) →
-      (h : AcceptorFits tells keeps t origin old had) → Turns h.listened.now item next → idle_of_acceptor new ≡ idle_of_acceptor old → HasListened next (tells (listener_of new)) →
+      (h : AcceptorFits tells keeps t origin old had) → Turns h.listened.now item next → idle_of_acceptor new ≡ idle_of_acceptor old →
+      (tells (listener_of new)).serial ≡ (tells (listener_of old)).serial → HasListened next (tells (listener_of new)) →
       count_taken new ≡ next.taken → keeps t (listener_of new) → AcceptorFits tells keeps t origin new (had ++ item ∷ [])
-  fits-more t origin old new had item next h turn idle stands taken keeping =
+  fits-more t origin old new had item next h turn idle serial stands taken keeping =
       let l = h.listened in record {
         listened = record {
           offering = l.offering;
           now = next;
           course = course-more (at_start l.offering) had (item ∷ []) l.now next l.course (course-one item l.now next turn);
           comes_from = l.comes_from;
+          unnumbered = λ offers is. serial ∙ l.unnumbered offers is;
           waits = λ time is. idle ∙ l.waits time is;
           story = l.story;
           numbered = l.numbered;
@@ -115,7 +116,7 @@ module _ {E : Type 0} {G : Ghosts E} (tells : E → EndFacts) (keeps : Terms →
       (t : Terms) (origin : Option (Origin ServerNote)) (had : List (Item ServerNote)) → AcceptorFits tells keeps t origin old had →
       AcceptorFits tells keeps t origin old (had ++ item_of up now turn ∷ [])
   stays up now old turn serves t origin had h =
-      fits-more t origin old old had (item_of up now turn) h.listened.now h (serves h.listened.now h.taken) refl h.listened.end h.taken h.kept_end
+      fits-more t origin old old had (item_of up now turn) h.listened.now h (serves h.listened.now h.taken) refl refl h.listened.end h.taken h.kept_end
 
   -- a turn without an act
   quiet : (up : Upcall) (now : ℕ) (t : Terms) (turn : Turn (ServerHandler E G) ServerNote E) → turn.act ≡ None →
@@ -177,7 +178,7 @@ module _ {E : Type 0} {G : Ghosts E} (tells : E → EndFacts) (keeps : Terms →
             leaves = refl;
           };
         }))
-        idle
+        idle none.counts.counts.serial
         (listened-more p (tells (listener_of old)) f Paused p.taken p.failed h.listened.end none.counts (same-faults p.failed _ _ none.faults h.listened.end.faults))
         (taken ∙ h.taken) (kept t h.kept_end);
     act = λ t origin had h. quiet Input now t turn quiet_;
@@ -204,7 +205,7 @@ module _ {E : Type 0} {G : Ghosts E} (tells : E → EndFacts) (keeps : Terms →
             leaves = refl;
           };
         }))
-        idle
+        idle failed.counts.counts.serial
         (listened-more p (tells (listener_of old)) f Faulted p.taken true h.listened.end failed.counts (rose-faults p.failed _ _ h.listened.end.faults failed.rose))
         (taken ∙ h.taken) (kept t h.kept_end);
     act = λ t origin had h. quiet Input now t turn quiet_;
@@ -232,15 +233,15 @@ module _ {E : Type 0} {G : Ghosts E} (tells : E → EndFacts) (keeps : Terms →
             leaves = refl;
           };
         }))
-        idle
+        idle took.counts.counts.serial
         (listened-more p (tells (listener_of old)) f Accepted (suc p.taken) p.failed h.listened.end took.counts (same-faults p.failed _ _ took.faults h.listened.end.faults))
         (taken-more (count_taken old) (count_taken new) p.taken taken h.taken) (kept t h.kept_end);
     act = λ t origin had h.
         let p = h.listened.now in
         let e = tells (listener_of old) in
-        let rest : NumbersEnds tells keeps t (count_taken old) e.offering =
+        let rest : NumbersFrom (count_taken old) e.offering =
         numbers-now (count_taken old) p.taken t e.offering p.offering h.taken h.listened.end.offering
-        (numbers-course tells keeps t (at_start h.listened.offering) p had h.listened.course h.listened.numbered) in
+        (numbers-course (at_start h.listened.offering) p had h.listened.course h.listened.numbered) in
         subst (λ (a : Option (Act (ServerHandler E G) ServerNote E)). MayAct (servers {E = E} {G = G} tells keeps) t Input (record { note = turn.note; moment = now }) a) (sym offers.installs) (
           (refl, λ time is. ap (λ (i : Option ℕ). idle_timer i) (h.listened.waits time is)),
           offers.fits t _ (given t h.kept_end)
@@ -252,8 +253,8 @@ module _ {E : Type 0} {G : Ghosts E} (tells : E → EndFacts) (keeps : Terms →
       taken-more : (n m k : ℕ) → m ≡ n + 1 → n ≡ k → m ≡ suc k
       taken-more n m k is same = omega arith
 
-      numbers-now : (n m : ℕ) (t : Terms) (a b : Option Offering) → n ≡ m → a ≡ b → NumbersEnds tells keeps t m b → NumbersEnds tells keeps t n a
-      numbers-now n m t a b is same h = subst (λ (k : ℕ). NumbersEnds tells keeps t k a) (sym is) (subst (λ (o : Option Offering). NumbersEnds tells keeps t m o) (sym same) h)
+      numbers-now : (n m : ℕ) (t : Terms) (a b : Option Offering) → n ≡ m → a ≡ b → NumbersFrom m b → NumbersFrom n a
+      numbers-now n m t a b is same h = subst (λ (k : ℕ). NumbersFrom k a) (sym is) (subst (λ (o : Option Offering). NumbersFrom m o) (sym same) h)
 
 -- ---- the start
 
@@ -269,8 +270,8 @@ begins t e listens keeps fresh offers is = left-all e.offering offers fresh (kee
 
 pub fits-new : {E : Type 0} {G : Ghosts E} (tells : E → EndFacts) (keeps : Terms → E → Type 0) (t : Terms) (origin : Option (Origin ServerNote)) (new : Acceptor E G) →
     ((u : Terms) (end : E) → keeps u end → KeepsStory u (tells end)) → (tells (listener_of new)).listener ≡ true → IsFresh (tells (listener_of new)) → count_taken new ≡ 0 →
-    keeps t (listener_of new) → serial_named t origin ≡ None → ((time : Option ℕ) → t.idle ≡ Some time → idle_of_acceptor new ≡ time) →
-    NumbersEnds tells keeps t 0 (tells (listener_of new)).offering → AcceptorFits tells keeps t origin new []
+    keeps t (listener_of new) → ((offers : List Offer) → t.offers ≡ Some offers → origin ≡ None) → ((time : Option ℕ) → t.idle ≡ Some time → idle_of_acceptor new ≡ time) →
+    NumbersFrom 0 (tells (listener_of new)).offering → AcceptorFits tells keeps t origin new []
 fits-new tells keeps t origin new stories listens fresh none keeping comes waits numbered =
     let e = tells (listener_of new) in record {
       listened = record {
@@ -278,6 +279,7 @@ fits-new tells keeps t origin new stories listens fresh none keeping comes waits
         now = at_start e.offering;
         course = refl;
         comes_from = comes;
+        unnumbered = λ offers is. (stories t (listener_of new) keeping).unnumbered offers listens is;
         waits = waits;
         story = begins t e listens (stories t (listener_of new) keeping) fresh.offering;
         numbered = numbered;
@@ -298,6 +300,7 @@ fits-attached tells keeps t origin old new had h taken idle told keeping =
         now = l.now;
         course = l.course;
         comes_from = l.comes_from;
+        unnumbered = λ offers is. ap (λ (e : EndFacts). e.serial) told ∙ l.unnumbered offers is;
         waits = λ time is. idle ∙ l.waits time is;
         story = l.story;
         numbered = l.numbered;

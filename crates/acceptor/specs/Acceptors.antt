@@ -2,17 +2,15 @@
 use Rattle.std.specs.Prelude.{◌≡◌, ◌≤◌, ℕ, Bool, true, false, List, [], Option, Some, None}
 use Rattle.ev_types.specs.declared.upcall.Why.{Why}
 use Rattle.ev_base.specs.Counts.{Counts}
-use Rattle.ev_base.specs.Story.{Offer, Offering}
+use Rattle.ev_base.specs.Story.{Offer, Offering, NumbersFrom}
 use Rattle.ev_base.specs.Terms.{Terms}
 use Rattle.ev_base.specs.End.{EndFacts}
 use Rattle.ev_base.specs.declared.end.PeerEnd.{Ghosts}
 use Rattle.reactor_journal.specs.Event.{Item, Origin}
 use Rattle.log_handler.specs.declared.note.ServerNote.{ServerNote}
 use Rattle.log_handler.specs.declared.note.ServerNote.TheVariants as note
-use Rattle.log_handler.specs.Connections.{serial_named}
 use Rattle.acceptor.specs.declared.acceptor.Acceptor.{Acceptor}
 use Rattle.acceptor.specs.Accepting.{Progress, at_start, Course}
-use Rattle.acceptor.specs.Numbering.{NumbersEnds}
 
 -- at the start the whole of the listener's story was left, where the terms have it
 abbrev pub BeginsOffers : Terms → Option Offering → Type 0
@@ -31,17 +29,18 @@ pub record HasListened (p : Progress) (e : EndFacts) : Type 0 where
   pub offering : e.offering ≡ p.offering
   pub faults : HasFaults p.failed e.faults
 
--- An acceptor had these turns, and its listener tells this. Its connections have this idle time. Its origin names no serial number,
--- since no connection is its own.
+-- An acceptor had these turns, and its listener tells this. Its connections have this idle time. Where the listener's story is told, the
+-- acceptor was registered and no turn installed it, and its listener has no serial number.
 pub record Listened {E : Type 0} (tells : E → EndFacts) (keeps : Terms → E → Type 0) (t : Terms) (origin : Option (Origin ServerNote)) (idle : Option ℕ)
     (had : List (Item ServerNote)) (e : EndFacts) : Type 0 where
   pub offering : Option Offering
   pub now : Progress
   pub course : Course (at_start offering) had now
-  pub comes_from : serial_named t origin ≡ None
+  pub comes_from : (offers : List Offer) → t.offers ≡ Some offers → origin ≡ None
+  pub unnumbered : (offers : List Offer) → t.offers ≡ Some offers → e.serial ≡ None
   pub waits : (time : Option ℕ) → t.idle ≡ Some time → idle ≡ time
   pub story : BeginsOffers t offering
-  pub numbered : NumbersEnds tells keeps t 0 offering
+  pub numbered : NumbersFrom 0 offering
   pub end : HasListened now e
 
 -- its listener

@@ -1,6 +1,5 @@
 pub mod Idle
 pub mod Accepting
-pub mod Numbering
 pub mod Acceptors
 pub mod Servers
 pub mod Steps

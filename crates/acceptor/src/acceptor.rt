@@ -2,15 +2,14 @@
 ghost use Rattle.std.specs.Prelude.{◌≡◌, ◌<◌, ◌≤◌, ◌+◌, ℕ, List, [], true, false, Contains, Some, None, Option};
 ghost use Rattle.ev_types.specs.declared.upcall.Upcall.TheVariants.{Input};
 ghost use Rattle.ev_types.specs.declared.upcall.Answer.TheVariants.{Keep};
+ghost use Rattle.ev_base.specs.Story.{Offer, NumbersFrom};
 ghost use Rattle.ev_base.specs.Terms.{Terms};
 ghost use Rattle.ev_base.specs.End.{IsFresh};
 ghost use Rattle.ev_base.specs.Net.{NetAttaches};
 ghost use Rattle.reactor_journal.specs.Event.{Item, Origin};
 ghost use Rattle.reactor_model.specs.Turns.{KeepsPromises};
-ghost use Rattle.log_handler.specs.Connections.{serial_named};
 ghost use Rattle.acceptor.specs.Idle.{IsIdleTime};
 ghost use Rattle.acceptor.specs.Accepting.{most_connections};
-ghost use Rattle.acceptor.specs.Numbering.{NumbersEnds};
 ghost use Rattle.acceptor.specs.Acceptors.{AcceptorFits, listener_of, count_taken, idle_of_acceptor};
 ghost use Rattle.acceptor.specs.Servers.{servers};
 ghost use Rattle.acceptor.specs.Steps.{TakesAcceptorTurn, NotesAccept, OffersConnection, ActsAt};
@@ -51,8 +50,8 @@ impl<E: PeerEnd> Acceptor<E> {
         requires idle { IsIdleTime idle }
         ensures end { listener_of result ≡ end }
         ensures idle { idle_of_acceptor result ≡ idle }
-        ensures fits { (t : Terms) (origin : Option (Origin ServerNote)) → E.keeps t end → serial_named t origin ≡ None
-            → ((time : Option ℕ) → t.idle ≡ Some time → idle ≡ time) → NumbersEnds E.tells E.keeps t 0 (E.tells end).offering
+        ensures fits { (t : Terms) (origin : Option (Origin ServerNote)) → E.keeps t end → ((offers : List Offer) → t.offers ≡ Some offers → origin ≡ None)
+            → ((time : Option ℕ) → t.idle ≡ Some time → idle ≡ time) → NumbersFrom 0 (E.tells end).offering
             → AcceptorFits E.tells E.keeps t origin result [] }
     {
         Acceptor {

@@ -30,6 +30,7 @@ impl PeerEnd for WaitingEnd {
       writes = end.writes;
       last_write = option_map (λ took. if took then Accepted else Paused) end.took;
       faults = 0;
+      gave = 0;
       over = false;
       bytes = None;
       written = None;
@@ -74,7 +75,7 @@ impl PeerEnd for WaitingEnd {
         })
     }
 
-    ghost keeps_story = { λ t end keeps. record { connection = λ serial story reader is. absurd (Prim.cc); listener = λ offers listens is. absurd (Prim.cc) } };
+    ghost keeps_story = { λ t end keeps. record { connection = λ serial story reader is. absurd (Prim.cc); listener = λ offers listens is. absurd (Prim.cc); unnumbered = λ offers listens is. refl } };
 }
 
 /// What a turn offers.

@@ -1,7 +1,7 @@
 -- Steps of a connection.
 use Rattle.std.proofs.Common.{◌≡◌, ◌≤◌, ◌∙◌, ◌⊎◌, ◌-◌, inl, inr, ℕ, suc, arith, List, [], ◌∷◌, ◌++◌, length, take, Bool, true, false, Option, Some, None, IsSome, refl, sym, subst, ap}
 use Rattle.std.specs.Prelude.{nat_le}
-use Rattle.std.proofs.lemmas.List.{length-take}
+use Rattle.std.proofs.lemmas.List.{length-take, length-append}
 use Rattle.std.proofs.lemmas.Bool.Decides.{nat_tests}
 use Rattle.ev_types.specs.declared.upcall.Answer.TheVariants.{Keep, Close}
 use Rattle.ev_types.specs.declared.upcall.Upcall.{Upcall}
@@ -51,11 +51,12 @@ tells-as a b c room gave bytes e f h =
 no-faults : (p : Progress) (e : EndFacts) → p.kept ≡ None → HasServed p e → e.faults ≡ 0
 no-faults p e none h = subst (λ (k : Option EndKind). HasFaults k e.faults) none h.faults
 
-served-nothing : (p : Progress) (e f : EndFacts) (came_to : Try) (kept : Option EndKind) → HasServed p e → CountsRead e came_to f → f.bytes ≡ e.bytes →
+served-nothing : (p : Progress) (e f : EndFacts) (came_to : Try) (kept : Option EndKind) → HasServed p e → CountsRead e came_to f → f.gave ≡ e.gave → f.bytes ≡ e.bytes →
     f.over ≡ found_end (Some came_to) → HasFaults kept f.faults → HasServed (record (after_read came_to f.telling p) { kept = kept }) f
-served-nothing p e f came_to kept h counts bytes over faults = record {
+served-nothing p e f came_to kept h counts gave bytes over faults = record {
   no_listener = counts.listener ∙ h.no_listener;
   given = subst (λ (b : Option ReaderBytes). HasGiven b p.taken) (sym bytes) h.given;
+  gave = gave ∙ h.gave;
   reads = subst (λ (n : ℕ). Counts n (suc p.reads)) (sym counts.reads) (counts-more e.reads p.reads h.reads);
   last_read = counts.last_read;
   over = over;
@@ -66,12 +67,12 @@ served-nothing p e f came_to kept h counts bytes over faults = record {
 -- ---- turns whose read gave no bytes
 
 at-nothing : {E : Type 0} {G : Ghosts E} (tells : E → EndFacts) (old new : LogConnection E G) (p : Progress) (came_to : Try) (kept : Option EndKind) → p.kept ≡ None → IsAt tells old p →
-    CountsRead (tells (end_of_connection old)) came_to (tells (end_of_connection new)) → (tells (end_of_connection new)).bytes ≡ (tells (end_of_connection old)).bytes →
+    CountsRead (tells (end_of_connection old)) came_to (tells (end_of_connection new)) → (tells (end_of_connection new)).gave ≡ (tells (end_of_connection old)).gave → (tells (end_of_connection new)).bytes ≡ (tells (end_of_connection old)).bytes →
     (tells (end_of_connection new)).over ≡ found_end (Some came_to) → HasFaults kept (tells (end_of_connection new)).faults →
     new.last ≡ old.last → new.decoder ≡ old.decoder → new.kept ≡ kept →
     IsAt tells new (record (after_read came_to (tells (end_of_connection new)).telling p) { kept = kept })
-at-nothing tells old new p came_to kept goes h counts bytes over faults last decoder is = record {
-  end = served-nothing p (tells (end_of_connection old)) (tells (end_of_connection new)) came_to kept h.end counts bytes over faults;
+at-nothing tells old new p came_to kept goes h counts gave bytes over faults last decoder is = record {
+  end = served-nothing p (tells (end_of_connection old)) (tells (end_of_connection new)) came_to kept h.end counts gave bytes over faults;
   last = last ∙ h.last;
   kept = is;
   decoder = λ none. subst (λ (d : DecoderState). StandsFor d p.taken × (d.bad ≡ None)) (sym decoder) (h.decoder goes);
@@ -88,7 +89,7 @@ module _ {E : Type 0} {G : Ghosts E} (tells : E → EndFacts) (now : ℕ) (old n
       tells = tells-as _ before.telling _ (length buffer) got.Pause [] stood.end.telling whole reads.telling;
       serves = record { notes = turned.notes; answers = turned.answers; leaves = refl };
     };
-    stands = at-nothing tells old new before Paused None goes stood reads.counts reads.bytes reads.over (reads.faults ∙ no-faults before _ goes stood.end) last decoder (kept ∙ stood.kept ∙ goes);
+    stands = at-nothing tells old new before Paused None goes stood reads.counts reads.gave reads.bytes reads.over (reads.faults ∙ no-faults before _ goes stood.end) last decoder (kept ∙ stood.kept ∙ goes);
   }
 
   over-faults : (s : Stop) (n : ℕ) → n ≡ 0 → HasFaults (Some (end_of s)) n
@@ -106,7 +107,7 @@ module _ {E : Type 0} {G : Ghosts E} (tells : E → EndFacts) (now : ℕ) (old n
       tells = tells-as _ before.telling _ (length buffer) got.Over [] stood.end.telling whole reads.telling;
       serves = record { notes = turned.notes; answers = turned.answers; leaves = refl };
     };
-    stands = at-nothing tells old new before WasOver (Some (end_of (decode before.taken).stop)) goes stood reads.counts reads.bytes reads.over
+    stands = at-nothing tells old new before WasOver (Some (end_of (decode before.taken).stop)) goes stood reads.counts reads.gave reads.bytes reads.over
         (over-faults (decode before.taken).stop _ (reads.faults ∙ no-faults before _ goes stood.end)) last decoder kept;
   }
 
@@ -123,7 +124,7 @@ module _ {E : Type 0} {G : Ghosts E} (tells : E → EndFacts) (now : ℕ) (old n
       tells = tells-as _ before.telling _ (length buffer) got.Failed [] stood.end.telling whole reads.telling;
       serves = record { notes = turned.notes; answers = turned.answers; leaves = refl };
     };
-    stands = at-nothing tells old new before Faulted (Some end.Failed) goes stood reads.counts reads.bytes reads.over
+    stands = at-nothing tells old new before Faulted (Some end.Failed) goes stood reads.counts reads.gave reads.bytes reads.over
         (failed-faults _ _ (no-faults before _ goes stood.end) reads.rose) last decoder kept;
   }
 
@@ -162,6 +163,7 @@ leads-piece tells now old new turn buffer n before goes stood whole reads last t
         end = record {
           no_listener = reads.counts.listener ∙ stood.end.no_listener;
           given = given-more e.bytes f.bytes before.taken bytes stood.end.given reads.bytes;
+          gave = omega (arith, reads.gave, stood.end.gave, count, length-append before.taken bytes);
           reads = subst (λ (m : ℕ). Counts m (suc before.reads)) (sym reads.counts.reads) (counts-more e.reads before.reads stood.end.reads);
           last_read = reads.counts.last_read ∙ ap (λ (m : ℕ). Some (Moved m)) count;
           over = reads.over;
@@ -184,6 +186,7 @@ at-same tells old new p kept goes h same last decoder is faults =
     let served : HasServed (record p { kept = kept }) e = record {
       no_listener = h.end.no_listener;
       given = h.end.given;
+      gave = h.end.gave;
       reads = h.end.reads;
       last_read = h.end.last_read;
       over = h.end.over;
@@ -350,6 +353,7 @@ fits-new tells keeps t origin new stories reader fresh stands sound none keeping
         end = record {
           no_listener = reader;
           given = fresh.bytes;
+          gave = fresh.gave;
           reads = fresh.reads;
           last_read = fresh.last_read;
           over = fresh.over;

@@ -1,5 +1,5 @@
 -- What a connection of the logging server means by its turns: which turns it has had, and what it leaves.
-use Rattle.std.specs.Prelude.{◌≡◌, ◌≤◌, ℕ, Bool, true, false, List, [], Option, Some, None, option_and_then}
+use Rattle.std.specs.Prelude.{◌≡◌, ◌≤◌, ℕ, Bool, true, false, List, [], length, Option, Some, None, option_and_then}
 use Rattle.ev_types.specs.declared.upcall.Why.{Why}
 use Rattle.ev_types.specs.declared.upcall.Why.TheVariants as why
 use Rattle.ev_base.specs.Counts.{Counts}
@@ -18,13 +18,14 @@ use Rattle.log_handler.specs.declared.note.ServerNote.TheVariants as note
 use Rattle.log_handler.specs.declared.connection.LogConnection.{LogConnection}
 use Rattle.log_handler.specs.Connection.{Progress, at_start, Course}
 
--- The serial number that an origin names: where the terms have the listener's story, that of the connection accepted in it.
+-- What an origin says of the serial number of a handler's end: where the terms have the listener's story, it is that of the connection
+-- accepted in it, and an end that was not accepted has none.
 abbrev pub accepted_in : ServerNote → Option ℕ
 accepted_in (note.Accepted conn) = Some conn
 accepted_in _ = None
 
-abbrev pub serial_named : Terms → Option (Origin ServerNote) → Option ℕ
-serial_named t origin = elim t.offers [ None ↦ None | Some offers ↦ option_and_then (λ o. accepted_in o.note) origin ]
+abbrev pub serial_named : Terms → Option (Origin ServerNote) → Option (Option ℕ)
+serial_named t origin = elim t.offers [ None ↦ None | Some offers ↦ Some (option_and_then (λ o. accepted_in o.note) origin) ]
 
 -- A connection of this number, made at this moment, may have this origin under the terms, its end this serial number, and it this
 -- idle time: where the terms have the listener's story, it was offered by the turn that accepted the connection of its number; and
@@ -53,6 +54,7 @@ HasFaults _ faults = faults ≡ 0
 pub record HasServed (p : Progress) (e : EndFacts) : Type 0 where
   pub no_listener : e.listener ≡ false
   pub given : HasGiven e.bytes p.taken
+  pub gave : e.gave ≡ length p.taken
   pub reads : Counts e.reads p.reads
   pub last_read : e.last_read ≡ p.last_read
   pub over : e.over ≡ found_end p.last_read
