@@ -1,7 +1,7 @@
 //! Reactors of steady handlers, and their calls.
 ghost use Rattle.std.specs.Prelude.{◌≤◌, IfOk, OnErr, Some};
 ghost use Rattle.reactor_model.specs.Turns.{IsTimer};
-ghost use Rattle.core_rows.specs.Idle.{rows, AreOut, AreOutOrOne, IsIdle, IsOut, IsOutOrIdle, WasStopped};
+ghost use Rattle.core_rows.specs.Idle.{AreOut, AreOutOrOne, IsIdle, IsOut, IsOutOrIdle, WasStopped};
 
 use crate::Steady;
 use demux::PlayEnd;
@@ -9,8 +9,8 @@ use ev_base::Net;
 use ev_types::{Handle, Kind, Mask, NoMemory};
 use reactor_core::laws::settled_later;
 use reactor_core::{
-    CancelRefused, Core, Done, HandOverRefused, LiveRefused, NotLive, Parts, PollRefused, Polled,
-    PostRefused, RegisterRefused, Settled, StartRefused, StateRefused,
+    CancelRefused, Core, Done, HandOverRefused, LiveRefused, Means, NotLive, Parts, PollRefused,
+    Polled, PostRefused, RegisterRefused, Settled, StartRefused, StateRefused,
 };
 use reactor_model::{NoWatch, Volumes};
 use timer_queue::SortedTimers;
@@ -27,8 +27,8 @@ pub fn register<M: Net<End = PlayEnd>, V: Volumes<u64>>(
     handler: Steady,
     mask: Mask,
 ) -> Result<Handle, (Steady, RegisterRefused)>
-    requires { IsIdle (rows M.facts M.keeps V.facts) core.old }
-    ensures { IsIdle (rows M.facts M.keeps V.facts) core.new }
+    requires { IsIdle ⟦<Rows<M, V> as Means>⟧.m core.old }
+    ensures { IsIdle ⟦<Rows<M, V> as Means>⟧.m core.new }
 {
     core.register(handler, mask, None)
 }
@@ -40,9 +40,9 @@ pub fn register_timed<M: Net<End = PlayEnd>, V: Volumes<u64>>(
     mask: Mask,
     timer: (u64, u64),
 ) -> Result<Handle, (Steady, RegisterRefused)>
-    requires idle { IsIdle (rows M.facts M.keeps V.facts) core.old }
+    requires idle { IsIdle ⟦<Rows<M, V> as Means>⟧.m core.old }
     requires timer { IsTimer (Some timer) }
-    ensures { IsIdle (rows M.facts M.keeps V.facts) core.new }
+    ensures { IsIdle ⟦<Rows<M, V> as Means>⟧.m core.new }
 {
     core.register(handler, mask, Some(timer))
 }
@@ -55,8 +55,8 @@ pub fn post<M: Net<End = PlayEnd>, V: Volumes<u64>>(
     from: u64,
     seq: u64,
 ) -> Result<(), PostRefused>
-    requires { IsIdle (rows M.facts M.keeps V.facts) core.old }
-    ensures { IsIdle (rows M.facts M.keeps V.facts) core.new }
+    requires { IsIdle ⟦<Rows<M, V> as Means>⟧.m core.old }
+    ensures { IsIdle ⟦<Rows<M, V> as Means>⟧.m core.new }
 {
     core.post(handle, kind, from, seq)
 }
@@ -69,8 +69,8 @@ pub fn post_in_room<M: Net<End = PlayEnd>, V: Volumes<u64>>(
     from: u64,
     seq: u64,
 ) -> Result<(), PostRefused>
-    requires { IsIdle (rows M.facts M.keeps V.facts) core.old }
-    ensures { IsIdle (rows M.facts M.keeps V.facts) core.new }
+    requires { IsIdle ⟦<Rows<M, V> as Means>⟧.m core.old }
+    ensures { IsIdle ⟦<Rows<M, V> as Means>⟧.m core.new }
 {
     if core.is_ended() {
         return Err(PostRefused::Stopped);
@@ -88,9 +88,9 @@ pub fn post_in_room<M: Net<End = PlayEnd>, V: Volumes<u64>>(
 pub fn start<M: Net<End = PlayEnd>, V: Volumes<u64>>(
     core: &mut Rows<M, V>,
 ) -> Result<Option<Done<Steady>>, StartRefused>
-    requires { IsIdle (rows M.facts M.keeps V.facts) core.old }
-    ensures ok { IfOk result (λ done. IsOutOrIdle (rows M.facts M.keeps V.facts) core.new done) }
-    ensures err { OnErr result (IsIdle (rows M.facts M.keeps V.facts) core.new) }
+    requires { IsIdle ⟦<Rows<M, V> as Means>⟧.m core.old }
+    ensures ok { IfOk result (λ done. IsOutOrIdle ⟦<Rows<M, V> as Means>⟧.m core.new done) }
+    ensures err { OnErr result (IsIdle ⟦<Rows<M, V> as Means>⟧.m core.new) }
 {
     match core.start() {
         Ok(Some(job)) => Ok(Some(job.run())),
@@ -104,8 +104,8 @@ pub fn settle<M: Net<End = PlayEnd>, V: Volumes<u64>>(
     core: &mut Rows<M, V>,
     done: Done<Steady>,
 ) -> Settled
-    requires { IsOut (rows M.facts M.keeps V.facts) core.old done }
-    ensures { IsIdle (rows M.facts M.keeps V.facts) core.new }
+    requires { IsOut ⟦<Rows<M, V> as Means>⟧.m core.old done }
+    ensures { IsIdle ⟦<Rows<M, V> as Means>⟧.m core.new }
 {
     core.settle(done)
 }
@@ -115,9 +115,10 @@ pub fn start_meanwhile<M: Net<End = PlayEnd>, V: Volumes<u64>>(
     core: &mut Rows<M, V>,
     done: &Done<Steady>,
 ) -> Result<Option<Done<Steady>>, StartRefused>
-    requires { IsOut (rows M.facts M.keeps V.facts) core.old done.now }
-    ensures ok { IfOk result (λ other. AreOutOrOne (rows M.facts M.keeps V.facts) core.new done.entry.now other) }
-    ensures err { OnErr result (IsOut (rows M.facts M.keeps V.facts) core.new done.entry.now) }
+    requires { IsOut ⟦<Rows<M, V> as Means>⟧.m core.old done.now }
+    ensures ok { IfOk result
+        (λ other. AreOutOrOne ⟦<Rows<M, V> as Means>⟧.m core.new done.entry.now other) }
+    ensures err { OnErr result (IsOut ⟦<Rows<M, V> as Means>⟧.m core.new done.entry.now) }
 {
     settled_later::<Steady>();
     match core.start() {
@@ -133,8 +134,8 @@ pub fn settle_one<M: Net<End = PlayEnd>, V: Volumes<u64>>(
     done: Done<Steady>,
     other: &Done<Steady>,
 ) -> Settled
-    requires { AreOut (rows M.facts M.keeps V.facts) core.old done other.now }
-    ensures { IsOut (rows M.facts M.keeps V.facts) core.new other.entry.now }
+    requires { AreOut ⟦<Rows<M, V> as Means>⟧.m core.old done other.now }
+    ensures { IsOut ⟦<Rows<M, V> as Means>⟧.m core.new other.entry.now }
 {
     settled_later::<Steady>();
     core.settle(done)
@@ -144,8 +145,8 @@ pub fn settle_one<M: Net<End = PlayEnd>, V: Volumes<u64>>(
 pub fn turn<M: Net<End = PlayEnd>, V: Volumes<u64>>(
     core: &mut Rows<M, V>,
 ) -> Result<Option<u64>, StartRefused>
-    requires { IsIdle (rows M.facts M.keeps V.facts) core.old }
-    ensures { IsIdle (rows M.facts M.keeps V.facts) core.new }
+    requires { IsIdle ⟦<Rows<M, V> as Means>⟧.m core.old }
+    ensures { IsIdle ⟦<Rows<M, V> as Means>⟧.m core.new }
 {
     match start(core) {
         Ok(Some(done)) => {
@@ -164,8 +165,8 @@ pub fn remove_meanwhile<M: Net<End = PlayEnd>, V: Volumes<u64>>(
     done: &Done<Steady>,
     handle: Handle,
 ) -> Result<(), NotLive>
-    requires { IsOut (rows M.facts M.keeps V.facts) core.old done.now }
-    ensures { IsOut (rows M.facts M.keeps V.facts) core.new done.entry.now }
+    requires { IsOut ⟦<Rows<M, V> as Means>⟧.m core.old done.now }
+    ensures { IsOut ⟦<Rows<M, V> as Means>⟧.m core.new done.entry.now }
 {
     settled_later::<Steady>();
     core.remove(handle)
@@ -177,8 +178,8 @@ pub fn cancel_meanwhile<M: Net<End = PlayEnd>, V: Volumes<u64>>(
     done: &Done<Steady>,
     timer: u64,
 ) -> Result<(), CancelRefused>
-    requires { IsOut (rows M.facts M.keeps V.facts) core.old done.now }
-    ensures { IsOut (rows M.facts M.keeps V.facts) core.new done.entry.now }
+    requires { IsOut ⟦<Rows<M, V> as Means>⟧.m core.old done.now }
+    ensures { IsOut ⟦<Rows<M, V> as Means>⟧.m core.new done.entry.now }
 {
     settled_later::<Steady>();
     core.cancel(timer)
@@ -189,24 +190,24 @@ pub fn remove<M: Net<End = PlayEnd>, V: Volumes<u64>>(
     core: &mut Rows<M, V>,
     handle: Handle,
 ) -> Result<(), NotLive>
-    requires { IsIdle (rows M.facts M.keeps V.facts) core.old }
-    ensures { IsIdle (rows M.facts M.keeps V.facts) core.new }
+    requires { IsIdle ⟦<Rows<M, V> as Means>⟧.m core.old }
+    ensures { IsIdle ⟦<Rows<M, V> as Means>⟧.m core.new }
 {
     core.remove(handle)
 }
 
 /// Stops the reactor.
 pub fn stop<M: Net<End = PlayEnd>, V: Volumes<u64>>(core: &mut Rows<M, V>)
-    requires { IsIdle (rows M.facts M.keeps V.facts) core.old }
-    ensures idle { IsIdle (rows M.facts M.keeps V.facts) core.new }
-    ensures over { WasStopped (rows M.facts M.keeps V.facts) core.new }
+    requires { IsIdle ⟦<Rows<M, V> as Means>⟧.m core.old }
+    ensures idle { IsIdle ⟦<Rows<M, V> as Means>⟧.m core.new }
+    ensures over { WasStopped ⟦<Rows<M, V> as Means>⟧.m core.new }
 {
     core.stop();
 }
 
 /// Takes a reactor apart, stopped first where it was not.
 pub fn close<M: Net<End = PlayEnd>, V: Volumes<u64>>(core: Rows<M, V>) -> Left<M, V>
-    requires { IsIdle (rows M.facts M.keeps V.facts) core }
+    requires { IsIdle ⟦<Rows<M, V> as Means>⟧.m core }
 {
     let mut core = core;
     stop(&mut core);
@@ -217,8 +218,8 @@ pub fn close<M: Net<End = PlayEnd>, V: Volumes<u64>>(core: Rows<M, V>) -> Left<M
 pub fn poll<M: Net<End = PlayEnd>, V: Volumes<u64>>(
     core: &mut Rows<M, V>,
 ) -> Result<Polled, PollRefused>
-    requires { IsIdle (rows M.facts M.keeps V.facts) core.old }
-    ensures { IsIdle (rows M.facts M.keeps V.facts) core.new }
+    requires { IsIdle ⟦<Rows<M, V> as Means>⟧.m core.old }
+    ensures { IsIdle ⟦<Rows<M, V> as Means>⟧.m core.new }
 {
     core.poll(None)
 }
@@ -230,11 +231,11 @@ pub fn schedule<M: Net<End = PlayEnd>, V: Volumes<u64>>(
     delay: u64,
     every: u64,
 ) -> Result<u64, LiveRefused>
-    requires idle { IsIdle (rows M.facts M.keeps V.facts) core.old }
+    requires idle { IsIdle ⟦<Rows<M, V> as Means>⟧.m core.old }
     requires some { 1 ≤ delay }
     requires within { delay ≤ 4294967295 }
     requires period { every ≤ 4294967295 }
-    ensures { IsIdle (rows M.facts M.keeps V.facts) core.new }
+    ensures { IsIdle ⟦<Rows<M, V> as Means>⟧.m core.new }
 {
     core.schedule(handle, delay, every)
 }
@@ -244,8 +245,8 @@ pub fn cancel<M: Net<End = PlayEnd>, V: Volumes<u64>>(
     core: &mut Rows<M, V>,
     timer: u64,
 ) -> Result<(), CancelRefused>
-    requires { IsIdle (rows M.facts M.keeps V.facts) core.old }
-    ensures { IsIdle (rows M.facts M.keeps V.facts) core.new }
+    requires { IsIdle ⟦<Rows<M, V> as Means>⟧.m core.old }
+    ensures { IsIdle ⟦<Rows<M, V> as Means>⟧.m core.new }
 {
     core.cancel(timer)
 }
@@ -255,8 +256,8 @@ pub fn suspend<M: Net<End = PlayEnd>, V: Volumes<u64>>(
     core: &mut Rows<M, V>,
     handle: Handle,
 ) -> Result<(), StateRefused>
-    requires { IsIdle (rows M.facts M.keeps V.facts) core.old }
-    ensures { IsIdle (rows M.facts M.keeps V.facts) core.new }
+    requires { IsIdle ⟦<Rows<M, V> as Means>⟧.m core.old }
+    ensures { IsIdle ⟦<Rows<M, V> as Means>⟧.m core.new }
 {
     core.suspend(handle)
 }
@@ -266,8 +267,8 @@ pub fn resume<M: Net<End = PlayEnd>, V: Volumes<u64>>(
     core: &mut Rows<M, V>,
     handle: Handle,
 ) -> Result<(), StateRefused>
-    requires { IsIdle (rows M.facts M.keeps V.facts) core.old }
-    ensures { IsIdle (rows M.facts M.keeps V.facts) core.new }
+    requires { IsIdle ⟦<Rows<M, V> as Means>⟧.m core.old }
+    ensures { IsIdle ⟦<Rows<M, V> as Means>⟧.m core.new }
 {
     core.resume(handle)
 }
@@ -278,8 +279,8 @@ pub fn set_mask<M: Net<End = PlayEnd>, V: Volumes<u64>>(
     handle: Handle,
     mask: Mask,
 ) -> Result<(), LiveRefused>
-    requires { IsIdle (rows M.facts M.keeps V.facts) core.old }
-    ensures { IsIdle (rows M.facts M.keeps V.facts) core.new }
+    requires { IsIdle ⟦<Rows<M, V> as Means>⟧.m core.old }
+    ensures { IsIdle ⟦<Rows<M, V> as Means>⟧.m core.new }
 {
     core.set_mask(handle, mask)
 }
@@ -288,8 +289,8 @@ pub fn set_mask<M: Net<End = PlayEnd>, V: Volumes<u64>>(
 pub fn hand_over<M: Net<End = PlayEnd>, V: Volumes<u64>>(
     core: &mut Rows<M, V>,
 ) -> Result<u64, HandOverRefused>
-    requires { IsIdle (rows M.facts M.keeps V.facts) core.old }
-    ensures { IsIdle (rows M.facts M.keeps V.facts) core.new }
+    requires { IsIdle ⟦<Rows<M, V> as Means>⟧.m core.old }
+    ensures { IsIdle ⟦<Rows<M, V> as Means>⟧.m core.new }
 {
     core.hand_over()
 }

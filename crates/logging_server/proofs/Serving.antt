@@ -38,6 +38,8 @@ use Rattle.logging_server.specs.declared.status.Status.{Status}
 use Rattle.logging_server.proofs.Journals.{told_is, handed_over}
 use Rattle.logging_server.proofs.Outcome.{Became, became}
 use Rattle.logging_server.proofs.Endings.{Known, wrote, has_status, stands_for}
+use Rattle.reactor_core.proofs.Ends.{such_told}
+use Rattle.reactor_core.specs.Ends.{AreRetired}
 
 -- A run that ended so left these parts of its reactor, which stand for its history, under the terms that say all that the input, the
 -- output and the volumes told before it.
@@ -73,7 +75,7 @@ module _ {S K V : Type 0} (G : Ghosts (OneEnd S)) (source : S → SourceFacts) (
     (parts : Parts ServerNote (OneNet S) Content (LineSink K) V) (why : Option Halt) (lost : Bool) (left : IsLeft G source sink volumes i o v parts why lost)
     (last : OneEnd S) (is_last : (handle : ℕ) (end : OneEnd S) → (one_net_facts parts.net).retired ≡ Some ((handle, end) ∷ []) → last ≡ end) where
   retired : RetiresOne (one_meaning {S = S} {K = K} {V = V} {G = G} source sink volumes).means (terms_of_run i o v) left.finished.closed parts.net.retired.items
-  retired = retires_one _ (terms_of_run i o v) left.journal left.finished.closed parts.net.retired.items left.stand.net.retired
+  retired = retires_one _ (terms_of_run i o v) left.journal left.finished.closed parts.net.retired.items (such_told (λ ends. AreRetired (one_meaning {S = S} {K = K} {V = V} {G = G} source sink volumes).means (terms_of_run i o v) (past_of left.journal) ends) (Some parts.net.retired.items) left.stand.net.retired)
 
   gone : ConnectionGone (one_end_facts source) (OneEndKeeps source) (terms_of_run i o v) (origin_of (past_of left.finished.closed.before) 0) last (turns_in left.finished.closed.before) left.finished.closed.reason left.finished.closed.note
   gone = subst (λ (end : OneEnd S). ConnectionGone (one_end_facts source) (OneEndKeeps source) (terms_of_run i o v) (origin_of (past_of left.finished.closed.before) 0) end (turns_in left.finished.closed.before) left.finished.closed.reason left.finished.closed.note)

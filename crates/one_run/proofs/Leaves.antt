@@ -19,6 +19,7 @@ use Rattle.ev_base.specs.Net.{NetFacts}
 use Rattle.reactor_journal.specs.Follow.{is_legal}
 use Rattle.reactor_summary.proofs.Told.{told}
 use Rattle.one_run.specs.Phases.{one_handle, note_of, notes_in, turns_in, is_rest, HasClosed, IsFinished}
+use Rattle.reactor_core.proofs.Ends.{such_told}
 
 -- ---- retired ends
 
@@ -116,7 +117,7 @@ pub one_came_back : {H E N : Type 0} (means : Handling H E N) (t : Terms) (h : L
     → net.retired ≡ Some retired → net.turned_away ≡ Some turned_away
     → (handle : ℕ) × (end : E) × (net.retired ≡ Some ((handle, end) ∷ [])) × (net.turned_away ≡ Some [])
 one_came_back means t h f net retired turned_away legal stands are away =
-    let one = retires_one means t h f.closed retired (subst (λ told. WhereTold (λ ends. AreRetired means t (past_of h) ends) told) are stands.retired) in
+    let one = retires_one means t h f.closed retired (subst (λ told. WhereTold (λ ends. AreRetired means t (past_of h) ends) told) are (such_told _ _ stands.retired)) in
     let none = none_turned_away means t (past_of h) turned_away (sym ((told t.most (past_of h) legal).refused) ∙ ap (λ s. s.refused) f.sums)
-    (subst (λ told. WhereTold (λ ends. AreTurnedAway means t (past_of h) ends) told) away stands.turned_away) in
+    (subst (λ told. WhereTold (λ ends. AreTurnedAway means t (past_of h) ends) told) away (such_told _ _ stands.turned_away)) in
     (0, one.end, are ∙ ap Some one.is, away ∙ ap Some none)

@@ -20,6 +20,7 @@ use Rattle.reactor_model.specs.declared.handler.Act.{Act}
 use Rattle.reactor_model.specs.declared.handler.Act.TheVariants.{Install, MaskMine, CancelMine, Stop}
 use Rattle.reactor_core.specs.Stands.{Meaning, Stands}
 use Rattle.reactor_core.specs.Removing.{StopsOnce}
+use Rattle.reactor_core.specs.Refusals.{AttachesStand}
 use Rattle.reactor_core.specs.Settling.{IsClosing, IsSettling, returned}
 use Rattle.reactor_core.specs.Settles.{SettlesEvent}
 use Rattle.reactor_core.specs.Upcalls.{DoneFits}
@@ -32,32 +33,34 @@ use Rattle.reactor_core.proofs.Moves.{IsOpenAs, found_open}
 -- ---- the act
 
 module _ {H M Q W V N E : Type 0} (m : Meaning H M Q W V N E) (t : Terms) (old new : Core H M Q W V N E) (F : ℕ) (h : List (Entry N)) (handle : Handle) (act : Option (Act H N E)) where
-  pub acts_none : act ≡ None → Stands m t new F h → Acts m t F h handle act old new
-  acts_none q st = subst (λ a. Acts m t F h handle a old new) (sym q) (record { entries = []; appends = refl; stands = subst (λ hs. Stands m t new F hs) (sym (append-nil h)) st })
+  pub acts_none : act ≡ None → AttachesStand m old new → Stands m t new F h → Acts m t F h handle act old new
+  acts_none q same st = subst (λ a. Acts m t F h handle a old new) (sym q) (record { entries = []; appends = refl; faults = λ q. same; stands = subst (λ hs. Stands m t new F hs) (sym (append-nil h)) st })
 
   pub acts_install : (handler : H) (mask : Mask) (timer : Option (ℕ × ℕ)) → act ≡ Some (Install handler mask timer) → Installs m t F h mask timer old new → Acts m t F h handle act old new
-  acts_install handler mask timer q i = subst (λ a. Acts m t F h handle a old new) (sym q) (record { entries = i.entries; appends = i.appends; stands = i.stands })
+  acts_install handler mask timer q i = subst (λ a. Acts m t F h handle a old new) (sym q) (record { entries = i.entries; appends = i.appends; faults = i.faults; stands = i.stands })
 
-  pub acts_mask : (mask : Mask) → act ≡ Some (MaskMine mask) → Stands m t new F (h ++ mask_mine (is_alive (summary (past_of h)) handle.0) handle mask) → Acts m t F h handle act old new
-  acts_mask mask q st = subst (λ a. Acts m t F h handle a old new) (sym q) (record { entries = mask_mine (is_alive (summary (past_of h)) handle.0) handle mask; appends = refl; stands = st })
+  pub acts_mask : (mask : Mask) → act ≡ Some (MaskMine mask) → AttachesStand m old new → Stands m t new F (h ++ mask_mine (is_alive (summary (past_of h)) handle.0) handle mask) → Acts m t F h handle act old new
+  acts_mask mask q same st = subst (λ a. Acts m t F h handle a old new) (sym q) (record { entries = mask_mine (is_alive (summary (past_of h)) handle.0) handle mask; appends = refl; faults = λ q. same; stands = st })
 
-  pub acts_cancel : (timer : ℕ) → act ≡ Some (CancelMine timer) → Stands m t new F (h ++ cancel_mine (is_mine (summary (past_of h)) handle.0 timer) timer) → Acts m t F h handle act old new
-  acts_cancel timer q st = subst (λ a. Acts m t F h handle a old new) (sym q) (record { entries = cancel_mine (is_mine (summary (past_of h)) handle.0 timer) timer; appends = refl; stands = st })
+  pub acts_cancel : (timer : ℕ) → act ≡ Some (CancelMine timer) → AttachesStand m old new → Stands m t new F (h ++ cancel_mine (is_mine (summary (past_of h)) handle.0 timer) timer) → Acts m t F h handle act old new
+  acts_cancel timer q same st = subst (λ a. Acts m t F h handle a old new) (sym q) (record { entries = cancel_mine (is_mine (summary (past_of h)) handle.0 timer) timer; appends = refl; faults = λ q. same; stands = st })
 
-  stopped : (ended : Bool) → (summary (past_of h)).ended ≡ ended → StopsOnce m t F h new ended → Acts m t F h handle (Some Stop) old new
-  stopped true e st = record {
+  stopped : AttachesStand m old new → (ended : Bool) → (summary (past_of h)).ended ≡ ended → StopsOnce m t F h new ended → Acts m t F h handle (Some Stop) old new
+  stopped same true e st = record {
     entries = [];
+    faults = λ q. same;
     appends = subst (λ (b : Bool). StopAppends {N = N} (summary (past_of h)) b []) (sym e) refl;
     stands = subst (λ hs. Stands m t new F hs) (sym (append-nil h)) st;
   }
-  stopped false e st = record {
+  stopped same false e st = record {
     entries = Ended ∷ st.entries;
+    faults = λ q. same;
     appends = subst (λ (b : Bool). StopAppends (summary (past_of h)) b (Ended ∷ st.entries)) (sym e) (st.entries, st.removals, refl);
     stands = subst (λ hs. Stands m t new F hs) (append_assoc h (Ended ∷ []) st.entries) st.stands;
   }
 
-  pub acts_stop : act ≡ Some Stop → StopsOnce m t F h new (summary (past_of h)).ended → Acts m t F h handle act old new
-  acts_stop q st = subst (λ a. Acts m t F h handle a old new) (sym q) (stopped (summary (past_of h)).ended refl st)
+  pub acts_stop : act ≡ Some Stop → AttachesStand m old new → StopsOnce m t F h new (summary (past_of h)).ended → Acts m t F h handle act old new
+  acts_stop q same st = subst (λ a. Acts m t F h handle a old new) (sym q) (stopped same (summary (past_of h)).ended refl st)
 
 -- ---- the act of a turn that was settled
 
@@ -115,6 +118,7 @@ settles m t F h done old mid new settled e same a n =
       closing = e.entries;
       is_closing = e.closing;
       acted = a.entries;
+      faults = λ q. a.faults q ∙ same;
       is_acted = subst (λ (k : ℕ). ActAppends t.most (summary (past_of ((h ++ returned done ∷ []) ++ e.entries))) done.handle done.turn.act k (m.facts new.net).failed_attaches a.entries) same a.appends;
       stands = a.stands;
       entries = n.entries ∙ ((told t.most (past_of whole) a.stands.tracks.legal).entries ∙ length-reverse whole);

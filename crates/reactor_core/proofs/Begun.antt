@@ -12,7 +12,7 @@ use Rattle.reactor_model.specs.Handling.{Handling}
 use Rattle.handler_repo.specs.Seats as R
 use Rattle.reactor_state.specs.State.{no_places}
 use Rattle.reactor_core.specs.Handlers.{SeatStands}
-use Rattle.reactor_core.specs.Ends.{WhereTold, AreRetired, AreTurnedAway}
+use Rattle.reactor_core.specs.Ends.{WhereTold}
 use Rattle.reactor_core.specs.Calls.{AreCalls}
 use Rattle.reactor_core.specs.Stands.{Meaning, NetStands, HasTaken, Stands}
 use Rattle.reactor_core.specs.Beginning.{IsOver}
@@ -27,8 +27,8 @@ told_none P (Some xs) p h = subst P (sym h) p
 
 new_net : {H E N : Type 0} (means : Handling H E N) (t : Terms) (net : NetFacts E) → IsNew net → (t.steady ≡ Some true → net.steady ≡ true) → NetStands {N = N} means t [] [] net
 new_net {N = N} means t net n steady = record {
-  retired = told_none (AreRetired {N = N} means t []) net.retired refl n.retired;
-  turned_away = told_none (AreTurnedAway {N = N} means t []) net.turned_away refl n.turned_away;
+  retired = ([], refl, told_none (λ b. b ≡ []) net.retired refl n.retired);
+  turned_away = ([], refl, told_none (λ b. b ≡ []) net.turned_away refl n.turned_away);
   attached = n.attached;
   masks = told_none (λ masks. masks ≡ []) net.masks refl n.masks;
   faults = omega arith;

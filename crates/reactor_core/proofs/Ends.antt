@@ -22,7 +22,7 @@ use Rattle.reactor_summary.specs.declared.parts.LiveHandle.{LiveHandle}
 use Rattle.reactor_summary.specs.Summary as S
 use Rattle.reactor_summary.specs.Summary.{Summary, summary, step, with_mask, with_suspended, with_end, of_handle}
 use Rattle.reactor_model.specs.Handling.{Handling, Names}
-use Rattle.reactor_core.specs.Ends.{WhereTold, number_of, mask_entry, live_numbers, live_masks, AreRetired, AreTurnedAway, is_fault}
+use Rattle.reactor_core.specs.Ends.{WhereTold, ThereIs, number_of, mask_entry, live_numbers, live_masks, AreRetired, AreTurnedAway, is_fault}
 use Rattle.reactor_core.specs.Calls.{AreCalls, IsAnsweredAt, IsAskedFor, is_taken}
 use Rattle.reactor_core.specs.Stands.{NetStands}
 use Rattle.reactor_journal.proofs.Steps.{same_tests}
@@ -41,6 +41,16 @@ told_one P Q (Some told) new x q f h = subst (WhereTold Q) (sym q) (f told h)
 pub told_map : {A : Type 0} (P Q : A → Type 0) (g : A → A) (old new : Option A) → new ≡ option_map g old → ((a : A) → P a → Q (g a)) → WhereTold P old → WhereTold Q new
 told_map P Q g None new q f h = subst (WhereTold Q) (sym q) tt
 told_map P Q g (Some a) new q f h = subst (WhereTold Q) (sym q) (f a h)
+
+pub such_same : {A : Type 0} (P Q : A → Type 0) (old new : Option A) → new ≡ old → ((a : A) → P a → Q a) → ThereIs P old → ThereIs Q new
+such_same P Q old new q f h = (h.0, f h.0 h.1, subst (WhereTold (λ b. b ≡ h.0)) (sym q) h.2)
+
+pub such_one : {A : Type 0} (P Q : List A → Type 0) (old new : Option (List A)) (x : A) → new ≡ with_one old x → ((told : List A) → P told → Q (x ∷ told)) → ThereIs P old → ThereIs Q new
+such_one P Q old new x q f h = (x ∷ h.0, f h.0 h.1, told_one (λ b. b ≡ h.0) (λ b. b ≡ x ∷ h.0) old new x q (λ told r. ap (λ xs. x ∷ xs) r) h.2)
+
+pub such_told : {A : Type 0} (P : A → Type 0) (told : Option A) → ThereIs P told → WhereTold P told
+such_told P None h = tt
+such_told P (Some a) h = subst P (sym h.2) h.1
 
 -- ---- reversed lists
 
@@ -177,8 +187,8 @@ module _ {H E N : Type 0} (means : Handling H E N) (t : Terms) where
   -- an entry that the net has nothing to do with
   pub net_quiet : (e : Entry N) (past : List (Entry N)) (pending : List Report) (net : NetFacts E) → keeps_net e ≡ true → NetStands means t past pending net → NetStands means t (e ∷ past) pending net
   net_quiet e past pending net q n = record {
-    retired = told_same (AreRetired means t past) (AreRetired means t (e ∷ past)) net.retired net.retired refl (λ ends h. retired_quiet e past ends q h) n.retired;
-    turned_away = told_same (AreTurnedAway means t past) (AreTurnedAway means t (e ∷ past)) net.turned_away net.turned_away refl (λ ends h. turned_quiet e past ends q h) n.turned_away;
+    retired = such_same (AreRetired means t past) (AreRetired means t (e ∷ past)) net.retired net.retired refl (λ ends h. retired_quiet e past ends q h) n.retired;
+    turned_away = such_same (AreTurnedAway means t past) (AreTurnedAway means t (e ∷ past)) net.turned_away net.turned_away refl (λ ends h. turned_quiet e past ends q h) n.turned_away;
     attached = n.attached ∙ sym (numbers_quiet e (summary past) q);
     masks = told_same (λ masks. masks ≡ live_masks (summary past)) (λ masks. masks ≡ live_masks (summary (e ∷ past))) net.masks net.masks refl (λ masks h. h ∙ sym (masks_quiet e (summary past) q)) n.masks;
     faults = subst (λ (k : ℕ). k ≤ net.failed_attaches) (sym (faults_quiet e past q)) n.faults;
@@ -190,8 +200,8 @@ module _ {H E N : Type 0} (means : Handling H E N) (t : Terms) where
   -- the net has more places, or a count of faults that rose, and is else as it was
   pub net_kept : (past : List (Entry N)) (pending : List Report) (old new : NetFacts E) → old.failed_attaches ≤ new.failed_attaches → FailsCall old new → NetStands means t past pending old → NetStands means t past pending new
   net_kept past pending old new le f n = record {
-    retired = told_same (AreRetired means t past) (AreRetired means t past) old.retired new.retired f.retired (λ ends h. h) n.retired;
-    turned_away = told_same (AreTurnedAway means t past) (AreTurnedAway means t past) old.turned_away new.turned_away f.turned_away (λ ends h. h) n.turned_away;
+    retired = such_same (AreRetired means t past) (AreRetired means t past) old.retired new.retired f.retired (λ ends h. h) n.retired;
+    turned_away = such_same (AreTurnedAway means t past) (AreTurnedAway means t past) old.turned_away new.turned_away f.turned_away (λ ends h. h) n.turned_away;
     attached = f.attached ∙ n.attached;
     masks = told_same (λ masks. masks ≡ live_masks (summary past)) (λ masks. masks ≡ live_masks (summary past)) old.masks new.masks f.masks (λ masks h. h) n.masks;
     faults = omega (arith, n.faults, le);
@@ -203,8 +213,8 @@ module _ {H E N : Type 0} (means : Handling H E N) (t : Terms) where
   -- the net could not attach an end
   pub net_failed : (past : List (Entry N)) (pending : List Report) (old new : NetFacts E) → count is_fault past ≤ new.failed_attaches → FailsCall old new → NetStands means t past pending old → NetStands means t past pending new
   net_failed past pending old new le f n = record {
-    retired = told_same (AreRetired means t past) (AreRetired means t past) old.retired new.retired f.retired (λ ends h. h) n.retired;
-    turned_away = told_same (AreTurnedAway means t past) (AreTurnedAway means t past) old.turned_away new.turned_away f.turned_away (λ ends h. h) n.turned_away;
+    retired = such_same (AreRetired means t past) (AreRetired means t past) old.retired new.retired f.retired (λ ends h. h) n.retired;
+    turned_away = such_same (AreTurnedAway means t past) (AreTurnedAway means t past) old.turned_away new.turned_away f.turned_away (λ ends h. h) n.turned_away;
     attached = f.attached ∙ n.attached;
     masks = told_same (λ masks. masks ≡ live_masks (summary past)) (λ masks. masks ≡ live_masks (summary past)) old.masks new.masks f.masks (λ masks h. h) n.masks;
     faults = le;
@@ -231,8 +241,8 @@ module _ {H E N : Type 0} (means : Handling H E N) (t : Terms) where
   pub net_polled : (past : List (Entry N)) (most : Option ℕ) (answer : Waited) (moment : ℕ) (old new : NetFacts E) → AnswersWait old most answer moment new → IsAnsweredAt moment answer → IsAskedFor t.limit (summary past) most
       → NetStands means t past [] old → NetStands means t (Polled moment ∷ past) (filter (is_taken (summary past)) new.reports) new
   net_polled past most answer moment old new a at asked n = record {
-    retired = told_same (AreRetired means t past) (AreRetired means t (Polled moment ∷ past)) old.retired new.retired a.retired (λ ends h. h) n.retired;
-    turned_away = told_same (AreTurnedAway means t past) (AreTurnedAway means t (Polled moment ∷ past)) old.turned_away new.turned_away a.turned_away (λ ends h. h) n.turned_away;
+    retired = such_same (AreRetired means t past) (AreRetired means t (Polled moment ∷ past)) old.retired new.retired a.retired (λ ends h. h) n.retired;
+    turned_away = such_same (AreTurnedAway means t past) (AreTurnedAway means t (Polled moment ∷ past)) old.turned_away new.turned_away a.turned_away (λ ends h. h) n.turned_away;
     attached = a.attached ∙ n.attached;
     masks = told_same (λ masks. masks ≡ live_masks (summary past)) (λ masks. masks ≡ live_masks (summary past)) old.masks new.masks a.masks (λ masks h. h) n.masks;
     faults = subst (λ (k : ℕ). count is_fault past ≤ k) (sym a.failed_attaches) n.faults;
@@ -246,8 +256,8 @@ module _ {H E N : Type 0} (means : Handling H E N) (t : Terms) where
   pub net_opened : (past : List (Entry N)) (handle : Handle) (mask : Mask) (serial : Option ℕ) (old new : NetFacts E) → AttachesEnd old handle.0 mask serial new → Names (means.serial t (offered_here past)) serial
       → NetStands means t past [] old → NetStands means t (Opened handle mask ∷ past) [] new
   net_opened past handle mask serial old new a named n = record {
-    retired = told_same (AreRetired means t past) (AreRetired means t (Opened handle mask ∷ past)) old.retired new.retired a.retired (λ ends h. h) n.retired;
-    turned_away = told_same (AreTurnedAway means t past) (AreTurnedAway means t (Opened handle mask ∷ past)) old.turned_away new.turned_away a.turned_away (λ ends h. h) n.turned_away;
+    retired = such_same (AreRetired means t past) (AreRetired means t (Opened handle mask ∷ past)) old.retired new.retired a.retired (λ ends h. h) n.retired;
+    turned_away = such_same (AreTurnedAway means t past) (AreTurnedAway means t (Opened handle mask ∷ past)) old.turned_away new.turned_away a.turned_away (λ ends h. h) n.turned_away;
     attached = a.attached ∙ (ap (λ xs. handle.0 ∷ xs) n.attached ∙ ap (map number_of) (sym last));
     masks = told_one (λ masks. masks ≡ live_masks (summary past)) (λ masks. masks ≡ live_masks (summary (Opened handle mask ∷ past))) old.masks new.masks (handle.0, mask) a.masks
         (λ masks h. ap (λ ms. (handle.0, mask) ∷ ms) h ∙ ap (map mask_entry) (sym last)) n.masks;
@@ -293,8 +303,8 @@ module _ {H E N : Type 0} (means : Handling H E N) (t : Terms) where
       → means.gone t (origin_of past handle.0) end (had past handle.0) (reason_of past handle.0) note
       → NetStands means t past [] old → NetStands means t (Closed handle note ∷ past) [] new
   net_closed past handle note end old new r gone n = record {
-    retired = told_one (AreRetired means t past) (AreRetired means t (Closed handle note ∷ past)) old.retired new.retired (handle.0, end) r.retired (λ ends h. ((refl, gone), h)) n.retired;
-    turned_away = told_same (AreTurnedAway means t past) (AreTurnedAway means t (Closed handle note ∷ past)) old.turned_away new.turned_away r.turned_away (λ ends h. h) n.turned_away;
+    retired = such_one (AreRetired means t past) (AreRetired means t (Closed handle note ∷ past)) old.retired new.retired (handle.0, end) r.retired (λ ends h. ((refl, gone), h)) n.retired;
+    turned_away = such_same (AreTurnedAway means t past) (AreTurnedAway means t (Closed handle note ∷ past)) old.turned_away new.turned_away r.turned_away (λ ends h. h) n.turned_away;
     attached = r.attached ∙ (ap (without handle.0) n.attached
         ∙ (filter_image number_of (λ (h : LiveHandle). not (handle.0 == h.handle.0)) (λ (k : ℕ). not (k == handle.0)) (reverse hs) (λ h. ap not (eqb_turned h.handle.0 handle.0)) ∙ ap (map number_of) (sym (reverse_filter (λ (h : LiveHandle). not (handle.0 == h.handle.0)) hs))));
     masks = told_map (λ masks. masks ≡ live_masks (summary past)) (λ masks. masks ≡ live_masks (summary (Closed handle note ∷ past))) (without_mask handle.0) old.masks new.masks r.masks
@@ -314,8 +324,8 @@ module _ {H E N : Type 0} (means : Handling H E N) (t : Terms) where
       → means.gone t (offered_here past) end [] ByRefusal note → Names (means.serial t (offered_here past)) serial → count is_fault (Refused live fault note ∷ past) ≤ old.failed_attaches
       → NetStands means t past [] old → NetStands means t (Refused live fault note ∷ past) [] new
   net_refused past live fault note serial end old new r gone named enough n = record {
-    retired = told_same (AreRetired means t past) (AreRetired means t (Refused live fault note ∷ past)) old.retired new.retired r.retired (λ ends h. h) n.retired;
-    turned_away = told_one (AreTurnedAway means t past) (AreTurnedAway means t (Refused live fault note ∷ past)) old.turned_away new.turned_away end r.turned_away (λ ends h. (gone, h)) n.turned_away;
+    retired = such_same (AreRetired means t past) (AreRetired means t (Refused live fault note ∷ past)) old.retired new.retired r.retired (λ ends h. h) n.retired;
+    turned_away = such_one (AreTurnedAway means t past) (AreTurnedAway means t (Refused live fault note ∷ past)) old.turned_away new.turned_away end r.turned_away (λ ends h. (gone, h)) n.turned_away;
     attached = r.attached ∙ n.attached;
     masks = told_same (λ masks. masks ≡ live_masks (summary past)) (λ masks. masks ≡ live_masks (summary past)) old.masks new.masks r.masks (λ masks h. h) n.masks;
     faults = subst (λ (k : ℕ). count is_fault (Refused live fault note ∷ past) ≤ k) (sym r.failed_attaches) enough;
@@ -328,8 +338,8 @@ module _ {H E N : Type 0} (means : Handling H E N) (t : Terms) where
   pub net_masked : (past : List (Entry N)) (handle : Handle) (mask : Mask) (old new : NetFacts E) → SetsMaskOf old handle.0 mask new
       → NetStands means t past [] old → NetStands means t (Masked handle mask ∷ past) [] new
   net_masked past handle mask old new s n = record {
-    retired = told_same (AreRetired means t past) (AreRetired means t (Masked handle mask ∷ past)) old.retired new.retired s.retired (λ ends h. h) n.retired;
-    turned_away = told_same (AreTurnedAway means t past) (AreTurnedAway means t (Masked handle mask ∷ past)) old.turned_away new.turned_away s.turned_away (λ ends h. h) n.turned_away;
+    retired = such_same (AreRetired means t past) (AreRetired means t (Masked handle mask ∷ past)) old.retired new.retired s.retired (λ ends h. h) n.retired;
+    turned_away = such_same (AreTurnedAway means t past) (AreTurnedAway means t (Masked handle mask ∷ past)) old.turned_away new.turned_away s.turned_away (λ ends h. h) n.turned_away;
     attached = s.attached ∙ (n.attached ∙ sym (numbers_same (with_mask handle.0 mask) (summary past).handles (mask_number handle.0 mask)));
     masks = told_map (λ masks. masks ≡ live_masks (summary past)) (λ masks. masks ≡ live_masks (summary (Masked handle mask ∷ past))) (changed_mask handle.0 mask) old.masks new.masks s.masks
         (λ masks h. ap (changed_mask handle.0 mask) h ∙ (changed_entries handle.0 mask (reverse (summary past).handles) ∙ ap (map mask_entry) (sym (reverse_map (with_mask handle.0 mask) (summary past).handles)))) n.masks;

@@ -20,7 +20,7 @@ use Rattle.reactor_core.specs.Taking.{moment_of, count_of, event_places, IsTakin
 use Rattle.reactor_core.specs.declared.reactor.Core.{Core}
 use Rattle.reactor_core.specs.declared.polling.Polled.{Polled}
 use Rattle.reactor_core.proofs.Kept.{stands_kept}
-use Rattle.reactor_core.proofs.PollWait.{IsAnswered, answered, not_answered}
+use Rattle.reactor_core.proofs.PollWait.{IsAnswered, answered}
 
 -- ---- the limit of the wait
 
@@ -79,9 +79,6 @@ is_waited m t F h armed asked answer polled old new q w k =
     }
 
 -- the wait failed
-pub rose_failed : {E : Type 0} (old new : NetFacts E) (asked : Option ℕ) (answer : Waited) → name_of answer ≡ None → NetWaits old asked answer new → Rose old.failed_waits new.failed_waits
-rose_failed old new asked answer q w = (not_answered old new asked answer (named_none answer q) w).rose
-
 pub rose_reserved : {E : Type 0} (old reserved new : NetFacts E) → Reserves old reserved → Rose reserved.failed_waits new.failed_waits → Rose old.failed_waits new.failed_waits
 rose_reserved old reserved new r rose = subst (λ (k : ℕ). Rose k new.failed_waits) r.failed_waits rose
 

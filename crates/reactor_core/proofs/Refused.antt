@@ -23,7 +23,7 @@ use Rattle.reactor_core.specs.Handlers.{RepositoryStands}
 use Rattle.reactor_core.specs.Stands.{Meaning, HasRoom, IsSettled, Stands, StandsWithRoom, places_for}
 use Rattle.reactor_core.specs.Registering.{HasPlaceFor, IsFull, IsOffered, registered}
 use Rattle.reactor_core.specs.Settling.{act_places}
-use Rattle.reactor_core.specs.Acting.{MayRefuse, IsCause, Installs}
+use Rattle.reactor_core.specs.Acting.{MayRefuse, IsCause, CountsFaults, Installs}
 use Rattle.reactor_core.specs.declared.reactor.Core.{Core}
 use Rattle.reactor_core.proofs.Ends.{net_refused}
 use Rattle.reactor_core.proofs.Opened.{count_le}
@@ -113,17 +113,20 @@ module _ {H M Q W V N E : Type 0} (m : Meaning H M Q W V N E) (t : Terms) (old n
       above (count is_fault (past_of h)) (m.facts old.net).failed_attaches (m.facts mid.net).failed_attaches st.tracks.net.faults (omega (arith, st.room.numbers, entries, few)) rose
 
   pub installs_refused : (mask : Mask) (timer : Option (ℕ × ℕ)) (fault : Bool) (note : N) → IsCause t.most (summary (past_of h)) (m.facts old.net).failed_attaches (m.facts new.net).failed_attaches fault
+      → CountsFaults {N = N} (Refused (R.live (summary (past_of h))) fault note ∷ []) (m.facts old.net).failed_attaches (m.facts new.net).failed_attaches
       → Stands m t new F (h ++ Refused (R.live (summary (past_of h))) fault note ∷ []) → Installs m t F h mask timer old new
-  installs_refused mask timer fault note cause st = record {
+  installs_refused mask timer fault note cause faults st = record {
     entries = Refused (R.live (summary (past_of h))) fault note ∷ [];
     appends = inr (record { fault = fault; note = note; cause = cause; is = refl });
+    faults = faults;
     stands = st;
   }
 
-  pub installs_registered : (mask : Mask) (timer : Option (ℕ × ℕ)) (handle : Handle) → handle.0 ≡ (summary (past_of h)).opened → HasPlaceFor t.most (summary (past_of h))
+  pub installs_registered : (mask : Mask) (timer : Option (ℕ × ℕ)) (handle : Handle) → handle.0 ≡ (summary (past_of h)).opened → HasPlaceFor t.most (summary (past_of h)) → (m.facts new.net).failed_attaches ≡ (m.facts old.net).failed_attaches
       → Stands m t new F (h ++ registered (summary (past_of h)) handle mask timer) → Installs m t F h mask timer old new
-  installs_registered mask timer handle number place st = record {
+  installs_registered mask timer handle number place same st = record {
     entries = registered (summary (past_of h)) handle mask timer;
     appends = inl (record { handle = handle; number = number; place = place; is = refl });
+    faults = λ q. same;
     stands = st;
   }

@@ -22,6 +22,7 @@ use Rattle.reactor_core.specs.Stands.{Meaning, Tracks, HasRoom, IsSettled, Stand
 use Rattle.reactor_core.specs.Registering.{HasPlaceFor, IsFull, IsOffered, registered}
 use Rattle.reactor_core.specs.Offering.{TakesHandle, ComesBack, GivesBack}
 use Rattle.reactor_core.specs.Settling.{act_places}
+use Rattle.reactor_core.specs.Steps.{MayOpen, MayAdmit}
 use Rattle.reactor_core.specs.declared.reactor.Core.{Core}
 use Rattle.reactor_core.proofs.Owed.{owed_opened}
 use Rattle.reactor_core.proofs.Opened.{settled_opened, settled_scheduled}
@@ -49,6 +50,10 @@ pub full_by : {N : Type 0} (most : ℕ) (past : List (Entry N)) → is_legal mos
 full_by most past legal few h =
     let le : live (summary past) ≤ most = live_within most past legal in
     ⊎_elim (λ (k : most ≤ live (summary past)). inl (omega (arith, le, k))) (λ (k : 4294967295 ≤ (summary past).opened). inr (omega (arith, few, k))) h
+
+-- where there is room for a handler and its timer, it may be opened
+pub opens_by : {H M Q W V N E : Type 0} (m : Meaning H M Q W V N E) (handler : H) (t : Terms) (core : Core H M Q W V N E) (F : ℕ) (h : List (Entry N)) → MayAdmit m handler t core F h → MayOpen m handler t core F h
+opens_by m handler t core F h o = record { tracks = o.stands.tracks; place = o.place; number = let r = o.stands.room.numbers in omega (arith, r); offered = o.offered }
 
 -- ---- the whole
 

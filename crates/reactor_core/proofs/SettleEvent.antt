@@ -21,8 +21,9 @@ use Rattle.reactor_core.specs.Handlers.{is_live}
 use Rattle.reactor_core.specs.Stands.{Meaning, Tracks, Stands, HasRoom, IsSettled, StandsWithRoom, places_for}
 use Rattle.reactor_core.specs.Settling.{why_of, IsClosing, IsSettling, IsReturned, act_places}
 use Rattle.reactor_core.specs.Settles.{TakesBack, SettlesEvent}
+use Rattle.reactor_core.specs.Steps.{MayClose, MayTakeBack}
 use Rattle.reactor_core.specs.declared.reactor.Core.{Core}
-use Rattle.reactor_core.proofs.Returned.{is_returned, GivesBack, given_back}
+use Rattle.reactor_core.proofs.Returned.{is_returned, closable, GivesBack, given_back}
 use Rattle.reactor_core.proofs.SettledHistory.{IsSettledBut, settled_returned, settled_closed, settled_at_last, alive_waits_not, alive_returned}
 use Rattle.reactor_core.proofs.Owed.{opens_returned, owed_returned, owed_closed}
 
@@ -118,6 +119,11 @@ module _ {H M Q W V N E : Type 0} (m : Meaning H M Q W V N E) (weak : Weakens m)
             room = subst (λ ps. HasRoom m 4 act_places new (summary ps)) (sym last)
                 (room_left (summary (Closed o.handle c.0 ∷ past1)) 2 opens (omega (arith, owes, gone)) (omega arith) (let one : length entries ≡ 1 = ap length es in omega (arith, journal, one, d.journal)) d st.room);
           })
+
+-- the handler in hand is closed where its handle is not alive any more
+pub may_close : {H M Q W V N E : Type 0} (m : Meaning H M Q W V N E) (t : Terms) (core : Core H M Q W V N E) (F : ℕ) (h : List (Entry N)) (handle : Handle) (handler : H) (why : Why)
+    → is_alive (summary (past_of h)) handle.0 ≡ false → MayTakeBack m handle handler why t core F h → MayClose m handle handler why t core F h
+may_close m t core F h handle handler why dead o = record { tracks = o.tracks; closable = closable m.means t t.most (past_of h) handle.0 handler why o.tracks.legal o.back dead; number = o.number }
 
 -- the handler in hand went home, or was closed
 pub took_home : {H M Q W V N E : Type 0} (m : Meaning H M Q W V N E) (t : Terms) (old new : Core H M Q W V N E) (F : ℕ) (h : List (Entry N)) (handle : Handle) (handler : H) (why : Why)

@@ -14,6 +14,7 @@ use Rattle.reactor_model.specs.Handling.{Handling}
 use Rattle.reactor_model.specs.Turns.{IsTimer}
 use Rattle.reactor_model.specs.declared.handler.Act.{Act}
 use Rattle.reactor_model.specs.declared.handler.Act.TheVariants.{Install, MaskMine, CancelMine, Stop}
+use Rattle.std.specs.List.{list_any}
 use Rattle.reactor_core.specs.Ends.{is_fault}
 use Rattle.reactor_core.specs.Stands.{Meaning, Stands}
 use Rattle.reactor_core.specs.Registering.{HasPlaceFor, IsFull, IsOffered, registered}
@@ -84,16 +85,22 @@ ActAppends most s handle (Some (MaskMine mask)) before after entries = entries �
 ActAppends most s handle (Some (CancelMine timer)) before after entries = entries ≡ cancel_mine (is_mine s handle.0 timer) timer
 ActAppends most s handle (Some Stop) before after entries = StopAppends s s.ended entries
 
+-- the count of failed attaches stands but where a handler was refused for a fault of the net
+abbrev pub CountsFaults : {N : Type 0} → List (Entry N) → ℕ → ℕ → Type 0
+CountsFaults entries before after = list_any is_fault entries ≡ false → after ≡ before
+
 -- the act was done
 pub record Acts {H M Q W V N E : Type 0} (m : Meaning H M Q W V N E) (t : Terms) (F : ℕ) (h : List (Entry N)) (handle : Handle) (act : Option (Act H N E)) (old new : Core H M Q W V N E) : Type 0 where
   pub entries : List (Entry N)
   pub appends : ActAppends t.most (summary (past_of h)) handle act (m.facts old.net).failed_attaches (m.facts new.net).failed_attaches entries
+  pub faults : CountsFaults entries (m.facts old.net).failed_attaches (m.facts new.net).failed_attaches
   pub stands : Stands m t new F (h ++ entries)
 
 -- an offered handler was registered or refused
 pub record Installs {H M Q W V N E : Type 0} (m : Meaning H M Q W V N E) (t : Terms) (F : ℕ) (h : List (Entry N)) (mask : Mask) (timer : Option (ℕ × ℕ)) (old new : Core H M Q W V N E) : Type 0 where
   pub entries : List (Entry N)
   pub appends : InstallAppends t.most (summary (past_of h)) mask timer (m.facts old.net).failed_attaches (m.facts new.net).failed_attaches entries
+  pub faults : CountsFaults entries (m.facts old.net).failed_attaches (m.facts new.net).failed_attaches
   pub stands : Stands m t new F (h ++ entries)
 
 -- a handler may be refused: the reactor was stopped or is full, or the net's count of faults has room for one more
@@ -108,6 +115,7 @@ pub record Settles {H M Q W V N E : Type 0} (m : Meaning H M Q W V N E) (t : Ter
   pub is_closing : IsClosing (not (is_alive (summary (returned done ∷ past_of h)) done.handle.0)) done.handle closing
   pub acted : List (Entry N)
   pub is_acted : ActAppends t.most (summary (past_of ((h ++ returned done ∷ []) ++ closing))) done.handle done.turn.act (m.facts old.net).failed_attaches (m.facts new.net).failed_attaches acted
+  pub faults : CountsFaults acted (m.facts old.net).failed_attaches (m.facts new.net).failed_attaches
   pub stands : Stands m t new F (((h ++ returned done ∷ []) ++ closing) ++ acted)
   pub entries : settled.entries ≡ length (((h ++ returned done ∷ []) ++ closing) ++ acted)
   pub closed : settled.closed ≡ (summary (past_of (((h ++ returned done ∷ []) ++ closing) ++ acted))).closed + (summary (past_of (((h ++ returned done ∷ []) ++ closing) ++ acted))).refused

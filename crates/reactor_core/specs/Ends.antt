@@ -15,6 +15,10 @@ abbrev pub WhereTold : {A : Type 0} → (A → Type 0) → Option A → Type 0
 WhereTold P None = Unit {0}
 WhereTold P (Some told) = P told
 
+-- there is something with P; and where it is told, it is this
+abbrev pub ThereIs : {A : Type 0} → (A → Type 0) → Option A → Type 0
+ThereIs {A} P told = (a : A) × P a × WhereTold (λ b. b ≡ a) told
+
 -- the live handles, the latest opened first, and their masks
 abbrev pub number_of : LiveHandle → ℕ
 number_of h = h.handle.0

@@ -1,6 +1,7 @@
 pub mod Handlers
 pub mod Ends
 pub mod Calls
+pub mod Views
 pub mod Stands
 pub mod Rest
 pub mod Upcalls
@@ -17,6 +18,8 @@ pub mod Timers
 pub mod Polling
 pub mod Taking
 pub mod Acting
+pub mod Steps
+pub mod Refusals
 pub mod HandingOver
 pub mod Laws
 pub mod Faults

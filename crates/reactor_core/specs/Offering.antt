@@ -52,4 +52,4 @@ RegisterGives m t F h mask timer old (Err (back, NetFailed)) new =
 -- what the admission of a handler for which there is room gives
 abbrev pub AdmitGives : {H M Q W V N E : Type 0} → Meaning H M Q W V N E → Terms → ℕ → List (Entry N) → Mask → Option (ℕ × ℕ) → Core H M Q W V N E → Result Handle H → Core H M Q W V N E → Type 0
 AdmitGives m t F h mask timer old (Ok handle) new = (handle.0 ≡ (summary (past_of h)).opened) × Stands m t new F (h ++ registered (summary (past_of h)) handle mask timer)
-AdmitGives m t F h mask timer old (Err back) new = FailsToAttach (m.facts old.net) (m.facts new.net) × StandsWithRoom m 4 act_places t new F h × IsOffered m.means t (past_of h) back
+AdmitGives m t F h mask timer old (Err back) new = StandsWithRoom m 4 act_places t new F h × IsOffered m.means t (past_of h) back

@@ -16,7 +16,7 @@ use Rattle.reactor_state.specs.declared.places.Places.{Places}
 use Rattle.reactor_state.specs.declared.places.Pick.{Pick}
 use Rattle.reactor_state.specs.declared.state.ReactorState.{ReactorState}
 use Rattle.reactor_core.specs.Handlers.{RepositoryStands}
-use Rattle.reactor_core.specs.Ends.{WhereTold, live_numbers, live_masks, AreRetired, AreTurnedAway, is_fault}
+use Rattle.reactor_core.specs.Ends.{WhereTold, ThereIs, live_numbers, live_masks, AreRetired, AreTurnedAway, is_fault}
 use Rattle.reactor_core.specs.Calls.{AreCalls}
 use Rattle.reactor_core.specs.Marks.{MarksStand, told_answers}
 use Rattle.reactor_core.specs.declared.reactor.Core.{Core}
@@ -47,8 +47,8 @@ pub record JournalStands {H M Q W V N E : Type 0} (core : Core H M Q W V N E) (F
 -- the net: its attached handles and their masks are the live ones, the ends that it was given back are gone as the journal
 -- says, and its calls are those that the journal tells
 pub record NetStands {H E N : Type 0} (means : Handling H E N) (t : Terms) (past : List (Entry N)) (pending : List Report) (net : NetFacts E) : Type 0 where
-  pub retired : WhereTold (λ ends. AreRetired means t past ends) net.retired
-  pub turned_away : WhereTold (λ ends. AreTurnedAway means t past ends) net.turned_away
+  pub retired : ThereIs (λ ends. AreRetired means t past ends) net.retired
+  pub turned_away : ThereIs (λ ends. AreTurnedAway means t past ends) net.turned_away
   pub attached : net.attached ≡ live_numbers (summary past)
   pub masks : WhereTold (λ masks. masks ≡ live_masks (summary past)) net.masks
   pub faults : count is_fault past ≤ net.failed_attaches
@@ -179,3 +179,25 @@ QuietWith {N = N} m P core = (t : Terms) × (F : ℕ) × (h : List (Entry N)) ×
 -- P holds of each history that the core stands for, of which it handed the first F entries over
 abbrev pub From : {H M Q W V N E : Type 0} → Meaning H M Q W V N E → Core H M Q W V N E → (Terms → ℕ → List (Entry N) → Type 0) → Type 0
 From {N = N} m core P = (t : Terms) (F : ℕ) (h : List (Entry N)) → Stands m t core F h → P t F h
+
+-- the same of each that it stands for with so much room, of each that it stands for but that handles may be alive once it was
+-- stopped, and of each that it tracks
+abbrev pub FromRoom : {H M Q W V N E : Type 0} → Meaning H M Q W V N E → ℕ → Places → Core H M Q W V N E → (Terms → ℕ → List (Entry N) → Type 0) → Type 0
+FromRoom {N = N} m entries more core P = (t : Terms) (F : ℕ) (h : List (Entry N)) → StandsWithRoom m entries more t core F h → P t F h
+
+abbrev pub FromQuiet : {H M Q W V N E : Type 0} → Meaning H M Q W V N E → Core H M Q W V N E → (Terms → ℕ → List (Entry N) → Type 0) → Type 0
+FromQuiet {N = N} m core P = (t : Terms) (F : ℕ) (h : List (Entry N)) → StandsQuiet m t core F h → P t F h
+
+abbrev pub FromTracks : {H M Q W V N E : Type 0} → Meaning H M Q W V N E → Option ℕ → List Report → Core H M Q W V N E → (Terms → ℕ → List (Entry N) → Type 0) → Type 0
+FromTracks {N = N} m hand pending core P = (t : Terms) (F : ℕ) (h : List (Entry N)) → Tracks m t core F h hand pending → P t F h
+
+-- a step may be made: the core stands with so much room for some history with P
+abbrev pub RoomWith : {H M Q W V N E : Type 0} → Meaning H M Q W V N E → ℕ → Places → (Terms → List (Entry N) → Type 0) → Core H M Q W V N E → Type 0
+RoomWith {N = N} m entries more P core = (t : Terms) × (F : ℕ) × (h : List (Entry N)) × StandsWithRoom m entries more t core F h × P t h
+
+-- what a step asks for holds of some history; and R holds of each history of which it does
+abbrev pub Somewhere : {H M Q W V N E : Type 0} → (Terms → Core H M Q W V N E → ℕ → List (Entry N) → Type 0) → Core H M Q W V N E → Type 0
+Somewhere {N = N} P core = (t : Terms) × (F : ℕ) × (h : List (Entry N)) × P t core F h
+
+abbrev pub Each : {H M Q W V N E : Type 0} → (Terms → Core H M Q W V N E → ℕ → List (Entry N) → Type 0) → Core H M Q W V N E → (Terms → ℕ → List (Entry N) → Type 0) → Type 0
+Each {N = N} P core R = (t : Terms) (F : ℕ) (h : List (Entry N)) → P t core F h → R t F h

@@ -1,17 +1,17 @@
 //! What a turn asks for, once its upcall is settled.
 ghost use Rattle.std.specs.Prelude.{◌≡◌, ◌+◌, ◌++◌, ◌∷◌, [], ℕ, List, true, false};
-ghost use Rattle.ev_base.specs.Terms.{Terms};
 ghost use Rattle.reactor_journal.specs.declared.entry.Entry.{Entry};
 ghost use Rattle.reactor_journal.specs.Past.{past_of};
 ghost use Rattle.reactor_summary.specs.Summary.{summary, is_alive};
 ghost use Rattle.reactor_summary.specs.Rules.{live};
 ghost use Rattle.reactor_model.specs.Turns.{IsTimer};
-ghost use Rattle.reactor_core.specs.Rest.{LeavesRest};
-ghost use Rattle.reactor_core.specs.Stands.{From, Stands, StandsWith, StandsWithRoom};
+ghost use Rattle.reactor_core.specs.Rest.{LeavesButAttaches, LeavesRest};
+ghost use Rattle.reactor_core.specs.Steps.{MayTurnAway};
+ghost use Rattle.reactor_core.specs.Stands.{From, FromRoom, RoomWith, Somewhere, Each, Stands, StandsWith, StandsWithRoom};
 ghost use Rattle.reactor_core.specs.Registering.{IsOffered};
 ghost use Rattle.reactor_core.specs.Settling.{act_places};
 ghost use Rattle.reactor_core.specs.Upcalls.{DoneFits};
-ghost use Rattle.reactor_core.specs.Acting.{FitsAct, Acts, Installs, MayRefuse, Settles, is_mine, is_of, mask_mine, cancel_mine};
+ghost use Rattle.reactor_core.specs.Acting.{FitsAct, Acts, Installs, Settles, is_mine, is_of, mask_mine, cancel_mine};
 
 use crate::append::append;
 use crate::means::Means;
@@ -54,11 +54,14 @@ impl<
     /// Settles an upcall that was made. The journal has `Returned`; where the handle is not alive any more its handler is closed, for
     /// itself where its own answer ended its life and else as it was removed, and `Closed` follows; else the handler goes home. Then
     /// the act of the turn is done. It takes no memory and cannot fail.
+    #[tactic(auto, using(crate::proofs::Frames::attaching_goes_on, crate::proofs::Frames::attaching_of))]
     pub fn settle(&mut self, done: Done<H>) -> Settled
-        requires { StandsWith ⟦<Self as Means>⟧.m (λ t h. DoneFits H.means t (past_of h) done) self.old }
-        ensures stands { From ⟦<Self as Means>⟧.m self.old (λ t F h. DoneFits H.means t (past_of h) done
+        requires { StandsWith ⟦<Self as Means>⟧.m
+            (λ t h. DoneFits H.means t (past_of h) done) self.old }
+        ensures stands { From ⟦<Self as Means>⟧.m self.old (λ t F h.
+            DoneFits H.means t (past_of h) done
             → Settles ⟦<Self as Means>⟧.m t F h done self.old self.new result) }
-        ensures rest { LeavesRest ⟦<Self as Means>⟧.m self.old self.new }
+        ensures rest { LeavesButAttaches ⟦<Self as Means>⟧.m self.old self.new }
     {
         let Done {
             event,
@@ -89,11 +92,14 @@ impl<
     }
 
     /// Does the act of a turn of the handle's handler.
+    #[tactic(auto, using(crate::proofs::Frames::attaching_goes_on, crate::proofs::Frames::attaching_of))]
     fn act(&mut self, handle: Handle, act: Option<Act<H>>)
-        requires { (t : Terms) × (F : ℕ) × (h : List (Entry H.Note)) × StandsWithRoom ⟦<Self as Means>⟧.m 4 act_places t self.old F h × FitsAct H.means t (past_of h) act }
-        ensures stands { (t : Terms) (F : ℕ) (h : List (Entry H.Note)) → StandsWithRoom ⟦<Self as Means>⟧.m 4 act_places t self.old F h → FitsAct H.means t (past_of h) act
-            → Acts ⟦<Self as Means>⟧.m t F h handle act self.old self.new }
-        ensures rest { LeavesRest ⟦<Self as Means>⟧.m self.old self.new }
+        requires { RoomWith ⟦<Self as Means>⟧.m 4 act_places
+            (λ t h. FitsAct H.means t (past_of h) act) self.old }
+        ensures stands { FromRoom ⟦<Self as Means>⟧.m 4 act_places self.old (λ t F h.
+            FitsAct H.means t (past_of h) act
+            → Acts ⟦<Self as Means>⟧.m t F h handle act self.old self.new) }
+        ensures rest { LeavesButAttaches ⟦<Self as Means>⟧.m self.old self.new }
     {
         match act {
             None => {}
@@ -111,12 +117,15 @@ impl<
     }
 
     /// Registers a handler that an upcall offered, or refuses it.
+    #[tactic(auto, using(crate::proofs::Frames::attaching_goes_on, crate::proofs::Frames::attaching_of))]
     fn install(&mut self, handler: H, mask: Mask, timer: Option<(u64, u64)>)
-        requires stands { (t : Terms) × (F : ℕ) × (h : List (Entry H.Note)) × StandsWithRoom ⟦<Self as Means>⟧.m 4 act_places t self.old F h × IsOffered H.means t (past_of h) handler }
+        requires stands { RoomWith ⟦<Self as Means>⟧.m 4 act_places
+            (λ t h. IsOffered H.means t (past_of h) handler) self.old }
         requires timer { IsTimer timer }
-        ensures stands { (t : Terms) (F : ℕ) (h : List (Entry H.Note)) → StandsWithRoom ⟦<Self as Means>⟧.m 4 act_places t self.old F h → IsOffered H.means t (past_of h) handler
-            → Installs ⟦<Self as Means>⟧.m t F h mask timer self.old self.new }
-        ensures rest { LeavesRest ⟦<Self as Means>⟧.m self.old self.new }
+        ensures stands { FromRoom ⟦<Self as Means>⟧.m 4 act_places self.old (λ t F h.
+            IsOffered H.means t (past_of h) handler
+            → Installs ⟦<Self as Means>⟧.m t F h mask timer self.old self.new) }
+        ensures rest { LeavesButAttaches ⟦<Self as Means>⟧.m self.old self.new }
     {
         if self.state.is_ended() {
             self.refuse(handler, false);
@@ -136,12 +145,10 @@ impl<
 
     /// Closes a handler that is not registered, and turns its end away.
     fn refuse(&mut self, handler: H, fault: bool)
-        requires { (t : Terms) × (F : ℕ) × (h : List (Entry H.Note)) × StandsWithRoom ⟦<Self as Means>⟧.m 4 act_places t self.old F h × IsOffered H.means t (past_of h) handler
-            × MayRefuse ⟦<Self as Means>⟧.m t.most self.old (past_of h) fault }
-        ensures stands { (t : Terms) (F : ℕ) (h : List (Entry H.Note)) → StandsWithRoom ⟦<Self as Means>⟧.m 4 act_places t self.old F h → IsOffered H.means t (past_of h) handler
-            → MayRefuse ⟦<Self as Means>⟧.m t.most self.old (past_of h) fault
-            → (note : H.Note) × Stands ⟦<Self as Means>⟧.m t self.new F (h ++ Entry.Refused (live (summary (past_of h))) fault note ∷ []) }
-        ensures faults { (M.facts self.new.net).failed_attaches ≡ (M.facts self.old.net).failed_attaches }
+        requires { Somewhere (MayTurnAway ⟦<Self as Means>⟧.m handler fault) self.old }
+        ensures stands { Each (MayTurnAway ⟦<Self as Means>⟧.m handler fault) self.old (λ t F h.
+            (note : H.Note) × Stands ⟦<Self as Means>⟧.m t self.new F
+            (h ++ Entry.Refused (live (summary (past_of h))) fault note ∷ [])) }
         ensures rest { LeavesRest ⟦<Self as Means>⟧.m self.old self.new }
     {
         let live = self.state.live();
@@ -157,9 +164,10 @@ impl<
 
     /// Changes the mask of a handle where it is alive.
     fn mask_mine(&mut self, handle: Handle, mask: Mask)
-        requires { (t : Terms) × (F : ℕ) × (h : List (Entry H.Note)) × StandsWithRoom ⟦<Self as Means>⟧.m 4 act_places t self.old F h }
-        ensures stands { (t : Terms) (F : ℕ) (h : List (Entry H.Note)) → StandsWithRoom ⟦<Self as Means>⟧.m 4 act_places t self.old F h
-            → Stands ⟦<Self as Means>⟧.m t self.new F (h ++ mask_mine (is_alive (summary (past_of h)) handle.0) handle mask) }
+        requires { Somewhere (StandsWithRoom ⟦<Self as Means>⟧.m 4 act_places) self.old }
+        ensures stands { FromRoom ⟦<Self as Means>⟧.m 4 act_places self.old (λ t F h.
+            Stands ⟦<Self as Means>⟧.m t self.new F
+            (h ++ mask_mine (is_alive (summary (past_of h)) handle.0) handle mask)) }
         ensures rest { LeavesRest ⟦<Self as Means>⟧.m self.old self.new }
     {
         if !self.state.is_alive(handle) {
@@ -176,9 +184,10 @@ impl<
 
     /// Takes a timer away where it is one of the handle.
     fn cancel_mine(&mut self, handle: Handle, timer: u64)
-        requires { (t : Terms) × (F : ℕ) × (h : List (Entry H.Note)) × StandsWithRoom ⟦<Self as Means>⟧.m 4 act_places t self.old F h }
-        ensures stands { (t : Terms) (F : ℕ) (h : List (Entry H.Note)) → StandsWithRoom ⟦<Self as Means>⟧.m 4 act_places t self.old F h
-            → Stands ⟦<Self as Means>⟧.m t self.new F (h ++ cancel_mine (is_mine (summary (past_of h)) handle.0 timer) timer) }
+        requires { Somewhere (StandsWithRoom ⟦<Self as Means>⟧.m 4 act_places) self.old }
+        ensures stands { FromRoom ⟦<Self as Means>⟧.m 4 act_places self.old (λ t F h.
+            Stands ⟦<Self as Means>⟧.m t self.new F
+            (h ++ cancel_mine (is_mine (summary (past_of h)) handle.0 timer) timer)) }
         ensures rest { LeavesRest ⟦<Self as Means>⟧.m self.old self.new }
     {
         if !self.is_mine(handle, timer) {
@@ -194,7 +203,8 @@ impl<
 
     /// Whether a timer is one of the handle, and is armed or has an event that waits to be started.
     fn is_mine(&self, handle: Handle, timer: u64) -> bool
-        ensures { From ⟦<Self as Means>⟧.m self.now (λ t F h. result ≡ is_mine (summary (past_of h)) handle.0 timer) }
+        ensures { From ⟦<Self as Means>⟧.m self.now
+            (λ t F h. result ≡ is_mine (summary (past_of h)) handle.0 timer) }
     {
         is_of(handle, self.state.armed_handle(timer))
             || is_of(handle, self.state.timeout_handle(timer))

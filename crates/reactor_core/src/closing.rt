@@ -1,13 +1,9 @@
 //! The closing of a handler.
-ghost use Rattle.std.specs.Prelude.{◌≡◌, ◌≤◌, ◌+◌, ◌++◌, ◌∷◌, [], ℕ, List, Some, None};
-ghost use Rattle.ev_base.specs.Terms.{Terms};
+ghost use Rattle.std.specs.Prelude.{◌≤◌, ◌++◌, ◌∷◌, [], None};
 ghost use Rattle.reactor_journal.specs.declared.entry.Entry.{Entry};
-ghost use Rattle.reactor_journal.specs.Past.{past_of};
-ghost use Rattle.reactor_summary.specs.Summary.{summary};
-ghost use Rattle.reactor_state.specs.State.{HasNumber};
 ghost use Rattle.reactor_core.specs.Rest.{LeavesRest};
-ghost use Rattle.reactor_core.specs.Stands.{Tracks, TracksWith, SpendsRoom};
-ghost use Rattle.reactor_core.specs.Closing.{IsClosable};
+ghost use Rattle.reactor_core.specs.Stands.{Somewhere, Each, Tracks, SpendsRoom};
+ghost use Rattle.reactor_core.specs.Steps.{MayClose};
 
 use crate::Core;
 use crate::append::append;
@@ -26,14 +22,13 @@ impl<
 > Core<H, M, Q, W, V> {
     /// Closes the handler in hand, whose handle waits for its close, and retires its end. It takes no memory.
     pub(crate) fn close_handler(&mut self, handle: Handle, handler: H, why: Why)
-        requires tracks { TracksWith ⟦<Self as Means>⟧.m (Some handle.0) []
-            (λ t h. IsClosable H.means t (past_of h) handle.0 handler why × HasNumber (summary (past_of h))) self.old }
+        requires may { Somewhere (MayClose ⟦<Self as Means>⟧.m handle handler why) self.old }
         requires room { 1 ≤ self.old.journal.spare }
-        ensures tracks { (t : Terms) (F : ℕ) (h : List (Entry H.Note)) → Tracks ⟦<Self as Means>⟧.m t self.old F h (Some handle.0) []
-            → IsClosable H.means t (past_of h) handle.0 handler why → HasNumber (summary (past_of h))
-            → (note : H.Note) × Tracks ⟦<Self as Means>⟧.m t self.new F (h ++ Entry.Closed handle note ∷ []) None [] }
+        ensures tracks { Each (MayClose ⟦<Self as Means>⟧.m handle handler why) self.old (λ t F h.
+            (note : H.Note)
+            × Tracks ⟦<Self as Means>⟧.m t self.new F
+            (h ++ Entry.Closed handle note ∷ []) None []) }
         ensures room { SpendsRoom ⟦<Self as Means>⟧.m 1 self.old self.new }
-        ensures faults { (M.facts self.new.net).failed_attaches ≡ (M.facts self.old.net).failed_attaches }
         ensures rest { LeavesRest ⟦<Self as Means>⟧.m self.old self.new }
     {
         let (end, note) = handler.handle_close(why);

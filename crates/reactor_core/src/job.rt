@@ -3,6 +3,7 @@ ghost use Rattle.std.specs.Prelude.{◌≡◌, List};
 ghost use Rattle.ev_base.specs.Terms.{Terms};
 ghost use Rattle.reactor_journal.specs.declared.entry.Entry.{Entry};
 ghost use Rattle.reactor_core.specs.Upcalls.{JobFits, DoneFits, IsRunOf};
+ghost use Rattle.reactor_core.specs.Views.{job_event, job_handle, job_upcall, job_moment, done_event, done_handle, done_answer, done_note};
 
 use ev_types::{Answer, Handle, Upcall};
 use reactor_model::{EventHandler, Turn};
@@ -29,28 +30,28 @@ pub struct Done<H: EventHandler> {
 impl<H: EventHandler> Job<H> {
     /// The number of its event.
     pub fn event(&self) -> u64
-        ensures { result ≡ self.entry.now.event }
+        ensures { result ≡ job_event self.entry.now }
     {
         self.event
     }
 
     /// The handle of its event.
     pub fn handle(&self) -> Handle
-        ensures { result ≡ self.entry.now.handle }
+        ensures { result ≡ job_handle self.entry.now }
     {
         self.handle
     }
 
     /// The upcall that it makes.
     pub fn upcall(&self) -> Upcall
-        ensures { result ≡ self.entry.now.upcall }
+        ensures { result ≡ job_upcall self.entry.now }
     {
         self.upcall
     }
 
     /// The moment in milliseconds at which it was started.
     pub fn now(&self) -> u64
-        ensures { result ≡ self.entry.now.now }
+        ensures { result ≡ job_moment self.entry.now }
     {
         self.now
     }
@@ -58,7 +59,8 @@ impl<H: EventHandler> Job<H> {
     /// Makes the upcall at the moment at which it was started (C++NPv2 chapter 3, `handle_input` and its fellows). Whatever journal
     /// the job fits, what comes back fits it too: the handler has had one turn more, and its act is one that the turn may carry.
     pub fn run(self) -> Done<H>
-        ensures fits { (t : Terms) (past : List (Entry H.Note)) → JobFits H.means t past self → DoneFits H.means t past result }
+        ensures fits { (t : Terms) (past : List (Entry H.Note)) → JobFits H.means t past self
+            → DoneFits H.means t past result }
         ensures same { IsRunOf self result }
     {
         let Job {
@@ -84,28 +86,28 @@ impl<H: EventHandler> Job<H> {
 impl<H: EventHandler> Done<H> {
     /// The number of its event.
     pub fn event(&self) -> u64
-        ensures { result ≡ self.entry.now.event }
+        ensures { result ≡ done_event self.entry.now }
     {
         self.event
     }
 
     /// The handle of its event.
     pub fn handle(&self) -> Handle
-        ensures { result ≡ self.entry.now.handle }
+        ensures { result ≡ done_handle self.entry.now }
     {
         self.handle
     }
 
     /// What the handler answered.
     pub fn answer(&self) -> Answer
-        ensures { result ≡ self.entry.now.turn.answer }
+        ensures { result ≡ done_answer self.entry.now }
     {
         self.turn.answer
     }
 
     /// What the handler noted.
     pub fn note(&self) -> &H::Note
-        ensures { result.now ≡ self.entry.now.turn.note }
+        ensures { result.now ≡ done_note self.entry.now }
     {
         &self.turn.note
     }

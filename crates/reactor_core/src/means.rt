@@ -31,7 +31,8 @@ pub trait Means {
     type End;
 
     // The meaning of all its parts.
-    ghost m: { Meaning Self.Handler Self.Net Self.Timers Self.Watch Self.Volumes Self.Note Self.End };
+    ghost m: { Meaning Self.Handler Self.Net Self.Timers Self.Watch Self.Volumes
+        Self.Note Self.End };
 }
 
 impl<
@@ -55,5 +56,6 @@ impl<
 
     type End = H::End;
 
-    ghost m = { meaning H.means M.facts M.keeps (Shows Q.timers) (HasPlaces Q.spare) IsPlaced W.stands W.faults W.is_broken V.facts };
+    ghost m = { meaning H.means M.facts M.keeps (Shows Q.timers) (HasPlaces Q.spare) IsPlaced
+        W.stands W.faults W.is_broken V.facts };
 }

@@ -1,7 +1,7 @@
 //! The wait for events, and their entries.
 ghost use Rattle.std.specs.Prelude.{◌≡◌, ◌≤◌, ◌<◌, ◌+◌, ◌++◌, ◌↔◌, ℕ, List, map, filter, length, true, None, OnOk, OnErr, IfOk, IfSome, IfNone};
 ghost use Rattle.ev_base.specs.Counts.{Rose};
-ghost use Rattle.ev_base.specs.Net.{NetWaits};
+ghost use Rattle.ev_base.specs.Net.{NetWaits, FailsToWait};
 ghost use Rattle.ev_base.specs.Terms.{Terms};
 ghost use Rattle.ev_base.specs.declared.net.Report.{Report};
 ghost use Rattle.reactor_journal.specs.declared.entry.Entry.{Entry};
@@ -9,7 +9,9 @@ ghost use Rattle.reactor_journal.specs.Past.{past_of, count};
 ghost use Rattle.reactor_summary.specs.Summary.{Summary, summary};
 ghost use Rattle.reactor_core.specs.Calls.{least_limit, is_taken};
 ghost use Rattle.reactor_core.specs.Rest.{LeavesRest, CountsHold};
-ghost use Rattle.reactor_core.specs.Stands.{From, Stands, StandsWith, StandsAsBefore, Keeps, HasRoom};
+ghost use Rattle.reactor_core.specs.Refusals.{NetFails, LeavesPoll};
+ghost use Rattle.reactor_core.specs.Stands.{From, Somewhere, Each, Stands, StandsWith, StandsAsBefore, Keeps, HasRoom};
+ghost use Rattle.reactor_core.specs.Views.{net_of, volumes_of, marks_of, over_of};
 ghost use Rattle.reactor_core.specs.Marks.{is_polled, marks_after, marks_found, marks_polled};
 ghost use Rattle.reactor_core.specs.Polling.{FitsLimit, name_of, ready_of, Polls, WaitsOnce};
 ghost use Rattle.reactor_core.specs.Taking.{moment_of, count_of, event_places, MayWait, WaitGives, IsTakingDues, TakesDues, IsTakingReports, HasTakenReports};
@@ -110,17 +112,25 @@ impl<
     /// `Stopped` comes exactly where the reactor was stopped. `NoMemory` comes where there was no memory for the entries and
     /// events that a wait may bring. `NetFailed` comes only where the net's count of failed waits rose. After an Err the journal,
     /// the handlers and the timers are as before.
+    #[tactic(auto, using(crate::proofs::Frames::counts_go_on, crate::proofs::Frames::counts_of))]
     pub fn poll(&mut self, most_ms: Option<u64>) -> Result<Polled, PollRefused>
         requires stands { StandsWith ⟦<Self as Means>⟧.m (λ t h. FitsLimit t most_ms) self.old }
-        ensures ok { IfOk result (λ polled. From ⟦<Self as Means>⟧.m self.old (λ t F h. FitsLimit t most_ms → Polls ⟦<Self as Means>⟧.m t F h most_ms polled self.old self.new)) }
+        ensures ok { IfOk result (λ polled. From ⟦<Self as Means>⟧.m self.old
+            (λ t F h. FitsLimit t most_ms
+            → Polls ⟦<Self as Means>⟧.m t F h most_ms polled self.old self.new)) }
         ensures err { OnErr result (StandsAsBefore ⟦<Self as Means>⟧.m self.old self.new) }
-        ensures stopped { From ⟦<Self as Means>⟧.m self.old (λ t F h. (result ≡ Err PollRefused.Stopped) ↔ ((summary (past_of h)).ended ≡ true)) }
-        ensures failed { result ≡ Err PollRefused.NetFailed → Rose (M.facts self.old.net).failed_waits (M.facts self.new.net).failed_waits }
+        ensures refused { LeavesPoll ⟦<Self as Means>⟧.m self.old result self.new }
+        ensures stopped { From ⟦<Self as Means>⟧.m self.old (λ t F h.
+            (result ≡ Err PollRefused.Stopped) ↔ ((summary (past_of h)).ended ≡ true)) }
+        ensures failed { result ≡ Err PollRefused.NetFailed
+            → Rose (M.facts (net_of self.old)).failed_waits
+            (M.facts (net_of self.new)).failed_waits }
         ensures counts { CountsHold ⟦<Self as Means>⟧.m self.old self.new }
-        ensures marks { self.new.marks ≡ marks_polled result self.old.marks }
-        ensures over { self.old.marks.over ≤ self.new.marks.over }
-        ensures number { From ⟦<Self as Means>⟧.m self.new (λ t F h. result ≡ Ok Polled.Over → self.new.marks.over ≡ count is_polled (past_of h)) }
-        ensures volumes { self.new.volumes ≡ self.old.volumes }
+        ensures marks { marks_of self.new ≡ marks_polled result (marks_of self.old) }
+        ensures over { over_of self.old ≤ over_of self.new }
+        ensures number { From ⟦<Self as Means>⟧.m self.new (λ t F h.
+            result ≡ Ok Polled.Over → over_of self.new ≡ count is_polled (past_of h)) }
+        ensures volumes { volumes_of self.new ≡ volumes_of self.old }
     {
         if self.state.is_ended() {
             return Err(PollRefused::Stopped);
@@ -140,7 +150,9 @@ impl<
     /// Makes room for the entries of a wait, with so many timers, and for their events.
     fn make_poll_room(&mut self, armed: usize) -> Result<(), NoMemory>
         ensures kept { Keeps ⟦<Self as Means>⟧.m self.old self.new }
-        ensures room { OnOk result (From ⟦<Self as Means>⟧.m self.old (λ t F h. HasRoom ⟦<Self as Means>⟧.m (armed + 257) (event_places armed 256) self.new (summary (past_of h)))) }
+        ensures room { OnOk result (From ⟦<Self as Means>⟧.m self.old (λ t F h.
+            HasRoom ⟦<Self as Means>⟧.m (armed + 257) (event_places armed 256) self.new
+            (summary (past_of h)))) }
         ensures rest { LeavesRest ⟦<Self as Means>⟧.m self.old self.new }
     {
         let Some(entries) = armed.checked_add(MOST_REPORTS + 1) else {
@@ -159,12 +171,15 @@ impl<
     }
 
     /// Makes one wait, with so many armed timers, and appends its entries. None comes exactly where the wait failed.
+    #[tactic(auto, using(crate::proofs::Frames::counts_go_on, crate::proofs::Frames::counts_of))]
     fn take_events(&mut self, limit: Option<u64>, armed: usize) -> Option<Polled>
-        requires { (t : Terms) × (F : ℕ) × (h : List (Entry H.Note)) × MayWait ⟦<Self as Means>⟧.m armed limit t self.old F h }
-        ensures waits { IfSome result (λ polled. (t : Terms) (F : ℕ) (h : List (Entry H.Note)) → MayWait ⟦<Self as Means>⟧.m armed limit t self.old F h
-            → WaitsOnce ⟦<Self as Means>⟧.m t F h limit polled (M.facts self.old.net) self.new) }
+        requires { Somewhere (MayWait ⟦<Self as Means>⟧.m armed limit) self.old }
+        ensures waits { IfSome result (λ polled.
+            Each (MayWait ⟦<Self as Means>⟧.m armed limit) self.old (λ t F h.
+            WaitsOnce ⟦<Self as Means>⟧.m t F h limit polled (M.facts self.old.net) self.new)) }
         ensures stands { IfNone result (StandsAsBefore ⟦<Self as Means>⟧.m self.old self.new) }
-        ensures rose { IfNone result (Rose (M.facts self.old.net).failed_waits (M.facts self.new.net).failed_waits) }
+        ensures fails { IfNone result
+            (NetFails ⟦<Self as Means>⟧.m FailsToWait self.old self.new) }
         ensures counts { CountsHold ⟦<Self as Means>⟧.m self.old self.new }
         ensures marks { self.new.marks ≡ marks_found result self.old.marks }
         ensures volumes { self.new.volumes ≡ self.old.volumes }
@@ -180,11 +195,14 @@ impl<
 
     /// Makes one wait, and appends its `Polled` where it did not fail.
     fn wait_for(&mut self, limit: Option<u64>) -> Waited
-        requires { (t : Terms) × (F : ℕ) × (h : List (Entry H.Note)) × (armed : ℕ) × MayWait ⟦<Self as Means>⟧.m armed limit t self.old F h }
+        requires { (armed : ℕ) × Somewhere (MayWait ⟦<Self as Means>⟧.m armed limit) self.old }
         ensures waits { NetWaits (M.facts self.old.net) limit result (M.facts self.new.net) }
-        ensures gives { (t : Terms) (F : ℕ) (h : List (Entry H.Note)) (armed : ℕ) → MayWait ⟦<Self as Means>⟧.m armed limit t self.old F h
-            → WaitGives ⟦<Self as Means>⟧.m armed t F h (moment_of result) self.new }
-        ensures failed { moment_of result ≡ None → StandsAsBefore ⟦<Self as Means>⟧.m self.old self.new }
+        ensures gives { (armed : ℕ) → Each (MayWait ⟦<Self as Means>⟧.m armed limit) self.old
+            (λ t F h. WaitGives ⟦<Self as Means>⟧.m armed t F h (moment_of result) self.new) }
+        ensures stands { moment_of result ≡ None
+            → StandsAsBefore ⟦<Self as Means>⟧.m self.old self.new }
+        ensures fails { moment_of result ≡ None
+            → NetFails ⟦<Self as Means>⟧.m FailsToWait self.old self.new }
         ensures counts { CountsHold ⟦<Self as Means>⟧.m self.old self.new }
         ensures marks { self.new.marks ≡ marks_after result self.old.marks }
         ensures volumes { self.new.volumes ≡ self.old.volumes }
@@ -201,9 +219,11 @@ impl<
 
     /// Appends a `Due` for each timer whose deadline is reached, of which there are at most so many.
     fn take_dues(&mut self, most: usize)
-        requires { (t : Terms) × (F : ℕ) × (h : List (Entry H.Note)) × (s : Summary) × (events : ℕ) × (pending : List Report)
+        requires { (t : Terms) × (F : ℕ) × (h : List (Entry H.Note)) × (s : Summary)
+            × (events : ℕ) × (pending : List Report)
             × IsTakingDues ⟦<Self as Means>⟧.m s most events t self.old F h pending }
-        ensures dues { (t : Terms) (F : ℕ) (h : List (Entry H.Note)) (s : Summary) (events : ℕ) (pending : List Report)
+        ensures dues { (t : Terms) (F : ℕ) (h : List (Entry H.Note)) (s : Summary) (events : ℕ)
+            (pending : List Report)
             → IsTakingDues ⟦<Self as Means>⟧.m s most events t self.old F h pending
             → TakesDues ⟦<Self as Means>⟧.m s events t self.new F h pending }
         ensures net { self.new.net ≡ self.old.net }
@@ -221,14 +241,18 @@ impl<
 
     /// Appends a `Ready` for each report of the wait that is taken.
     fn take_reports(&mut self, count: usize)
-        requires stands { (t : Terms) × (F : ℕ) × (h : List (Entry H.Note)) × (s : Summary) × (left : ℕ)
-            × IsTakingReports ⟦<Self as Means>⟧.m s left t self.old F h (filter (is_taken s) (M.facts self.old.net).reports)
+        requires stands { (t : Terms) × (F : ℕ) × (h : List (Entry H.Note)) × (s : Summary)
+            × (left : ℕ)
+            × IsTakingReports ⟦<Self as Means>⟧.m s left t self.old F h
+            (filter (is_taken s) (M.facts self.old.net).reports)
             × (count ≤ left) }
         requires all { count ≡ length (M.facts self.old.net).reports }
         ensures stands { (t : Terms) (F : ℕ) (h : List (Entry H.Note)) (s : Summary) (left : ℕ)
-            → IsTakingReports ⟦<Self as Means>⟧.m s left t self.old F h (filter (is_taken s) (M.facts self.old.net).reports)
+            → IsTakingReports ⟦<Self as Means>⟧.m s left t self.old F h
+            (filter (is_taken s) (M.facts self.old.net).reports)
             → count ≤ left
-            → Stands ⟦<Self as Means>⟧.m t self.new F (h ++ map ready_of (filter (is_taken s) (M.facts self.old.net).reports)) }
+            → Stands ⟦<Self as Means>⟧.m t self.new F
+            (h ++ map ready_of (filter (is_taken s) (M.facts self.old.net).reports)) }
         ensures net { self.new.net ≡ self.old.net }
         ensures rest { LeavesRest ⟦<Self as Means>⟧.m self.old self.new }
     {
@@ -241,10 +265,13 @@ impl<
     fn take_report(&mut self, at: usize)
         requires within { at < length (M.facts self.old.net).reports }
         requires stands { (t : Terms) × (F : ℕ) × (h : List (Entry H.Note)) × (s : Summary)
-            × HasTakenReports ⟦<Self as Means>⟧.m s (M.facts self.old.net).reports at t self.old F h }
+            × HasTakenReports ⟦<Self as Means>⟧.m s (M.facts self.old.net).reports at t
+            self.old F h }
         ensures stands { (t : Terms) (F : ℕ) (h : List (Entry H.Note)) (s : Summary)
-            → HasTakenReports ⟦<Self as Means>⟧.m s (M.facts self.old.net).reports at t self.old F h
-            → HasTakenReports ⟦<Self as Means>⟧.m s (M.facts self.old.net).reports (at + 1) t self.new F h }
+            → HasTakenReports ⟦<Self as Means>⟧.m s (M.facts self.old.net).reports at t
+            self.old F h
+            → HasTakenReports ⟦<Self as Means>⟧.m s (M.facts self.old.net).reports (at + 1) t
+            self.new F h }
         ensures net { self.new.net ≡ self.old.net }
         ensures rest { LeavesRest ⟦<Self as Means>⟧.m self.old self.new }
     {

@@ -4,6 +4,8 @@ ghost use Rattle.reactor_journal.specs.declared.entry.Entry.{Entry};
 ghost use Rattle.reactor_journal.specs.Past.{past_of};
 ghost use Rattle.reactor_summary.specs.Summary.{summary};
 ghost use Rattle.reactor_core.specs.Rest.{LeavesRest};
+ghost use Rattle.reactor_core.specs.Refusals.{LeavesPosting};
+ghost use Rattle.reactor_core.specs.Views.{net_of};
 ghost use Rattle.reactor_core.specs.Stands.{From, Stands, IsStanding, StandsWith, StandsAsBefore, HasRoom, Keeps};
 ghost use Rattle.reactor_core.specs.Requests.{GoesOnBy, WhereStanding};
 ghost use Rattle.reactor_core.specs.Postings.{posting, post_places, IsPostAnswer};
@@ -53,8 +55,10 @@ impl<
         seq: u64,
     ) -> Result<(), PostRefused>
         requires stands { IsStanding ⟦<Self as Means>⟧.m self.old }
-        ensures ok { OnOk result (GoesOnBy ⟦<Self as Means>⟧.m self.old (λ s. posting s handle kind from seq) self.new) }
+        ensures ok { OnOk result (GoesOnBy ⟦<Self as Means>⟧.m self.old
+            (λ s. posting s handle kind from seq) self.new) }
         ensures err { OnErr result (StandsAsBefore ⟦<Self as Means>⟧.m self.old self.new) }
+        ensures refused { LeavesPosting ⟦<Self as Means>⟧.m self.old result self.new }
         ensures cause { WhereStanding ⟦<Self as Means>⟧.m self.old (λ s. IsPostAnswer s result) }
         ensures rest { LeavesRest ⟦<Self as Means>⟧.m self.old self.new }
     {
@@ -84,10 +88,14 @@ impl<
     /// Posts a notification for which there is room, while the reactor was not stopped. It appends what `post` appends, uses that
     /// room and takes no memory.
     pub fn post_reserved(&mut self, handle: Handle, kind: Kind, from: u64, seq: u64)
-        requires stands { StandsWith ⟦<Self as Means>⟧.m
-            (λ t h. HasRoom ⟦<Self as Means>⟧.m 1 post_places self.old (summary (past_of h)) × ((summary (past_of h)).ended ≡ false)) self.old }
-        ensures stands { From ⟦<Self as Means>⟧.m self.old (λ t F h. HasRoom ⟦<Self as Means>⟧.m 1 post_places self.old (summary (past_of h)) → (summary (past_of h)).ended ≡ false
-            → Stands ⟦<Self as Means>⟧.m t self.new F (h ++ posting (summary (past_of h)) handle kind from seq ∷ [])) }
+        requires stands { StandsWith ⟦<Self as Means>⟧.m (λ t h.
+            HasRoom ⟦<Self as Means>⟧.m 1 post_places self.old (summary (past_of h))
+            × ((summary (past_of h)).ended ≡ false)) self.old }
+        ensures stands { From ⟦<Self as Means>⟧.m self.old (λ t F h.
+            HasRoom ⟦<Self as Means>⟧.m 1 post_places self.old (summary (past_of h))
+            → (summary (past_of h)).ended ≡ false → Stands ⟦<Self as Means>⟧.m t self.new F
+            (h ++ posting (summary (past_of h)) handle kind from seq ∷ [])) }
+        ensures net { net_of self.new ≡ net_of self.old }
         ensures rest { LeavesRest ⟦<Self as Means>⟧.m self.old self.new }
     {
         if self.state.is_alive(handle) {

@@ -5,6 +5,7 @@ ghost use Rattle.ev_base.specs.Terms.{Terms};
 ghost use Rattle.reactor_journal.specs.declared.entry.Entry.{Entry};
 ghost use Rattle.reactor_journal.specs.Past.{past_of};
 ghost use Rattle.reactor_summary.specs.Summary.{summary};
+ghost use Rattle.reactor_core.specs.Views.{volume_of, net_of, watch_of, volumes_of, over_of};
 ghost use Rattle.reactor_core.specs.Stands.{From, Stands, StandsWith};
 ghost use Rattle.reactor_core.specs.Ends.{WhereTold};
 ghost use Rattle.reactor_core.specs.Marks.{IsOverAt, answers};
@@ -84,12 +85,16 @@ impl<
         requires least { 1 ≤ most }
         requires greatest { most ≤ 4097 }
         requires volume { 1 ≤ volume }
-        requires begins { (t : Terms) × CanBegin (M.facts net) (M.keeps t net) (Q.timers timers) (W.stands t watch []) (V.facts volumes) t most }
-        ensures ok { IfOk result (λ core. (t : Terms) → CanBegin (M.facts net) (M.keeps t net) (Q.timers timers) (W.stands t watch []) (V.facts volumes) t most
+        requires begins { (t : Terms) × CanBegin (M.facts net) (M.keeps t net) (Q.timers timers)
+            (W.stands t watch []) (V.facts volumes) t most }
+        ensures ok { IfOk result (λ core. (t : Terms) → CanBegin (M.facts net) (M.keeps t net)
+            (Q.timers timers) (W.stands t watch []) (V.facts volumes) t most
             → Stands ⟦<Self as Means>⟧.m t core 0 []) }
-        ensures volume { IfOk result (λ core. core.volume ≡ volume) }
-        ensures parts { IfOk result (λ core. (core.net ≡ net) × (core.watch ≡ watch) × (core.volumes ≡ volumes)) }
-        ensures err { IfErr result (λ back. (back.0 ≡ net) × (back.1 ≡ timers) × (back.2 ≡ watch) × (back.3 ≡ volumes)) }
+        ensures volume { IfOk result (λ core. volume_of core ≡ volume) }
+        ensures parts { IfOk result (λ core. (net_of core ≡ net) × (watch_of core ≡ watch)
+            × (volumes_of core ≡ volumes)) }
+        ensures err { IfErr result (λ back. (back.0 ≡ net) × (back.1 ≡ timers)
+            × (back.2 ≡ watch) × (back.3 ≡ volumes)) }
     {
         let mut journal = Journal::new(alloc);
         match journal.reserve(1) {
@@ -137,16 +142,17 @@ impl<
 
     /// Whether it was stopped.
     pub fn is_ended(&self) -> bool
-        ensures { From ⟦<Self as Means>⟧.m self.now (λ t F h. result ≡ (summary (past_of h)).ended) }
+        ensures { From ⟦<Self as Means>⟧.m self.now
+            (λ t F h. result ≡ (summary (past_of h)).ended) }
     {
         self.state.is_ended()
     }
 
     /// Whether its watch failed. Where it did, a fault rose after the start.
     pub fn is_broken(&self) -> bool
-        ensures told { result ≡ W.is_broken self.now.watch }
-        ensures rose { (t : Terms) (F : ℕ) (h : List (Entry H.Note)) (before : ℕ) → Stands ⟦<Self as Means>⟧.m t self.now F h
-            → result ≡ true → t.output_faults ≡ Some before → Rose before (W.faults self.now.watch) }
+        ensures told { result ≡ W.is_broken (watch_of self.now) }
+        ensures rose { From ⟦<Self as Means>⟧.m self.now (λ t F h. (before : ℕ) → result ≡ true
+            → t.output_faults ≡ Some before → Rose before (W.faults (watch_of self.now))) }
     {
         self.watch.broken()
     }
@@ -154,8 +160,10 @@ impl<
     /// The number, from 1, of the last wait that was answered `Over`, or 0 where there was none. The n-th wait that did not fail has
     /// the n-th `Polled` of the journal.
     pub fn over(&self) -> u64
-        ensures mark { result ≡ self.now.marks.over }
-        ensures there { From ⟦<Self as Means>⟧.m self.now (λ t F h. 1 ≤ result → WhereTold (λ calls. IsOverAt result (answers calls)) (M.facts self.now.net).calls) }
+        ensures mark { result ≡ over_of self.now }
+        ensures there { From ⟦<Self as Means>⟧.m self.now (λ t F h. 1 ≤ result
+            → WhereTold (λ calls. IsOverAt result (answers calls))
+            (M.facts (net_of self.now)).calls) }
     {
         self.marks.over
     }
@@ -164,10 +172,11 @@ impl<
     /// their counts of faults are those of its last call.
     pub fn into_parts(self) -> Parts<H::Note, M, Q, W, V>
         requires { StandsWith ⟦<Self as Means>⟧.m (λ t h. IsOver (summary (past_of h))) self }
-        ensures stands { From ⟦<Self as Means>⟧.m self (λ t F h. PartsStand ⟦<Self as Means>⟧.m Q.timers t F h result) }
-        ensures net { result.net ≡ self.net }
-        ensures watch { result.watch ≡ self.watch }
-        ensures volumes { result.volumes ≡ self.volumes }
+        ensures stands { From ⟦<Self as Means>⟧.m self
+            (λ t F h. PartsStand ⟦<Self as Means>⟧.m Q.timers t F h result) }
+        ensures net { result.net ≡ net_of self }
+        ensures watch { result.watch ≡ watch_of self }
+        ensures volumes { result.volumes ≡ volumes_of self }
     {
         let Core {
             alloc: _,

@@ -7,8 +7,10 @@ ghost use Rattle.reactor_summary.specs.Summary.{summary, is_alive};
 ghost use Rattle.reactor_model.specs.Turns.{IsTimer};
 ghost use Rattle.reactor_state.specs.declared.places.Places.{Places};
 ghost use Rattle.reactor_state.specs.State.{HasNumber, HasPlaces, no_places};
-ghost use Rattle.reactor_core.specs.Rest.{LeavesRest};
-ghost use Rattle.reactor_core.specs.Stands.{From, Tracks, TracksWith, StandsWith, StandsWithRoom};
+ghost use Rattle.reactor_core.specs.Rest.{LeavesButAttaches, LeavesRest};
+ghost use Rattle.reactor_core.specs.Refusals.{LeavesAdmission, LeavesOffer};
+ghost use Rattle.reactor_core.specs.Steps.{MayAdmit, MayOpen};
+ghost use Rattle.reactor_core.specs.Stands.{From, FromTracks, Somewhere, Each, Tracks, TracksWith, StandsWith};
 ghost use Rattle.reactor_core.specs.Registering.{HasPlaceFor, IsOffered, registered};
 ghost use Rattle.reactor_core.specs.Offering.{TakesHandle, ComesBack, RegisterGives, AdmitGives};
 ghost use Rattle.reactor_core.specs.Settling.{act_places};
@@ -74,17 +76,21 @@ impl<
     /// timer. With each refusal the handler comes back, and all is as it was: `Stopped` comes exactly where the reactor was
     /// stopped; `Full` exactly where it was not, and as many handlers are live as may be or 4,294,967,295 were registered;
     /// `NetFailed` only where the net's count of failed attaches rose.
+    #[tactic(auto, using(crate::proofs::Frames::attaching_goes_on, crate::proofs::Frames::attaching_of))]
     pub fn register(
         &mut self,
         handler: H,
         mask: Mask,
         timer: Option<(u64, u64)>,
     ) -> Result<Handle, (H, RegisterRefused)>
-        requires stands { StandsWith ⟦<Self as Means>⟧.m (λ t h. IsOffered H.means t (past_of h) handler) self.old }
+        requires stands { StandsWith ⟦<Self as Means>⟧.m
+            (λ t h. IsOffered H.means t (past_of h) handler) self.old }
         requires timer { IsTimer timer }
-        ensures stands { From ⟦<Self as Means>⟧.m self.old (λ t F h. IsOffered H.means t (past_of h) handler
+        ensures stands { From ⟦<Self as Means>⟧.m self.old (λ t F h.
+            IsOffered H.means t (past_of h) handler
             → RegisterGives ⟦<Self as Means>⟧.m t F h mask timer self.old result self.new) }
-        ensures rest { LeavesRest ⟦<Self as Means>⟧.m self.old self.new }
+        ensures refused { LeavesOffer ⟦<Self as Means>⟧.m handler self.old result self.new }
+        ensures rest { LeavesButAttaches ⟦<Self as Means>⟧.m self.old self.new }
     {
         if self.state.is_ended() {
             return Err((handler, RegisterRefused::Stopped));
@@ -105,19 +111,19 @@ impl<
     }
 
     /// Registers a handler for which there is room, and its timer.
+    #[tactic(auto, using(crate::proofs::Frames::attaching_goes_on, crate::proofs::Frames::attaching_of))]
     pub(crate) fn admit(
         &mut self,
         handler: H,
         mask: Mask,
         timer: Option<(u64, u64)>,
     ) -> Result<Handle, H>
-        requires stands { (t : Terms) × (F : ℕ) × (h : List (Entry H.Note)) × StandsWithRoom ⟦<Self as Means>⟧.m 4 act_places t self.old F h
-            × HasPlaceFor t.most (summary (past_of h)) × IsOffered H.means t (past_of h) handler }
+        requires stands { Somewhere (MayAdmit ⟦<Self as Means>⟧.m handler) self.old }
         requires timer { IsTimer timer }
-        ensures stands { (t : Terms) (F : ℕ) (h : List (Entry H.Note)) → StandsWithRoom ⟦<Self as Means>⟧.m 4 act_places t self.old F h
-            → HasPlaceFor t.most (summary (past_of h)) → IsOffered H.means t (past_of h) handler
-            → AdmitGives ⟦<Self as Means>⟧.m t F h mask timer self.old result self.new }
-        ensures rest { LeavesRest ⟦<Self as Means>⟧.m self.old self.new }
+        ensures stands { Each (MayAdmit ⟦<Self as Means>⟧.m handler) self.old (λ t F h.
+            AdmitGives ⟦<Self as Means>⟧.m t F h mask timer self.old result self.new) }
+        ensures leaves { LeavesAdmission ⟦<Self as Means>⟧.m handler self.old result self.new }
+        ensures rest { LeavesButAttaches ⟦<Self as Means>⟧.m self.old self.new }
     {
         match self.open_handler(handler, mask) {
             Ok(handle) => match timer {
@@ -133,23 +139,22 @@ impl<
 
     /// Registers a handler for which there is room: its end is attached, and the journal has `Opened`. Where the net cannot take
     /// the end the handler comes back.
+    #[tactic(auto, using(crate::proofs::Frames::attaching_goes_on, crate::proofs::Frames::attaching_of))]
     fn open_handler(&mut self, handler: H, mask: Mask) -> Result<Handle, H>
-        requires tracks { TracksWith ⟦<Self as Means>⟧.m None []
-            (λ t h. HasPlaceFor t.most (summary (past_of h)) × HasNumber (summary (past_of h)) × IsOffered H.means t (past_of h) handler) self.old }
+        requires may { Somewhere (MayOpen ⟦<Self as Means>⟧.m handler) self.old }
         requires journal { 1 ≤ self.old.journal.spare }
         requires seats { 1 ≤ self.old.repo.spare }
         requires net { 1 ≤ (M.facts self.old.net).spare }
         requires places { HasPlaces Q.spare (record no_places { handles = 1 }) self.old.state }
-        ensures ok { IfOk result (λ handle. (t : Terms) (F : ℕ) (h : List (Entry H.Note)) → HasPlaceFor t.most (summary (past_of h)) → HasNumber (summary (past_of h)) → IsOffered H.means t (past_of h) handler
-            → Tracks ⟦<Self as Means>⟧.m t self.old F h None []
-            → Tracks ⟦<Self as Means>⟧.m t self.new F (h ++ Entry.Opened handle mask ∷ []) None []) }
-        ensures number { IfOk result (λ handle. (t : Terms) (F : ℕ) (h : List (Entry H.Note)) → Tracks ⟦<Self as Means>⟧.m t self.old F h None []
-            → handle.0 ≡ (summary (past_of h)).opened) }
+        ensures ok { IfOk result (λ handle. Each (MayOpen ⟦<Self as Means>⟧.m handler) self.old
+            (λ t F h. (handle.0 ≡ (summary (past_of h)).opened)
+            × Tracks ⟦<Self as Means>⟧.m t self.new F
+            (h ++ Entry.Opened handle mask ∷ []) None [])) }
         ensures room { IfOk result (λ handle. TakesHandle ⟦<Self as Means>⟧.m self.old self.new) }
-        ensures err { IfErr result (λ back. (t : Terms) (F : ℕ) (h : List (Entry H.Note)) → IsOffered H.means t (past_of h) handler → HasNumber (summary (past_of h))
-            → Tracks ⟦<Self as Means>⟧.m t self.old F h None []
-            → ComesBack ⟦<Self as Means>⟧.m t F h back self.old self.new) }
-        ensures rest { LeavesRest ⟦<Self as Means>⟧.m self.old self.new }
+        ensures err { IfErr result (λ back. Each (MayOpen ⟦<Self as Means>⟧.m handler) self.old
+            (λ t F h. ComesBack ⟦<Self as Means>⟧.m t F h back self.old self.new)) }
+        ensures leaves { LeavesAdmission ⟦<Self as Means>⟧.m handler self.old result self.new }
+        ensures rest { LeavesButAttaches ⟦<Self as Means>⟧.m self.old self.new }
     {
         let mut handler = handler;
         let handle = Handle(self.state.opened());
@@ -175,14 +180,16 @@ impl<
         requires every { every ≤ 4294967295 }
         requires journal { 1 ≤ self.old.journal.spare }
         requires places { HasPlaces Q.spare (record no_places { timers = 1 }) self.old.state }
-        ensures tracks { (t : Terms) (F : ℕ) (h : List (Entry H.Note)) → 1 ≤ delay → is_alive (summary (past_of h)) handle.0 ≡ true → (summary (past_of h)).ended ≡ false → HasNumber (summary (past_of h))
-            → Tracks ⟦<Self as Means>⟧.m t self.old F h None []
-            → Tracks ⟦<Self as Means>⟧.m t self.new F
-            (h ++ Entry.Scheduled (summary (past_of h)).scheduled handle ((summary (past_of h)).moment + delay) every ∷ []) None [] }
-        ensures number { (t : Terms) (F : ℕ) (h : List (Entry H.Note)) → Tracks ⟦<Self as Means>⟧.m t self.old F h None []
-            → result ≡ (summary (past_of h)).scheduled }
+        ensures tracks { FromTracks ⟦<Self as Means>⟧.m None [] self.old (λ t F h. 1 ≤ delay
+            → is_alive (summary (past_of h)) handle.0 ≡ true → (summary (past_of h)).ended ≡ false
+            → HasNumber (summary (past_of h)) → Tracks ⟦<Self as Means>⟧.m t self.new F
+            (h ++ Entry.Scheduled (summary (past_of h)).scheduled handle
+            ((summary (past_of h)).moment + delay) every ∷ []) None []) }
+        ensures number { FromTracks ⟦<Self as Means>⟧.m None [] self.old (λ t F h.
+            result ≡ (summary (past_of h)).scheduled) }
         ensures journal { self.new.journal.spare + 1 ≡ self.old.journal.spare }
-        ensures places { (p : Places) → HasPlaces Q.spare p self.old.state → HasPlaces Q.spare (record p { timers = p.timers - 1 }) self.new.state }
+        ensures places { (p : Places) → HasPlaces Q.spare p self.old.state
+            → HasPlaces Q.spare (record p { timers = p.timers - 1 }) self.new.state }
         ensures repo { self.new.repo ≡ self.old.repo }
         ensures net { self.new.net ≡ self.old.net }
         ensures rest { LeavesRest ⟦<Self as Means>⟧.m self.old self.new }

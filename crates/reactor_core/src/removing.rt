@@ -1,11 +1,9 @@
 //! The removal of a handler, and the end.
-ghost use Rattle.std.specs.Prelude.{◌≡◌, [], ℕ, List, true, false, OnOk, OnErr, IsErr, ◌↔◌};
-ghost use Rattle.ev_base.specs.Terms.{Terms};
-ghost use Rattle.reactor_journal.specs.declared.entry.Entry.{Entry};
+ghost use Rattle.std.specs.Prelude.{◌≡◌, [], true, false, OnOk, OnErr, IsErr, ◌↔◌};
 ghost use Rattle.reactor_journal.specs.Past.{past_of};
 ghost use Rattle.reactor_summary.specs.Summary.{summary, is_alive};
 ghost use Rattle.reactor_core.specs.Rest.{LeavesRest};
-ghost use Rattle.reactor_core.specs.Stands.{From, IsStanding, StandsQuiet, QuietWith};
+ghost use Rattle.reactor_core.specs.Stands.{From, FromQuiet, IsStanding, QuietWith};
 ghost use Rattle.reactor_core.specs.Removing.{Removes, RemovesQuietly, RemovesFirst, RemovesAll, StopsOnce, alive_handles};
 
 use crate::Core;
@@ -32,8 +30,10 @@ impl<
     /// leaves all as it was.
     pub fn remove(&mut self, handle: Handle) -> Result<(), NotLive>
         requires { IsStanding ⟦<Self as Means>⟧.m self.old }
-        ensures not_live { From ⟦<Self as Means>⟧.m self.old (λ t F h. IsErr result ↔ (is_alive (summary (past_of h)) handle.0 ≡ false)) }
-        ensures ok { OnOk result (From ⟦<Self as Means>⟧.m self.old (λ t F h. Removes ⟦<Self as Means>⟧.m t F h handle self.new)) }
+        ensures not_live { From ⟦<Self as Means>⟧.m self.old (λ t F h.
+            IsErr result ↔ (is_alive (summary (past_of h)) handle.0 ≡ false)) }
+        ensures ok { OnOk result (From ⟦<Self as Means>⟧.m self.old
+            (λ t F h. Removes ⟦<Self as Means>⟧.m t F h handle self.new)) }
         ensures err { OnErr result (self.new ≡ self.old) }
         ensures rest { LeavesRest ⟦<Self as Means>⟧.m self.old self.new }
     {
@@ -46,9 +46,11 @@ impl<
 
     /// Removes the handler of a handle that is alive.
     pub(crate) fn remove_alive(&mut self, handle: Handle)
-        requires { QuietWith ⟦<Self as Means>⟧.m (λ t h. is_alive (summary (past_of h)) handle.0 ≡ true) self.old }
-        ensures stands { (t : Terms) (F : ℕ) (h : List (Entry H.Note)) → StandsQuiet ⟦<Self as Means>⟧.m t self.old F h
-            → is_alive (summary (past_of h)) handle.0 ≡ true → RemovesQuietly ⟦<Self as Means>⟧.m t F h handle self.new }
+        requires { QuietWith ⟦<Self as Means>⟧.m
+            (λ t h. is_alive (summary (past_of h)) handle.0 ≡ true) self.old }
+        ensures stands { FromQuiet ⟦<Self as Means>⟧.m self.old (λ t F h.
+            is_alive (summary (past_of h)) handle.0 ≡ true
+            → RemovesQuietly ⟦<Self as Means>⟧.m t F h handle self.new) }
         ensures rest { LeavesRest ⟦<Self as Means>⟧.m self.old self.new }
     {
         self.state.remove(handle);
@@ -67,7 +69,8 @@ impl<
     /// memory, and does nothing where the reactor was stopped before.
     pub fn stop(&mut self)
         requires { IsStanding ⟦<Self as Means>⟧.m self.old }
-        ensures stands { From ⟦<Self as Means>⟧.m self.old (λ t F h. StopsOnce ⟦<Self as Means>⟧.m t F h self.new (summary (past_of h)).ended) }
+        ensures stands { From ⟦<Self as Means>⟧.m self.old (λ t F h.
+            StopsOnce ⟦<Self as Means>⟧.m t F h self.new (summary (past_of h)).ended) }
         ensures rest { LeavesRest ⟦<Self as Means>⟧.m self.old self.new }
     {
         if self.state.is_ended() {
@@ -81,8 +84,8 @@ impl<
     /// Removes all handlers whose handles are alive.
     fn remove_all(&mut self)
         requires { QuietWith ⟦<Self as Means>⟧.m (λ t h. Unit {0}) self.old }
-        ensures stands { (t : Terms) (F : ℕ) (h : List (Entry H.Note)) → StandsQuiet ⟦<Self as Means>⟧.m t self.old F h
-            → RemovesAll ⟦<Self as Means>⟧.m t F h self.new }
+        ensures stands { FromQuiet ⟦<Self as Means>⟧.m self.old
+            (λ t F h. RemovesAll ⟦<Self as Means>⟧.m t F h self.new) }
         ensures rest { LeavesRest ⟦<Self as Means>⟧.m self.old self.new }
     {
         for _removed in 0..self.state.alive_count() {
@@ -95,10 +98,10 @@ impl<
     /// Removes the first handler whose handle is alive, and tells whether there was one.
     fn remove_first(&mut self) -> bool
         requires { QuietWith ⟦<Self as Means>⟧.m (λ t h. Unit {0}) self.old }
-        ensures some { result ≡ true → (t : Terms) (F : ℕ) (h : List (Entry H.Note)) → StandsQuiet ⟦<Self as Means>⟧.m t self.old F h
-            → RemovesFirst ⟦<Self as Means>⟧.m t F h self.new }
-        ensures none { result ≡ false → (t : Terms) (F : ℕ) (h : List (Entry H.Note)) → StandsQuiet ⟦<Self as Means>⟧.m t self.old F h
-            → alive_handles (summary (past_of h)) ≡ [] }
+        ensures some { result ≡ true → FromQuiet ⟦<Self as Means>⟧.m self.old
+            (λ t F h. RemovesFirst ⟦<Self as Means>⟧.m t F h self.new) }
+        ensures none { result ≡ false → FromQuiet ⟦<Self as Means>⟧.m self.old
+            (λ t F h. alive_handles (summary (past_of h)) ≡ []) }
         ensures same { result ≡ false → self.new ≡ self.old }
         ensures rest { LeavesRest ⟦<Self as Means>⟧.m self.old self.new }
     {

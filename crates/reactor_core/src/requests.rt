@@ -2,6 +2,7 @@
 ghost use Rattle.std.specs.Prelude.{◌≡◌, ◌<◌, OnOk, OnErr, true, false};
 ghost use Rattle.reactor_journal.specs.declared.entry.Entry.{Entry};
 ghost use Rattle.reactor_core.specs.Rest.{LeavesRest};
+ghost use Rattle.reactor_core.specs.Refusals.{LeavesState, LeavesLive};
 ghost use Rattle.reactor_core.specs.Stands.{IsStanding, StandsAsBefore};
 ghost use Rattle.reactor_core.specs.Requests.{GoesOnBy, WhereStanding, suspension, IsStateAnswer, IsLiveAnswer};
 
@@ -55,9 +56,12 @@ impl<
     /// alive, and `Same` exactly where it is alive and suspended already; after a refusal nothing has changed.
     pub fn suspend(&mut self, handle: Handle) -> Result<(), StateRefused>
         requires stands { IsStanding ⟦<Self as Means>⟧.m self.old }
-        ensures ok { OnOk result (GoesOnBy ⟦<Self as Means>⟧.m self.old (λ s. Entry.Suspended handle) self.new) }
+        ensures ok { OnOk result (GoesOnBy ⟦<Self as Means>⟧.m self.old
+            (λ s. Entry.Suspended handle) self.new) }
         ensures err { OnErr result (StandsAsBefore ⟦<Self as Means>⟧.m self.old self.new) }
-        ensures cause { WhereStanding ⟦<Self as Means>⟧.m self.old (λ s. IsStateAnswer s handle.0 true result) }
+        ensures refused { LeavesState ⟦<Self as Means>⟧.m self.old result self.new }
+        ensures cause { WhereStanding ⟦<Self as Means>⟧.m self.old
+            (λ s. IsStateAnswer s handle.0 true result) }
         ensures rest { LeavesRest ⟦<Self as Means>⟧.m self.old self.new }
     {
         match self.suspension(handle) {
@@ -83,9 +87,12 @@ impl<
     /// suspended; after a refusal nothing has changed.
     pub fn resume(&mut self, handle: Handle) -> Result<(), StateRefused>
         requires stands { IsStanding ⟦<Self as Means>⟧.m self.old }
-        ensures ok { OnOk result (GoesOnBy ⟦<Self as Means>⟧.m self.old (λ s. Entry.Resumed handle) self.new) }
+        ensures ok { OnOk result (GoesOnBy ⟦<Self as Means>⟧.m self.old
+            (λ s. Entry.Resumed handle) self.new) }
         ensures err { OnErr result (StandsAsBefore ⟦<Self as Means>⟧.m self.old self.new) }
-        ensures cause { WhereStanding ⟦<Self as Means>⟧.m self.old (λ s. IsStateAnswer s handle.0 false result) }
+        ensures refused { LeavesState ⟦<Self as Means>⟧.m self.old result self.new }
+        ensures cause { WhereStanding ⟦<Self as Means>⟧.m self.old
+            (λ s. IsStateAnswer s handle.0 false result) }
         ensures rest { LeavesRest ⟦<Self as Means>⟧.m self.old self.new }
     {
         match self.suspension(handle) {
@@ -125,9 +132,12 @@ impl<
     /// not alive; after a refusal nothing has changed.
     pub fn set_mask(&mut self, handle: Handle, mask: Mask) -> Result<(), LiveRefused>
         requires stands { IsStanding ⟦<Self as Means>⟧.m self.old }
-        ensures ok { OnOk result (GoesOnBy ⟦<Self as Means>⟧.m self.old (λ s. Entry.Masked handle mask) self.new) }
+        ensures ok { OnOk result (GoesOnBy ⟦<Self as Means>⟧.m self.old
+            (λ s. Entry.Masked handle mask) self.new) }
         ensures err { OnErr result (StandsAsBefore ⟦<Self as Means>⟧.m self.old self.new) }
-        ensures cause { WhereStanding ⟦<Self as Means>⟧.m self.old (λ s. IsLiveAnswer s handle.0 result) }
+        ensures refused { LeavesLive ⟦<Self as Means>⟧.m self.old result self.new }
+        ensures cause { WhereStanding ⟦<Self as Means>⟧.m self.old
+            (λ s. IsLiveAnswer s handle.0 result) }
         ensures rest { LeavesRest ⟦<Self as Means>⟧.m self.old self.new }
     {
         if !self.state.is_alive(handle) {

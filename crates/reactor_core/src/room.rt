@@ -19,7 +19,8 @@ pub(crate) const MOST_ENTRIES: u64 = 1 << 62;
 /// Places for so many more beside those for the open events, or None exactly where some of them are too many.
 fn places_for(opened: usize, more: Places) -> Option<Places>
     ensures places { IfSome result (λ places. places ≡ places_for opened more) }
-    ensures beyond { IfNone result (2 ^ 64 ≤ opened + max (max more.handles more.timers) (max more.timeouts more.events)) }
+    ensures beyond { IfNone result (2 ^ 64
+        ≤ opened + max (max more.handles more.timers) (max more.timeouts more.events)) }
 {
     Some(Places {
         handles: opened.checked_add(more.handles)?,
@@ -57,7 +58,8 @@ impl<
     /// before.
     pub(crate) fn make_room(&mut self, entries: usize, more: Places) -> Result<(), NoMemory>
         ensures kept { Keeps ⟦<Self as Means>⟧.m self.old self.new }
-        ensures room { OnOk result (From ⟦<Self as Means>⟧.m self.old (λ t F h. HasRoom ⟦<Self as Means>⟧.m entries more self.new (summary (past_of h)))) }
+        ensures room { OnOk result (From ⟦<Self as Means>⟧.m self.old
+            (λ t F h. HasRoom ⟦<Self as Means>⟧.m entries more self.new (summary (past_of h)))) }
         ensures rest { LeavesRest ⟦<Self as Means>⟧.m self.old self.new }
     {
         let open = self.state.open_count();

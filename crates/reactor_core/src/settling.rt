@@ -1,6 +1,5 @@
 //! The settling of an upcall.
 ghost use Rattle.std.specs.Prelude.{◌≡◌, ◌≤◌, ◌+◌, ◌-◌, ◌++◌, ◌∷◌, [], ℕ, List, Some, None};
-ghost use Rattle.ev_base.specs.Terms.{Terms};
 ghost use Rattle.reactor_journal.specs.declared.entry.Entry.{Entry};
 ghost use Rattle.reactor_journal.specs.Past.{past_of};
 ghost use Rattle.reactor_summary.specs.declared.parts.OpenEvent.{OpenEvent};
@@ -8,8 +7,9 @@ ghost use Rattle.reactor_summary.specs.Summary.{summary, open_event};
 ghost use Rattle.reactor_state.specs.State.{HasNumber, no_places, HasPlaces};
 ghost use Rattle.reactor_state.specs.declared.places.Places.{Places};
 ghost use Rattle.reactor_core.specs.Rest.{LeavesRest};
-ghost use Rattle.reactor_core.specs.Stands.{From, StandsWith, Tracks, TracksWith, SpendsRoom};
-ghost use Rattle.reactor_core.specs.Settling.{why_of, IsSettling, IsReturned};
+ghost use Rattle.reactor_core.specs.Stands.{From, FromTracks, Somewhere, Each, StandsWith, Tracks, TracksWith, SpendsRoom};
+ghost use Rattle.reactor_core.specs.Steps.{MayTakeBack};
+ghost use Rattle.reactor_core.specs.Settling.{why_of, IsSettling};
 ghost use Rattle.reactor_core.specs.Settles.{TakesBack, SettlesEvent};
 
 use crate::Core;
@@ -43,10 +43,11 @@ impl<
         note: H::Note,
         handler: H,
     )
-        requires stands { StandsWith ⟦<Self as Means>⟧.m (λ t h. IsSettling H.means t (past_of h) settled answer note handler) self.old }
-        ensures settles { From ⟦<Self as Means>⟧.m self.old (λ t F h. IsSettling H.means t (past_of h) settled answer note handler
+        requires stands { StandsWith ⟦<Self as Means>⟧.m
+            (λ t h. IsSettling H.means t (past_of h) settled answer note handler) self.old }
+        ensures settles { From ⟦<Self as Means>⟧.m self.old (λ t F h.
+            IsSettling H.means t (past_of h) settled answer note handler
             → SettlesEvent ⟦<Self as Means>⟧.m t F h settled answer note self.new) }
-        ensures faults { (M.facts self.new.net).failed_attaches ≡ (M.facts self.old.net).failed_attaches }
         ensures rest { LeavesRest ⟦<Self as Means>⟧.m self.old self.new }
     {
         let alive = self.state.is_alive(settled.handle);
@@ -56,14 +57,19 @@ impl<
 
     /// Appends the `Returned` of an open event.
     fn record_return(&mut self, event: u64, answer: Answer, note: H::Note)
-        requires tracks { TracksWith ⟦<Self as Means>⟧.m None [] (λ t h. HasNumber (summary (past_of h))) self.old }
+        requires tracks { TracksWith ⟦<Self as Means>⟧.m None []
+            (λ t h. HasNumber (summary (past_of h))) self.old }
         requires room { 1 ≤ self.old.journal.spare }
-        requires places { HasPlaces Q.spare (record no_places { timeouts = 1; events = 1 }) self.old.state }
-        ensures tracks { (t : Terms) (F : ℕ) (h : List (Entry H.Note)) (o : OpenEvent) → open_event (summary (past_of h)) event ≡ Some o → HasNumber (summary (past_of h))
-            → Tracks ⟦<Self as Means>⟧.m t self.old F h None []
-            → Tracks ⟦<Self as Means>⟧.m t self.new F (h ++ Entry.Returned event answer note ∷ []) (Some o.handle.0) [] }
+        requires places { HasPlaces Q.spare
+            (record no_places { timeouts = 1; events = 1 }) self.old.state }
+        ensures tracks { FromTracks ⟦<Self as Means>⟧.m None [] self.old (λ t F h. (o : OpenEvent)
+            → open_event (summary (past_of h)) event ≡ Some o → HasNumber (summary (past_of h))
+            → Tracks ⟦<Self as Means>⟧.m t self.new F
+            (h ++ Entry.Returned event answer note ∷ []) (Some o.handle.0) []) }
         ensures journal { self.new.journal.spare + 1 ≡ self.old.journal.spare }
-        ensures places { (p : Places) → HasPlaces Q.spare p self.old.state → HasPlaces Q.spare (record p { timeouts = p.timeouts - 1; events = p.events - 1 }) self.new.state }
+        ensures places { (p : Places) → HasPlaces Q.spare p self.old.state
+            → HasPlaces Q.spare
+            (record p { timeouts = p.timeouts - 1; events = p.events - 1 }) self.new.state }
         ensures repo { self.new.repo ≡ self.old.repo }
         ensures net { self.new.net ≡ self.old.net }
         ensures rest { LeavesRest ⟦<Self as Means>⟧.m self.old self.new }
@@ -82,14 +88,11 @@ impl<
 
     /// The handler in hand goes home where its handle is alive, and is closed else.
     fn take_back(&mut self, handle: Handle, handler: H, why: Why)
-        requires tracks { TracksWith ⟦<Self as Means>⟧.m (Some handle.0) []
-            (λ t h. IsReturned H.means t (past_of h) handle.0 handler why × HasNumber (summary (past_of h))) self.old }
+        requires may { Somewhere (MayTakeBack ⟦<Self as Means>⟧.m handle handler why) self.old }
         requires room { 1 ≤ self.old.journal.spare }
-        ensures tracks { (t : Terms) (F : ℕ) (h : List (Entry H.Note)) → Tracks ⟦<Self as Means>⟧.m t self.old F h (Some handle.0) []
-            → IsReturned H.means t (past_of h) handle.0 handler why → HasNumber (summary (past_of h))
-            → TakesBack ⟦<Self as Means>⟧.m t F h handle self.old self.new }
+        ensures takes { Each (MayTakeBack ⟦<Self as Means>⟧.m handle handler why) self.old (λ t F h.
+            TakesBack ⟦<Self as Means>⟧.m t F h handle self.old self.new) }
         ensures room { SpendsRoom ⟦<Self as Means>⟧.m 1 self.old self.new }
-        ensures faults { (M.facts self.new.net).failed_attaches ≡ (M.facts self.old.net).failed_attaches }
         ensures rest { LeavesRest ⟦<Self as Means>⟧.m self.old self.new }
     {
         if self.state.is_alive(handle) {

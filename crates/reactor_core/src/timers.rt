@@ -2,6 +2,7 @@
 ghost use Rattle.std.specs.Prelude.{◌≡◌, ◌<◌, ◌≤◌, ◌+◌, ◌-◌, ◌||◌, IfOk, OnOk, OnErr};
 ghost use Rattle.reactor_journal.specs.declared.entry.Entry.{Entry};
 ghost use Rattle.reactor_core.specs.Rest.{LeavesRest};
+ghost use Rattle.reactor_core.specs.Refusals.{LeavesLive, LeavesTimer};
 ghost use Rattle.reactor_core.specs.Stands.{IsStanding, StandsAsBefore};
 ghost use Rattle.reactor_core.specs.Requests.{GoesOnBy, WhereStanding, IsLiveAnswer};
 ghost use Rattle.reactor_core.specs.Timers.{is_pending, IsCancelAnswer};
@@ -50,9 +51,12 @@ impl<
         requires some { 1 ≤ delay }
         requires within { delay ≤ 4294967295 }
         requires period { every ≤ 4294967295 }
-        ensures ok { IfOk result (λ timer. GoesOnBy ⟦<Self as Means>⟧.m self.old (λ s. Entry.Scheduled timer handle (s.moment + delay) every) self.new) }
+        ensures ok { IfOk result (λ timer. GoesOnBy ⟦<Self as Means>⟧.m self.old
+            (λ s. Entry.Scheduled timer handle (s.moment + delay) every) self.new) }
         ensures err { OnErr result (StandsAsBefore ⟦<Self as Means>⟧.m self.old self.new) }
-        ensures cause { WhereStanding ⟦<Self as Means>⟧.m self.old (λ s. IsLiveAnswer s handle.0 result) }
+        ensures refused { LeavesLive ⟦<Self as Means>⟧.m self.old result self.new }
+        ensures cause { WhereStanding ⟦<Self as Means>⟧.m self.old
+            (λ s. IsLiveAnswer s handle.0 result) }
         ensures rest { LeavesRest ⟦<Self as Means>⟧.m self.old self.new }
     {
         if !self.state.is_alive(handle) {
@@ -82,9 +86,12 @@ impl<
     /// changed.
     pub fn cancel(&mut self, timer: u64) -> Result<(), CancelRefused>
         requires stands { IsStanding ⟦<Self as Means>⟧.m self.old }
-        ensures ok { OnOk result (GoesOnBy ⟦<Self as Means>⟧.m self.old (λ s. Entry.Cancelled timer) self.new) }
+        ensures ok { OnOk result (GoesOnBy ⟦<Self as Means>⟧.m self.old
+            (λ s. Entry.Cancelled timer) self.new) }
         ensures err { OnErr result (StandsAsBefore ⟦<Self as Means>⟧.m self.old self.new) }
-        ensures cause { WhereStanding ⟦<Self as Means>⟧.m self.old (λ s. IsCancelAnswer s timer result) }
+        ensures refused { LeavesTimer ⟦<Self as Means>⟧.m self.old result self.new }
+        ensures cause { WhereStanding ⟦<Self as Means>⟧.m self.old
+            (λ s. IsCancelAnswer s timer result) }
         ensures rest { LeavesRest ⟦<Self as Means>⟧.m self.old self.new }
     {
         if !self.is_pending(timer) {

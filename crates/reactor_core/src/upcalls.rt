@@ -1,11 +1,12 @@
 //! The start of an upcall.
 ghost use Rattle.std.specs.Prelude.{◌≡◌, Some, IfOk, OnErr};
 ghost use Rattle.reactor_journal.specs.declared.entry.Entry.{Entry};
-ghost use Rattle.reactor_journal.specs.Past.{past_of};
-ghost use Rattle.reactor_summary.specs.Summary as S;
-ghost use Rattle.reactor_summary.specs.Summary.{summary};
+ghost use Rattle.ev_base.specs.Net.{Reserves};
 ghost use Rattle.reactor_core.specs.Rest.{LeavesRest};
-ghost use Rattle.reactor_core.specs.Stands.{From, IsStanding, StandsWith, StandsAsBefore, HasRoom, upcall_entries, upcall_places};
+ghost use Rattle.reactor_core.specs.Refusals.{LeavesStart};
+ghost use Rattle.reactor_core.specs.Stands.{From, Somewhere, Each, IsStanding, StandsAsBefore};
+ghost use Rattle.reactor_core.specs.Steps.{MayDispatch};
+ghost use Rattle.reactor_core.specs.Views.{net_of};
 ghost use Rattle.reactor_core.specs.Upcalls.{StartGives};
 ghost use Rattle.reactor_state.specs.State.{IsPlaced};
 
@@ -47,8 +48,11 @@ impl<
     /// event. The journal has one more entry, `Started`. After `NoMemory` nothing has changed.
     pub fn start(&mut self) -> Result<Option<Job<H>>, StartRefused>
         requires stands { IsStanding ⟦<Self as Means>⟧.m self.old }
-        ensures ok { IfOk result (λ job. From ⟦<Self as Means>⟧.m self.old (λ t F h. StartGives ⟦<Self as Means>⟧.m t F h job self.new)) }
+        ensures ok { IfOk result (λ job. From ⟦<Self as Means>⟧.m self.old
+            (λ t F h. StartGives ⟦<Self as Means>⟧.m t F h job self.new)) }
         ensures err { OnErr result (StandsAsBefore ⟦<Self as Means>⟧.m self.old self.new) }
+        ensures refused { LeavesStart ⟦<Self as Means>⟧.m self.old result self.new }
+        ensures net { Reserves (M.facts (net_of self.old)) (M.facts (net_of self.new)) }
         ensures rest { LeavesRest ⟦<Self as Means>⟧.m self.old self.new }
     {
         let Some(pick) = self.state.find_pick() else {
@@ -63,12 +67,11 @@ impl<
 
     /// Starts the upcall of the pick, for which there is room.
     fn dispatch(&mut self, pick: Pick) -> Job<H>
-        requires stands { StandsWith ⟦<Self as Means>⟧.m (λ t h. (S.pick (summary (past_of h)) ≡ Some pick.event)
-            × HasRoom ⟦<Self as Means>⟧.m upcall_entries upcall_places self.old (summary (past_of h))) self.old }
+        requires may { Somewhere (MayDispatch ⟦<Self as Means>⟧.m pick.event) self.old }
         requires placed { IsPlaced self.old.state pick }
-        ensures stands { From ⟦<Self as Means>⟧.m self.old (λ t F h. S.pick (summary (past_of h)) ≡ Some pick.event
-            → HasRoom ⟦<Self as Means>⟧.m upcall_entries upcall_places self.old (summary (past_of h))
-            → StartGives ⟦<Self as Means>⟧.m t F h (Some result) self.new) }
+        ensures stands { Each (MayDispatch ⟦<Self as Means>⟧.m pick.event) self.old
+            (λ t F h. StartGives ⟦<Self as Means>⟧.m t F h (Some result) self.new) }
+        ensures net { self.new.net ≡ self.old.net }
         ensures rest { LeavesRest ⟦<Self as Means>⟧.m self.old self.new }
     {
         let event = pick.event;

@@ -34,11 +34,14 @@ impl<
     /// count of faults.
     pub fn hand_over(&mut self) -> Result<u64, HandOverRefused>
         requires { IsStanding ⟦<Self as Means>⟧.m self.old }
-        ensures ok { IfOk result (λ n. From ⟦<Self as Means>⟧.m self.old (λ t F h. HandsOver ⟦<Self as Means>⟧.m t F h n self.old self.new)) }
-        ensures due { OnErr result (From ⟦<Self as Means>⟧.m self.old (λ t F h. is_due self.old F h ≡ true)) }
+        ensures ok { IfOk result (λ n. From ⟦<Self as Means>⟧.m self.old
+            (λ t F h. HandsOver ⟦<Self as Means>⟧.m t F h n self.old self.new)) }
+        ensures due { OnErr result (From ⟦<Self as Means>⟧.m self.old
+            (λ t F h. is_due self.old F h ≡ true)) }
         ensures err { OnErr result (StandsAsBefore ⟦<Self as Means>⟧.m self.old self.new) }
         ensures same { OnErr result (HandsNothing ⟦<Self as Means>⟧.m self.old self.new) }
-        ensures cause { IfErr result (λ refused. HasCause ⟦<Self as Means>⟧.m refused self.old self.new) }
+        ensures cause { IfErr result
+            (λ refused. HasCause ⟦<Self as Means>⟧.m refused self.old self.new) }
     {
         if !self.is_volume_due() {
             return Ok(0);

@@ -3,7 +3,7 @@ use Rattle.reactor_core.proofs.Opened.{armed_on}
 use Rattle.reactor_core.proofs.reactor.Core.arm.Goals as goal
 
 pub returns-clause-tracks : goal.returns-clause-tracks
-returns-clause-tracks g c t F h some alive running number k =
+returns-clause-tracks g c t F h k some alive running number =
     armed_on _ t c.args.self.now _ F h c.args.handle c.schedule-timer.result c.args.delay c.args.every (record {
       first = c.moment.result + c.args.delay;
       appends = record { most = refl; first = refl; journal = c.append.ensures.entries; watch = c.append.ensures.watch; volumes = refl; marks = (refl, refl) };

@@ -34,7 +34,10 @@ pub returns-in-None-clause-err : goal.returns-in-None-clause-err
 returns-in-None-clause-err g c t F h o = c.in-None.ensures.stands t F h (stands_kept _ t c.args.self.now _ F h c.in-Ok.ensures.kept o)
 
 pub returns-in-None-clause-failed : goal.returns-in-None-clause-failed
-returns-in-None-clause-failed g c q = rose_reserved (g.M.Net.facts c.args.self.now.net) (g.M.Net.facts c.make_poll_room.new.self.net) (g.M.Net.facts c.take_events.new.self.net) c.in-Ok.ensures.kept.net c.in-None.ensures.rose
+returns-in-None-clause-failed g c q = rose_reserved (g.M.Net.facts c.args.self.now.net) (g.M.Net.facts c.make_poll_room.new.self.net) (g.M.Net.facts c.take_events.new.self.net) c.in-Ok.ensures.kept.net c.in-None.ensures.fails.0.rose
+
+pub returns-in-None-clause-refused : goal.returns-in-None-clause-refused
+returns-in-None-clause-refused g c = record { between = c.make_poll_room.new.self; kept = c.in-Ok.ensures.kept; fails = c.in-None.ensures.fails }
 
 pub returns-in-Err-clause-err : goal.returns-in-Err-clause-err
 returns-in-Err-clause-err g c t F h o = stands_kept _ t _ _ F h c.in-Err.ensures.kept o

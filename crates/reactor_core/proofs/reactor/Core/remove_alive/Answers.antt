@@ -25,8 +25,8 @@ close_handler-requires-clause-room g c =
     let s = c.append.ensures.spare in
     omega (arith, two, r, s)
 
-pub close_handler-requires-clause-tracks : goal.close_handler-requires-clause-tracks
-close_handler-requires-clause-tracks g c =
+pub close_handler-requires-clause-may : goal.close_handler-requires-clause-may
+close_handler-requires-clause-may g c =
     let o = c.requires in
     let n = closes_now _ o.0 c.args.self.now (record c.args.self.now { journal = c.append.new.journal; state = c.remove.new.self; watch = c.append.new.watch }) (record c.args.self.now { journal = c.append.new.journal; state = c.remove.new.self; watch = c.append.new.watch; repo = c.take.new.self }) o.1 o.2 c.args.handle c.in-Some.handler (record {
       appends = record { most = refl; first = refl; journal = c.append.ensures.entries; watch = c.append.ensures.watch; volumes = refl; marks = (refl, refl) };
@@ -35,7 +35,7 @@ close_handler-requires-clause-tracks g c =
       net = refl;
     }) (record { most = refl; first = refl; journal = refl; state = refl; home = home_found _ c.in-Some.handler (sym c.take.ensures.taken ∙ c.in-Some.is); repo = c.in-Some.ensures.out; net = refl; watch = refl; volumes = refl; marks = refl }) o.3 o.4
     in
-    (o.0, o.1, _, n.tracks, (n.closable, n.number))
+    (o.0, o.1, _, record { tracks = n.tracks; closable = n.closable; number = n.number })
 
 pub returns-clause-stands : goal.returns-clause-stands
 returns-clause-stands g c t F h st alive =
@@ -46,7 +46,7 @@ returns-clause-stands g c t F h st alive =
       net = refl;
     }) (record { most = refl; first = refl; journal = refl; state = refl; home = home_found _ c.in-Some.handler (sym c.take.ensures.taken ∙ c.in-Some.is); repo = c.in-Some.ensures.out; net = refl; watch = refl; volumes = refl; marks = refl }) st alive
     in
-    let closed = c.close_handler.ensures.tracks t F _ n.tracks n.closable n.number in
+    let closed = c.close_handler.ensures.tracks t F _ (record { tracks = n.tracks; closable = n.closable; number = n.number }) in
     removed_closed _ t c.args.self.now _ _ F h c.args.handle c.in-Some.handler closed.0 n closed.1
     (record { journal = let s = c.append.ensures.spare in let r = c.close_handler.ensures.room.journal in omega (arith, s, r); places = λ p k. c.close_handler.ensures.room.places p (c.remove.ensures.places p k); seats = let s = c.take.ensures.spare in let r = c.close_handler.ensures.room.seats in omega (arith, s, r); net = c.close_handler.ensures.room.net })
     st alive

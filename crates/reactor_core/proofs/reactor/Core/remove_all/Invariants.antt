@@ -1,9 +1,7 @@
 use Rattle.reactor_state.specs.State.{Shows, HasPlaces, IsPlaced}
-use Rattle.std.proofs.Common.{ℕ, List, ◌≡◌, ◌≤◌, true, false}
-use Rattle.ev_base.specs.Counts.{Rose}
+use Rattle.std.proofs.Common.{ℕ, List}
 use Rattle.ev_base.specs.Terms.{Terms}
 use Rattle.reactor_journal.specs.declared.entry.Entry.{Entry}
-use Rattle.reactor_core.specs.Faults.{HasNotFallen}
 use Rattle.reactor_core.specs.Rest.{LeavesRest}
 use Rattle.reactor_core.specs.Stands.{meaning, StandsQuiet}
 use Rattle.reactor_core.specs.Removing.{RemovesSome}

@@ -12,5 +12,5 @@ pub returns-clause-stands : goal.returns-clause-stands
 returns-clause-stands g c t F h st d =
     let e = c.settle_event.ensures.settles t F h st (settling_of g.H.EventHandler.means t (past_of h) c.args.done d) in
     let a = c.act.ensures.stands t F _ e.stands (act_fits _ t F h c.args.done _ st.tracks.legal d e) in
-    settles _ t F h c.args.done c.args.self.now c.settle_event.new.self _ _ e c.settle_event.ensures.faults a
+    settles _ t F h c.args.done c.args.self.now c.settle_event.new.self _ _ e c.settle_event.ensures.rest.attach_faults a
     (record { entries = c.entries.ensures _ a.stands.tracks.state; closed = c.finished.ensures _ a.stands.tracks.state; ended = c.is_ended.ensures _ a.stands.tracks.state })

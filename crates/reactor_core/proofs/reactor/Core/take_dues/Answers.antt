@@ -40,7 +40,7 @@ loop-left-preserved g c = record {
         places = c.in-Some.ensures.places;
       }) (may_take _ t c.loop-left.self F s c.loop-left.left events h pending (omega (arith, c.loop-left-test.true)) (c.loop-left.invariant.dues t F h s events pending k));
   net = c.loop-left.invariant.net;
-  rest = rest_goes_on c.loop-left.invariant.rest (record { marks = refl; volumes = refl; counts = record { volume = refl; wait_faults = omega arith; attach_faults = omega arith; watch_faults = c.append.ensures.later; watch_stays = c.append.ensures.stays; watch_breaks = c.append.ensures.breaks } });
+  rest = rest_goes_on c.loop-left.invariant.rest (record { volume = refl; marks = refl; volumes = refl; wait_faults = refl; attach_faults = refl; watch = c.append.ensures.goes_on });
 }
 
 pub returns-clause-dues : goal.returns-clause-dues

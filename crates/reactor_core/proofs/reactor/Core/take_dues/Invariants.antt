@@ -1,11 +1,9 @@
 use Rattle.reactor_state.specs.State.{Shows, HasPlaces, IsPlaced}
-use Rattle.std.proofs.Common.{◌≡◌, ℕ, List, ◌≤◌, true, false}
-use Rattle.ev_base.specs.Counts.{Rose}
+use Rattle.std.proofs.Common.{◌≡◌, ℕ, List}
 use Rattle.ev_base.specs.Terms.{Terms}
 use Rattle.ev_base.specs.declared.net.Report.{Report}
 use Rattle.reactor_journal.specs.declared.entry.Entry.{Entry}
 use Rattle.reactor_summary.specs.Summary.{Summary}
-use Rattle.reactor_core.specs.Faults.{HasNotFallen}
 use Rattle.reactor_core.specs.Rest.{LeavesRest}
 use Rattle.reactor_core.specs.Stands.{meaning}
 use Rattle.reactor_core.specs.Taking.{IsTakingDues, HasTakenDues}
