@@ -14,6 +14,7 @@ use Rattle.reactor_state.specs.State.{no_places}
 use Rattle.reactor_core.specs.Handlers.{SeatStands}
 use Rattle.reactor_core.specs.Ends.{WhereTold}
 use Rattle.reactor_core.specs.Calls.{AreCalls}
+use Rattle.reactor_model.specs.Volumes.{IsNext}
 use Rattle.reactor_core.specs.Stands.{Meaning, NetStands, HasTaken, Stands}
 use Rattle.reactor_core.specs.Beginning.{IsOver}
 use Rattle.reactor_core.specs.declared.reactor.Core.{Core}
@@ -52,8 +53,8 @@ pub record Begins {H M Q W V N E : Type 0} (m : Meaning H M Q W V N E) (core : C
   pub marks : core.marks ≡ record { made = 0; over = 0 }
 
 pub begun : {H M Q W V N E : Type 0} (m : Meaning H M Q W V N E) (t : Terms) (core : Core H M Q W V N E) → Begins m core → t.most ≡ core.most → IsNew (m.facts core.net) → (t.steady ≡ Some true → (m.facts core.net).steady ≡ true) → m.keeps t core.net → m.watched t core.watch []
-    → WhereTold (λ entries. (n : ℕ) → t.volumes_taken ≡ Some n → length entries ≡ n) (m.volumes core.volumes).taken → Stands m t core 0 []
-begun {H = H} {N = N} m t core d most fresh steady keeps watch taken = record {
+    → WhereTold (λ entries. (n : ℕ) → t.volumes_taken ≡ Some n → length entries ≡ n) (m.volumes core.volumes).taken → IsNext (m.volumes core.volumes).next 0 → Stands m t core 0 []
+begun {H = H} {N = N} m t core d most fresh steady keeps watch taken next = record {
   tracks = record {
     most = sym most;
     few = d.few;
@@ -64,7 +65,7 @@ begun {H = H} {N = N} m t core d most fresh steady keeps watch taken = record {
     net = new_net m.means t (m.facts core.net) fresh steady;
     keeps = keeps;
     watch = watch;
-    volumes = taken_at_first t (m.volumes core.volumes).taken taken;
+    volumes = record { taken = taken_at_first t (m.volumes core.volumes).taken taken; next = next };
     marks = marks_begin core.marks (m.facts core.net).calls d.marks fresh.calls;
   };
   settled = record { none_waits = refl; none_due = refl; none_alive = λ e. refl };

@@ -1,5 +1,5 @@
 -- The handing over of a volume.
-use Rattle.std.proofs.Common.{ℕ, ◌≡◌, ◌≤◌, ◌<◌, ◌+◌, ◌-◌, ◌^◌, ◌&&◌, true, List, [], ◌++◌, length, take, drop, sym, ap, ◌∙◌, subst, arith, Option, Some, None, Err}
+use Rattle.std.proofs.Common.{ℕ, ◌≡◌, ◌≤◌, ◌<◌, ◌+◌, ◌-◌, ◌^◌, ◌&&◌, true, List, [], ◌++◌, length, take, drop, sym, ap, ◌∙◌, subst, arith, Option, Some, None, option_map, Err}
 use Rattle.std.specs.Prelude.{nat_le, nat_lt}
 use Rattle.std.proofs.Math.Seq.{drop-length, take-length}
 use Rattle.std.proofs.lemmas.Bool.{and_parts, ltb-true}
@@ -11,16 +11,15 @@ use Rattle.reactor_journal.specs.Past.{past_of}
 use Rattle.reactor_journal.specs.Follow.{Legal}
 use Rattle.reactor_summary.specs.Summary.{Summary, summary}
 use Rattle.reactor_summary.proofs.Told.{told}
-use Rattle.reactor_model.specs.Volumes.{VolumesFacts, AddsEntries, TakesVolume}
+use Rattle.reactor_model.specs.Volumes.{VolumesFacts, AddsEntries, IsNext, GivesBack, TakesVolume}
 use Rattle.reactor_model.specs.declared.volumes.TakeRefused.{TakeRefused}
 use Rattle.reactor_model.specs.declared.volumes.TakeRefused.TheVariants.{Failed, NoMemory}
 use Rattle.reactor_state.specs.State.{owed, no_places}
 use Rattle.reactor_core.specs.Handlers.{RepositoryStands}
 use Rattle.reactor_core.specs.Ends.{WhereTold}
-use Rattle.reactor_core.specs.Stands.{Meaning, JournalStands, NetStands, HasTaken, Stands, places_for}
+use Rattle.reactor_core.specs.Stands.{Meaning, JournalStands, NetStands, HasTaken, VolumesStand, Stands, places_for}
 use Rattle.reactor_core.specs.HandingOver.{is_due, KeepsOthers, HandsDue, HandsOver, HandsNothing, IsCause, refusal_of}
 use Rattle.reactor_core.specs.declared.reactor.Core.{Core}
-use Rattle.reactor_core.proofs.Ends.{told_same}
 use Rattle.reactor_core.proofs.WaitNumbers.{marks_kept}
 
 -- the summary of a legal history counts its entries
@@ -38,6 +37,11 @@ taken_all t F h held None (Some new) q a o = absurd a
 taken_all t F h held (Some old) None q a o = absurd a
 taken_all t F h held (Some old) (Some new) q a o =
     (o.0, a ∙ (ap (λ x. old ++ x) q ∙ (ap (λ x. x ++ drop F h) o.1 ∙ (append_assoc o.0 (take F h) (drop F h) ∙ ap (λ x. o.0 ++ x) (take-append-drop F h ∙ sym (take-length h))))), o.2)
+
+-- and the next is the number of all
+next_all : (F held all : ℕ) (next : Option ℕ) → all ≡ F + held → IsNext next F → IsNext (option_map (λ k. k + held) next) all
+next_all F held all None q o = tt
+next_all F held all (Some next) q o = q ∙ ap (λ (k : ℕ). k + held) o
 
 -- where a volume is due there are few entries
 pub few_are : {H M Q W V N E : Type 0} (core : Core H M Q W V N E) (F : ℕ) (h : List (Entry N)) → is_due core F h ≡ true → length h < 2 ^ 62
@@ -58,7 +62,7 @@ first_is core F h held q j =
 
 module _ {H M Q W V N E : Type 0} (m : Meaning H M Q W V N E) (t : Terms) (old new : Core H M Q W V N E) (F : ℕ) (h : List (Entry N)) where
   -- a core stands for the same history where its journal and its volumes do, and there is room for what is owed
-  stands_by : (G : ℕ) → KeepsOthers old new → JournalStands new G h → owed (summary (past_of h)) ≤ new.journal.spare → WhereTold (HasTaken t G h) (m.volumes new.volumes).taken → Stands m t old F h → Stands m t new G h
+  stands_by : (G : ℕ) → KeepsOthers old new → JournalStands new G h → owed (summary (past_of h)) ≤ new.journal.spare → VolumesStand t G h (m.volumes new.volumes) → Stands m t old F h → Stands m t new G h
   stands_by G k journal spare volumes o =
       let s : Summary = summary (past_of h) in
       record {
@@ -93,7 +97,10 @@ module _ {H M Q W V N E : Type 0} (m : Meaning H M Q W V N E) (t : Terms) (old n
       stands_by F k.others
       (record { first = k.first ∙ held.first; within = held.within; entries = ap (λ journal. journal.entries) k.journal ∙ held.entries })
       (subst (λ journal. owed (summary (past_of h)) ≤ journal.spare) (sym k.journal) (omega (arith, room)))
-      (told_same (HasTaken t F h) (HasTaken t F h) (m.volumes old.volumes).taken (m.volumes new.volumes).taken k.taken (λ taken x. x) o.tracks.volumes)
+      (record {
+        taken = subst (λ taken. WhereTold (HasTaken t F h) taken) (sym k.taken) o.tracks.volumes.taken;
+        next = subst (λ next. IsNext next F) (sym k.next) o.tracks.volumes.next;
+      })
       o
 
   -- what the body does where a volume is due
@@ -104,6 +111,7 @@ module _ {H M Q W V N E : Type 0} (m : Meaning H M Q W V N E) (t : Terms) (old n
     pub entries : new.journal.entries ≡ []
     pub owed : owed (summary (past_of h)) ≤ new.journal.spare
     pub taken : AddsEntries (m.volumes old.volumes).taken old.journal.entries (m.volumes new.volumes).taken
+    pub next : (m.volumes new.volumes).next ≡ option_map (λ k. k + length old.journal.entries) (m.volumes old.volumes).next
     pub faults : (m.volumes new.volumes).faults ≡ (m.volumes old.volumes).faults
 
   pub hands : (n : ℕ) → Hands n → is_due old F h ≡ true → Stands m t old F h → HandsOver m t F h n old new
@@ -117,13 +125,16 @@ module _ {H M Q W V N E : Type 0} (m : Meaning H M Q W V N E) (t : Terms) (old n
           stands_by (length h) d.others
               (record { first = d.first ∙ first_is old F h n d.count j; within = omega arith; entries = d.entries ∙ sym (drop-length h) })
               d.owed
-              (taken_all t F h old.journal.entries (m.volumes old.volumes).taken (m.volumes new.volumes).taken j.entries d.taken o.tracks.volumes)
+              (record {
+                taken = taken_all t F h old.journal.entries (m.volumes old.volumes).taken (m.volumes new.volumes).taken j.entries d.taken o.tracks.volumes.taken;
+                next = subst (λ next. IsNext next (length h)) (sym d.next) (next_all F (length old.journal.entries) (length h) (m.volumes old.volumes).next (let held = held_are old F h j in omega (arith, held, j.within)) o.tracks.volumes.next);
+              })
               o,
         );
       }
 
 -- what the volumes answer where they refuse
 pub take_refused : {N : Type 0} (old : VolumesFacts N) (volume back : Held (Entry N)) (why : TakeRefused) (new : VolumesFacts N) → TakesVolume old volume (Err (back, why)) new
-    → (back ≡ volume) × (new.taken ≡ old.taken) × IsCause (refusal_of why) old.faults new.faults
+    → GivesBack old volume back new × IsCause (refusal_of why) old.faults new.faults
 take_refused old volume back Failed new r = r
 take_refused old volume back NoMemory new r = r

@@ -1,5 +1,5 @@
 -- A core that has more room stands for what it stood for.
-use Rattle.std.proofs.Common.{ℕ, ◌≤◌, List, [], length, sym, ap, ◌∙◌, subst, arith, Option, None}
+use Rattle.std.proofs.Common.{ℕ, ◌≤◌, List, [], length, sym, ◌∙◌, subst, arith, Option, None}
 use Rattle.ev_base.specs.Terms.{Terms}
 use Rattle.ev_base.specs.Net.{NetFacts, Reserves, FailsCall}
 use Rattle.ev_base.specs.declared.net.Report.{Report}
@@ -8,9 +8,9 @@ use Rattle.reactor_journal.specs.Past.{past_of}
 use Rattle.reactor_summary.specs.Summary.{Summary, summary}
 use Rattle.reactor_state.specs.declared.places.Places.{Places}
 use Rattle.reactor_core.specs.Handlers.{RepositoryStands}
-use Rattle.reactor_core.specs.Stands.{Meaning, Tracks, HasTaken, HasRoom, Keeps, Stands, places_for}
+use Rattle.reactor_core.specs.Stands.{Meaning, Tracks, VolumesStand, HasRoom, Keeps, Stands, places_for}
 use Rattle.reactor_core.specs.declared.reactor.Core.{Core}
-use Rattle.reactor_core.proofs.Ends.{told_same, net_kept}
+use Rattle.reactor_core.proofs.Ends.{net_kept}
 use Rattle.reactor_core.proofs.WaitNumbers.{marks_kept}
 
 fails_of : {E : Type 0} (old new : NetFacts E) → Reserves old new → FailsCall old new
@@ -28,7 +28,7 @@ module _ {H M Q W V N E : Type 0} (m : Meaning H M Q W V N E) (t : Terms) (old n
     net = net_kept m.means t (past_of h) pending (m.facts old.net) (m.facts new.net) (omega (arith, k.net.failed_attaches)) (fails_of (m.facts old.net) (m.facts new.net) k.net) o.net;
     keeps = k.net_keeps t o.keeps;
     watch = subst (λ w. m.watched t w h) (sym k.watch) o.watch;
-    volumes = told_same (HasTaken t F h) (HasTaken t F h) (m.volumes old.volumes).taken (m.volumes new.volumes).taken (ap (λ v. (m.volumes v).taken) k.volumes) (λ taken x. x) o.volumes;
+    volumes = subst (λ v. VolumesStand t F h (m.volumes v)) (sym k.volumes) o.volumes;
     marks = marks_kept (past_of h) old.marks new.marks (m.facts old.net).calls (m.facts new.net).calls k.marks k.net.calls o.marks;
   }
 

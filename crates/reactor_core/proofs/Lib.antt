@@ -34,3 +34,4 @@ pub mod Frames
 pub mod Still
 pub mod Watched
 pub mod WaitNumbers
+pub mod Over

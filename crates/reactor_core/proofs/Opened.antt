@@ -23,14 +23,14 @@ use Rattle.handler_repo.specs.declared.seat.Seat.TheVariants.{Home}
 use Rattle.reactor_state.specs.State.{HasNumber}
 use Rattle.reactor_core.specs.Handlers.{is_live, RepositoryStands}
 use Rattle.reactor_core.specs.Ends.{live_numbers, is_fault}
-use Rattle.reactor_core.specs.Stands.{Meaning, Tracks, NetStands, HasTaken, IsSettled}
+use Rattle.reactor_core.specs.Stands.{Meaning, Tracks, NetStands, VolumesStand, IsSettled}
 use Rattle.reactor_core.specs.Registering.{HasPlaceFor, IsOffered}
 use Rattle.reactor_core.specs.Offering.{ComesBack}
 use Rattle.reactor_core.specs.declared.reactor.Core.{Core}
 use Rattle.reactor_core.proofs.Dispatch.{seats_opened, fresh_is_dead}
 use Rattle.reactor_core.proofs.Seats.{seats_quiet}
 use Rattle.reactor_core.proofs.Moves.{absent}
-use Rattle.reactor_core.proofs.Ends.{net_opened, net_quiet, net_failed, told_same}
+use Rattle.reactor_core.proofs.Ends.{net_opened, net_quiet, net_failed}
 use Rattle.reactor_core.proofs.Steps.{may_by, Appends, tracks_by}
 use Rattle.reactor_core.proofs.Start.{later_deadline}
 use Rattle.reactor_core.proofs.Closed.{attached_live}
@@ -151,7 +151,7 @@ comes_back m t old new F h handler f most first journal state repo watch volumes
     net = net_failed m.means t (past_of h) [] (m.facts old.net) (m.facts new.net) (let entries : (summary (past_of h)).entries ≡ length (past_of h) = (told t.most (past_of h) k.legal).entries in let few : P.count is_fault (past_of h) ≤ length (past_of h) = count_le is_fault (past_of h) in let n = k.net.faults in let rose = f.rose in omega (arith, entries, few, n, number, rose)) f.same k.net;
     keeps = keeps;
     watch = subst (λ w. m.watched t w h) (sym watch) k.watch;
-    volumes = told_same (HasTaken t F h) (HasTaken t F h) (m.volumes old.volumes).taken (m.volumes new.volumes).taken (ap (λ v. (m.volumes v).taken) volumes) (λ taken y. y) k.volumes;
+    volumes = subst (λ v. VolumesStand t F h (m.volumes v)) (sym volumes) k.volumes;
     marks = marks_kept (past_of h) old.marks new.marks (m.facts old.net).calls (m.facts new.net).calls marks f.same.calls k.marks;
   };
   offered = offered;

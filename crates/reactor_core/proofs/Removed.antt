@@ -23,7 +23,7 @@ use Rattle.reactor_state.specs.State.{HasNumber, owed, no_places}
 use Rattle.reactor_state.specs.declared.places.Places.{Places}
 use Rattle.reactor_core.specs.Handlers.{is_live, IsHome, SeatStands, RepositoryStands}
 use Rattle.reactor_core.specs.Closing.{IsClosable}
-use Rattle.reactor_core.specs.Stands.{Meaning, Tracks, NetStands, HasRoom, IsQuiet, StandsQuiet, SpendsRoom, HasTaken, places_for}
+use Rattle.reactor_core.specs.Stands.{Meaning, Tracks, NetStands, HasRoom, IsQuiet, StandsQuiet, SpendsRoom, VolumesStand, places_for}
 use Rattle.reactor_core.specs.Settling.{IsClosing}
 use Rattle.reactor_core.specs.Removing.{RemovesQuietly}
 use Rattle.reactor_core.specs.declared.reactor.Core.{Core}
@@ -31,7 +31,7 @@ use Rattle.reactor_core.proofs.Seats.{seats_quiet, live_quiet}
 use Rattle.reactor_core.proofs.Start.{any_weaker}
 use Rattle.reactor_summary.specs.declared.parts.LiveHandle.{LiveHandle}
 use Rattle.reactor_core.proofs.Moves.{seats_taken}
-use Rattle.reactor_core.proofs.Ends.{net_quiet, told_same}
+use Rattle.reactor_core.proofs.Ends.{net_quiet}
 use Rattle.reactor_core.proofs.Steps.{may_by, Appends, tracks_by}
 use Rattle.reactor_core.proofs.SettledHistory.{IsSettledBut, settled_removed, waits_now, busy_waits_not, none_waits_by, quiet_closed}
 use Rattle.reactor_core.proofs.Owed.{owed_removed, owed_closed}
@@ -118,7 +118,7 @@ taken_home m t old new F h x handler d k = record {
   net = subst (λ net. NetStands m.means t (past_of h) [] (m.facts net)) (sym d.net) k.net;
   keeps = subst (λ net. m.keeps t net) (sym d.net) k.keeps;
   watch = subst (λ w. m.watched t w h) (sym d.watch) k.watch;
-  volumes = told_same (HasTaken t F h) (HasTaken t F h) (m.volumes old.volumes).taken (m.volumes new.volumes).taken (ap (λ v. (m.volumes v).taken) d.volumes) (λ taken y. y) k.volumes;
+  volumes = subst (λ v. VolumesStand t F h (m.volumes v)) (sym d.volumes) k.volumes;
   marks = marks_kept (past_of h) old.marks new.marks (m.facts old.net).calls (m.facts new.net).calls d.marks (ap (λ net. (m.facts net).calls) d.net) k.marks;
 }
 

@@ -22,13 +22,13 @@ use Rattle.reactor_turns.proofs.Turns.{ended_idle}
 use Rattle.reactor_model.specs.Handling.{Handling, EndsInClose, IsClose}
 use Rattle.reactor_state.specs.State.{HasNumber}
 use Rattle.reactor_core.specs.Handlers.{is_live, RepositoryStands}
-use Rattle.reactor_core.specs.Stands.{Meaning, Tracks, NetStands, HasTaken}
+use Rattle.reactor_core.specs.Stands.{Meaning, Tracks, NetStands, VolumesStand}
 use Rattle.reactor_core.specs.Settling.{why_of, IsSettling, IsReturned}
 use Rattle.reactor_core.specs.Closing.{IsClosable}
 use Rattle.reactor_core.specs.declared.reactor.Core.{Core}
 use Rattle.reactor_core.proofs.Moves.{IsOpenAs, found_open, seats_given_back}
 use Rattle.reactor_core.proofs.Dispatch.{seats_returned, open_is_live, had_returned, idle_behind}
-use Rattle.reactor_core.proofs.Ends.{net_quiet, told_same}
+use Rattle.reactor_core.proofs.Ends.{net_quiet}
 use Rattle.reactor_core.proofs.Steps.{may_by, Appends, tracks_by}
 use Rattle.reactor_core.proofs.Owed.{find_any}
 use Rattle.reactor_core.proofs.Dispatch.{live_returned}
@@ -160,6 +160,6 @@ given_back m t old new F h x handler why d r k = record {
   net = subst (λ net. NetStands m.means t (past_of h) [] (m.facts net)) (sym d.net) k.net;
   keeps = subst (λ net. m.keeps t net) (sym d.net) k.keeps;
   watch = subst (λ w. m.watched t w h) (sym d.watch) k.watch;
-  volumes = told_same (HasTaken t F h) (HasTaken t F h) (m.volumes old.volumes).taken (m.volumes new.volumes).taken (ap (λ v. (m.volumes v).taken) d.volumes) (λ taken y. y) k.volumes;
+  volumes = subst (λ v. VolumesStand t F h (m.volumes v)) (sym d.volumes) k.volumes;
   marks = marks_kept (past_of h) old.marks new.marks (m.facts old.net).calls (m.facts new.net).calls d.marks (ap (λ net. (m.facts net).calls) d.net) k.marks;
 }

@@ -1,5 +1,5 @@
 -- Histories that go on.
-use Rattle.std.proofs.Common.{ℕ, ◌≡◌, ◌≤◌, Bool, true, List, [], ◌∷◌, ◌++◌, length, sym, ap, ◌∙◌, subst, arith, Option, length-append}
+use Rattle.std.proofs.Common.{ℕ, ◌≡◌, ◌≤◌, Bool, true, List, [], ◌∷◌, ◌++◌, length, refl, sym, ap, ◌∙◌, subst, arith, Option, length-append}
 use Rattle.std.proofs.lemmas.List.{drop-append-le, take-append-le}
 use Rattle.ev_base.specs.Terms.{Terms}
 use Rattle.ev_base.specs.declared.net.Report.{Report}
@@ -13,7 +13,7 @@ use Rattle.reactor_summary.proofs.Told.{told}
 use Rattle.reactor_summary.proofs.Follows.{may_follow_is}
 use Rattle.reactor_core.specs.Handlers.{RepositoryStands}
 use Rattle.reactor_core.specs.Marks.{MarksStand, MarksGoOn, told_answers}
-use Rattle.reactor_core.specs.Stands.{Meaning, Tracks, JournalStands, NetStands, HasTaken}
+use Rattle.reactor_core.specs.Stands.{Meaning, Tracks, JournalStands, NetStands, HasTaken, VolumesStand}
 use Rattle.reactor_core.specs.declared.reactor.Core.{Core}
 use Rattle.reactor_core.proofs.Ends.{told_same}
 use Rattle.reactor_core.proofs.WaitNumbers.{marks_more}
@@ -66,6 +66,9 @@ tracks_by m t old new F h e hand hand' pending pending' o a may state repository
       net = subst (λ past. NetStands m.means t past pending' (m.facts new.net)) same net;
       keeps = keeps;
       watch = a.watch t h o.watch;
-      volumes = told_same (HasTaken t F h) (HasTaken t F (h ++ e ∷ [])) (m.volumes old.volumes).taken (m.volumes new.volumes).taken (ap (λ v. (m.volumes v).taken) a.volumes) (λ taken k. taken_more t F h (e ∷ []) taken o.journal.within k) o.volumes;
+      volumes = subst (λ v. VolumesStand t F (h ++ e ∷ []) (m.volumes v)) (sym a.volumes) (record {
+        taken = told_same (HasTaken t F h) (HasTaken t F (h ++ e ∷ [])) (m.volumes old.volumes).taken (m.volumes old.volumes).taken refl (λ taken k. taken_more t F h (e ∷ []) taken o.journal.within k) o.volumes.taken;
+        next = o.volumes.next;
+      });
       marks = subst (λ past. MarksStand new.marks past (told_answers (m.facts new.net).calls)) same (marks_more e (past_of h) old.marks new.marks _ _ a.marks o.marks);
     }

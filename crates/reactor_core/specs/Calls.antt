@@ -59,7 +59,7 @@ pub record IsWait (t : Terms) (s : Summary) (now : ℕ) (taken : List Report) (m
   pub asked : IsAskedFor t.limit s most
   pub are_taken : taken ≡ filter (is_taken s) reports
 
-pub record IsAttach (opened : ℕ) (wanted : Mask) (named : Option ℕ) (x : ℕ) (given : Mask) (serial : Option ℕ) : Type 0 where
+pub record IsAttach (opened : ℕ) (wanted : Mask) (named : Option (Option ℕ)) (x : ℕ) (given : Mask) (serial : Option ℕ) : Type 0 where
   pub handle : x ≡ opened
   pub mask : given ≡ wanted
   pub names : Names named serial

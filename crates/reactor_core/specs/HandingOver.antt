@@ -42,6 +42,7 @@ pub record HandsNothing {H M Q W V N E : Type 0} (m : Meaning H M Q W V N E) (ol
   pub first : new.first ≡ old.first
   pub journal : new.journal ≡ old.journal
   pub taken : (m.volumes new.volumes).taken ≡ (m.volumes old.volumes).taken
+  pub next : (m.volumes new.volumes).next ≡ (m.volumes old.volumes).next
 
 -- the volumes' count of faults rose where they failed, and else stands
 abbrev pub IsCause : HandOverRefused → ℕ → ℕ → Type 0

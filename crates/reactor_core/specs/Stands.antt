@@ -10,7 +10,7 @@ use Rattle.reactor_journal.specs.Past.{past_of, count}
 use Rattle.reactor_journal.specs.Follow.{Legal}
 use Rattle.reactor_summary.specs.Summary.{Summary, summary, some_wait, is_overdue}
 use Rattle.reactor_model.specs.Handling.{Handling}
-use Rattle.reactor_model.specs.Volumes.{VolumesFacts}
+use Rattle.reactor_model.specs.Volumes.{VolumesFacts, IsNext}
 use Rattle.reactor_state.specs.State.{owed, no_places}
 use Rattle.reactor_state.specs.declared.places.Places.{Places}
 use Rattle.reactor_state.specs.declared.places.Pick.{Pick}
@@ -60,6 +60,11 @@ pub record NetStands {H E N : Type 0} (means : Handling H E N) (t : Terms) (past
 abbrev pub HasTaken : {N : Type 0} → Terms → ℕ → List (Entry N) → List (Entry N) → Type 0
 HasTaken t F h taken = (before : List _) × (taken ≡ before ++ take F h) × ((n : ℕ) → t.volumes_taken ≡ Some n → length before ≡ n)
 
+-- and the next entry that they are to take is number F of the history, where they keep count
+pub record VolumesStand {N : Type 0} (t : Terms) (F : ℕ) (h : List (Entry N)) (volumes : VolumesFacts N) : Type 0 where
+  pub taken : WhereTold (HasTaken t F h) volumes.taken
+  pub next : IsNext volumes.next F
+
 -- What holds between any two steps of a call: the core tracks the history, with the handler of one handle in hand, or none, and
 -- with reports of the last wait still to be taken, or none.
 pub record Tracks {H M Q W V N E : Type 0} (m : Meaning H M Q W V N E) (t : Terms) (core : Core H M Q W V N E) (F : ℕ) (h : List (Entry N))
@@ -73,7 +78,7 @@ pub record Tracks {H M Q W V N E : Type 0} (m : Meaning H M Q W V N E) (t : Term
   pub net : NetStands m.means t (past_of h) pending (m.facts core.net)
   pub keeps : m.keeps t core.net
   pub watch : m.watched t core.watch h
-  pub volumes : WhereTold (HasTaken t F h) (m.volumes core.volumes).taken
+  pub volumes : VolumesStand t F h (m.volumes core.volumes)
   pub marks : MarksStand core.marks (past_of h) (told_answers (m.facts core.net).calls)
 
 -- no handle waits for its `Closed`, no armed deadline is reached, and once the reactor was stopped no handle is alive

@@ -5,6 +5,7 @@ ghost use Rattle.ev_base.specs.Terms.{Terms};
 ghost use Rattle.reactor_journal.specs.declared.entry.Entry.{Entry};
 ghost use Rattle.reactor_journal.specs.Past.{past_of};
 ghost use Rattle.reactor_summary.specs.Summary.{summary};
+ghost use Rattle.reactor_model.specs.Volumes.{BeginsJournal};
 ghost use Rattle.reactor_core.specs.Views.{volume_of, net_of, watch_of, volumes_of, over_of};
 ghost use Rattle.reactor_core.specs.Stands.{From, Stands, StandsWith};
 ghost use Rattle.reactor_core.specs.Ends.{WhereTold};
@@ -48,6 +49,7 @@ pub struct Core<
 }
 
 /// What a reactor that is over leaves.
+#[derive(Drop)]
 pub struct Parts<N, M, Q, W, V> {
     /// The entries that were not handed over.
     pub journal: Journal<N>,
@@ -71,8 +73,8 @@ impl<
     V: Volumes<H::Note>,
 > Core<H, M, Q, W, V> {
     /// A reactor for at most so many live handlers, from 1 to 4,097, which hands its journal over in volumes of at least so many
-    /// entries, from 1. Its timer queue is empty, its watch has seen nothing, and its net has made no call. With `NoMemory` all
-    /// comes back.
+    /// entries, from 1. Its timer queue is empty, its watch has seen nothing, and its net has made no call. The volumes begin another
+    /// journal. With `NoMemory` all comes back as it was.
     pub fn new(
         alloc: Global,
         most: u64,
@@ -91,8 +93,9 @@ impl<
             (Q.timers timers) (W.stands t watch []) (V.facts volumes) t most
             → Stands ⟦<Self as Means>⟧.m t core 0 []) }
         ensures volume { IfOk result (λ core. volume_of core ≡ volume) }
-        ensures parts { IfOk result (λ core. (net_of core ≡ net) × (watch_of core ≡ watch)
-            × (volumes_of core ≡ volumes)) }
+        ensures parts { IfOk result (λ core. (net_of core ≡ net) × (watch_of core ≡ watch)) }
+        ensures volumes { IfOk result (λ core.
+            BeginsJournal (V.facts volumes) (V.facts (volumes_of core))) }
         ensures err { IfErr result (λ back. (back.0 ≡ net) × (back.1 ≡ timers)
             × (back.2 ≡ watch) × (back.3 ≡ volumes)) }
     {
@@ -104,6 +107,8 @@ impl<
                 return Err((net, timers, watch, volumes, refused));
             }
         }
+        let mut volumes = volumes;
+        volumes.begin();
         Ok(Core {
             alloc,
             most,

@@ -17,5 +17,5 @@ returns-clause-stands g c t F h st = record {
   net_keeps = st.tracks.keeps;
   timers = c.into_timers.ensures (summary (past_of h)) st.tracks.state;
   watch = st.tracks.watch;
-  volumes = st.tracks.volumes;
+  volumes = st.tracks.volumes.taken;
 }

@@ -34,16 +34,16 @@ returns-clause-leaves g c = c.in-Ok.ensures.attaches.1.failed_attaches
 pub returns-clause-ok : goal.returns-clause-ok
 returns-clause-ok g c t F h o = (
   sym (sym (c.opened.ensures (summary (past_of h)) o.tracks.state)),
-    opened_on _ t c.args.self.now _ F h _ c.args.mask c.args.handler c.attach_to.new.self c.in-Ok.ensures.attaches.0 (record {
-      appends = record { most = refl; first = refl; journal = c.append.ensures.entries; watch = c.append.ensures.watch; volumes = refl; marks = (refl, told_quiet _ _ _ c.in-Ok.ensures.attaches.1.calls (λ calls. refl)) };
-      repo = c.put.ensures.entries;
-      state = λ s shows n. subst (λ (x : Handle). Shows g.Q.TimerQueue.timers c.open-opened.new.self (step {N = g.row.H-Note.Denot} s (Opened x c.args.mask))) (handle_same _ _ (c.open-opened.ensures.number s shows ∙ sym (c.opened.ensures s shows))) (c.open-opened.ensures.steps s shows n);
-      number = c.opened.ensures;
-      net = c.in-Ok.ensures.attaches.1;
-      names = λ t past k. c.in-Ok.ensures.attaches.2 t _ _ k;
-      fits = λ t past keeps k. c.attach_to.ensures.fits t _ _ keeps k;
-      keeps = λ t past keeps k. c.attach_to.ensures.kept t _ _ keeps k;
-    }) o.place o.number o.offered o.tracks,
+  opened_on _ t c.args.self.now _ F h _ c.args.mask c.args.handler c.attach_to.new.self c.in-Ok.ensures.attaches.0 (record {
+    appends = record { most = refl; first = refl; journal = c.append.ensures.entries; watch = c.append.ensures.watch; volumes = refl; marks = (refl, told_quiet _ _ _ c.in-Ok.ensures.attaches.1.calls (λ calls. refl)) };
+    repo = c.put.ensures.entries;
+    state = λ s shows n. subst (λ (x : Handle). Shows g.Q.TimerQueue.timers c.open-opened.new.self (step {N = g.row.H-Note.Denot} s (Opened x c.args.mask))) (handle_same _ _ (c.open-opened.ensures.number s shows ∙ sym (c.opened.ensures s shows))) (c.open-opened.ensures.steps s shows n);
+    number = c.opened.ensures;
+    net = c.in-Ok.ensures.attaches.1;
+    names = λ t past k. c.in-Ok.ensures.attaches.2 t _ _ k;
+    fits = λ t past keeps k. c.attach_to.ensures.fits t _ _ keeps k;
+    keeps = λ t past keeps k. c.attach_to.ensures.kept t _ _ keeps k;
+  }) o.place o.number o.offered o.tracks,
 )
 
 pub returns-clause-room : goal.returns-clause-room
