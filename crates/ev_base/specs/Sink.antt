@@ -1,6 +1,6 @@
 -- What a sink of bytes tells, and what a write does to it.
 use Rattle.std.specs.Prelude.{◌≡◌, ◌≤◌, ℕ, List, ◌++◌, length, take, Option, Some, None}
-use Rattle.ev_base.specs.Counts.{Rose}
+use Rattle.ev_base.specs.Counts.{counted}
 use Rattle.ev_base.specs.declared.sink.Wrote.{Wrote}
 use Rattle.ev_base.specs.declared.sink.Wrote.TheVariants.{Bytes, Failed}
 
@@ -24,9 +24,9 @@ pub record TakesBytes (old : SinkFacts) (piece : List ℕ) (n : ℕ) (new : Sink
   pub text : GrowsBy old.text (take n piece) new.text
   pub faults : new.faults ≡ old.faults
 
--- a write failed: the count of faults rose, and nothing was taken
+-- a write failed: it is counted once, and nothing was taken
 pub record FailsToWrite (old new : SinkFacts) : Type 0 where
-  pub rose : Rose old.faults new.faults
+  pub rose : new.faults ≡ counted old.faults
   pub text : new.text ≡ old.text
 
 -- what a write of a piece does, by its answer

@@ -20,10 +20,10 @@ pub later-more : {K : Type 0} (facts : K → SinkFacts) (old new : SinkBuffer K)
 later-more facts old new text false sound is puts =
     let same : (facts (output_of new)).faults ≡ (facts (output_of old)).faults = ((puts (facts (output_of old)) (held_of old) (gathers-here facts old sound)).whole is).takes.faults in omega arith
 later-more facts old new text true sound is puts =
-    let rose : min ((facts (output_of old)).faults + 1) (2 ^ 64 - 1) ≤ (facts (output_of new)).faults = ((puts (facts (output_of old)) (held_of old) (gathers-here facts old sound)).front is).rose in omega arith
+    let rose : (facts (output_of new)).faults ≡ min ((facts (output_of old)).faults + 1) (2 ^ 64 - 1) = ((puts (facts (output_of old)) (held_of old) (gathers-here facts old sound)).front is).rose in omega arith
 
 pub breaks-more : {K : Type 0} (facts : K → SinkFacts) (old new : SinkBuffer K) (text : List ℕ) → is_broken old ≡ false → is_broken new ≡ true →
     ((start : SinkFacts) (put : List ℕ) → Gathers facts start old put → Gathers facts start new (put ++ text)) →
     Rose (min (facts (output_of old)).faults (2 ^ 64 - 1)) (min (facts (output_of new)).faults (2 ^ 64 - 1))
 breaks-more facts old new text sound is puts =
-    let rose : min ((facts (output_of old)).faults + 1) (2 ^ 64 - 1) ≤ (facts (output_of new)).faults = ((puts (facts (output_of old)) (held_of old) (gathers-here facts old sound)).front is).rose in omega arith
+    let rose : (facts (output_of new)).faults ≡ min ((facts (output_of old)).faults + 1) (2 ^ 64 - 1) = ((puts (facts (output_of old)) (held_of old) (gathers-here facts old sound)).front is).rose in omega arith

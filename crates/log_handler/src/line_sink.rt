@@ -1,5 +1,6 @@
 //! The watch that writes the lines of a journal's notes.
-ghost use Rattle.std.specs.Prelude.{◌≡◌, ◌≤◌, ◌+◌, ◌++◌, ℕ, List, [], Some, MatchOption, false, length};
+ghost use Rattle.std.specs.Prelude.{◌≡◌, ◌≤◌, ◌+◌, ◌++◌, ◌∷◌, ℕ, List, [], Some, MatchOption, true, false, length};
+ghost use Rattle.ev_base.specs.Counts.{Rose};
 ghost use Rattle.ev_base.specs.Terms.{Terms};
 ghost use Rattle.ev_base.specs.Sink.{SinkFacts};
 ghost use Rattle.sink_buffer.specs.Texts.{Puts};
@@ -86,7 +87,9 @@ fn put_note<T: TextOut>(out: &mut T, note: &ServerNote)
 }
 
 impl<K: Sink> Watch<ServerNote> for LineSink<K> {
-    ghost use Rattle.log_handler.specs.LineSink.{PutsLines, line_sink_faults, is_broken};
+    ghost use Rattle.reactor_journal.specs.declared.entry.Entry.{Entry};
+    ghost use Rattle.log_handler.specs.declared.note.ServerNote.{ServerNote};
+    ghost use Rattle.log_handler.specs.LineSink.{PutsLines, line_sink_faults, is_broken, sink_of};
     ghost use Rattle.log_handler.specs.Faults.{breaks_above};
 
     ghost stands = { PutsLines K.facts };
@@ -95,7 +98,13 @@ impl<K: Sink> Watch<ServerNote> for LineSink<K> {
 
     ghost is_broken = { is_broken };
 
-    fn saw(&mut self, entry: &Entry<ServerNote>) {
+    fn saw(&mut self, entry: &Entry<ServerNote>)
+        ensures stands { (t : Terms) (h : List (Entry ServerNote)) → PutsLines K.facts t self.old h → PutsLines K.facts t self.new (h ++ entry.now ∷ []) }
+        ensures later { line_sink_faults K.facts self.old ≤ line_sink_faults K.facts self.new }
+        ensures stays { is_broken self.old ≡ true → is_broken self.new ≡ true }
+        ensures breaks { is_broken self.old ≡ false → is_broken self.new ≡ true → Rose (line_sink_faults K.facts self.old) (line_sink_faults K.facts self.new) }
+        ensures quiet { is_broken self.old ≡ true → sink_of self.new ≡ sink_of self.old }
+    {
         if self.buffer.is_broken() {
             return;
         }

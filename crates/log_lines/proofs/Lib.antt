@@ -1,3 +1,4 @@
 pub mod Types
 pub mod Escapes
 pub mod Lengths
+pub mod Runs

@@ -1,6 +1,6 @@
 //! A message's text: bytes that cannot be printed are escaped.
 ghost use Rattle.std.specs.Prelude.{◌≡◌, ◌≤◌, ◌<◌, ◌+◌, ℕ, Bool, true, length, take, drop, not, ◌==◌, take_while, flat_map};
-ghost use Rattle.std.specs.List.{prefix_len};
+ghost use Rattle.std.specs.List.{prefix_len, list_all};
 ghost use Rattle.log_lines.specs.Texts.{is_plain, hex_digit, byte_text, message_text};
 ghost use Rattle.sink_buffer.specs.Texts.{Puts};
 
@@ -13,15 +13,65 @@ pub fn put_message<T: TextOut>(out: &mut T, message: &[u8])
     put_escaped(out, &message[..length_before_zero(message)]);
 }
 
-/// How many bytes stand before the first zero byte.
+/// How many bytes are looked at together: so many fit one machine instruction.
+const CHUNK: usize = 16;
+
+/// Whether all bytes are printed as themselves. It looks at all of them, without an end before that, so that a compiler can
+/// test many by one instruction.
+fn are_plain(bytes: &[u8]) -> bool
+    ensures { result ≡ list_all is_plain bytes.now }
+{
+    let mut plain = true;
+    for byte in bytes {
+        plain = plain & is_plain(*byte);
+    }
+    plain
+}
+
+/// Whether no byte is zero. It looks at all of them too.
+fn are_nonzero(bytes: &[u8]) -> bool
+    ensures { result ≡ list_all (λ byte. not (byte == 0)) bytes.now }
+{
+    let mut nonzero = true;
+    for byte in bytes {
+        nonzero = nonzero & (*byte != 0);
+    }
+    nonzero
+}
+
+/// How many bytes stand before the first zero byte: found some at a time, and the last ones one by one.
 fn length_before_zero(message: &[u8]) -> usize
     ensures { result ≡ prefix_len (λ byte. not (byte == 0)) message.now }
+{
+    let mut at = 0;
+    while message.len() - at >= CHUNK && are_nonzero(&message[at..at + CHUNK]) {
+        at += CHUNK;
+    }
+    at + run_before_zero(&message[at..])
+}
+
+/// How many bytes stand before the first zero byte, found one by one.
+fn run_before_zero(message: &[u8]) -> usize
+    ensures length { result ≡ prefix_len (λ byte. not (byte == 0)) message.now }
+    ensures within { result ≤ length message.now }
 {
     message.iter().take_while(|byte| **byte != 0).count()
 }
 
-/// How many bytes at the front are printed as themselves.
+/// How many bytes at the front are printed as themselves: found some at a time, and the last ones one by one.
 fn length_of_plain(bytes: &[u8]) -> usize
+    ensures length { result ≡ prefix_len is_plain bytes.now }
+    ensures within { result ≤ length bytes.now }
+{
+    let mut at = 0;
+    while bytes.len() - at >= CHUNK && are_plain(&bytes[at..at + CHUNK]) {
+        at += CHUNK;
+    }
+    at + run_of_plain(&bytes[at..])
+}
+
+/// How many bytes at the front are printed as themselves, found one by one.
+fn run_of_plain(bytes: &[u8]) -> usize
     ensures length { result ≡ prefix_len is_plain bytes.now }
     ensures within { result ≤ length bytes.now }
 {

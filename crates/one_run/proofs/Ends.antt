@@ -2,7 +2,7 @@
 use Rattle.std.proofs.Common.{ℕ, suc, ◌≡◌, ◌≤◌, ◌+◌, ◌*◌, ◌==◌, Bool, true, false, not, ◌&&◌, List, [], ◌∷◌, ◌++◌, map, length, refl, sym, ap, ◌∙◌, subst, arith, ⊎_elim, ◌⊎◌, inl, inr}
 use Rattle.std.specs.List.{list_any, list_all, filter}
 use Rattle.std.proofs.lemmas.Bool.{false≢true, and_parts, and_from}
-use Rattle.std.proofs.lemmas.List.{length-append, append-nil, append_assoc}
+use Rattle.std.proofs.lemmas.List.{length-append, length-map, append-nil, append_assoc}
 use Rattle.std.proofs.lemmas.List.Folds.{list_all-append}
 use Rattle.ev_types.specs.declared.upcall.Kind.TheVariants.{Read}
 use Rattle.ev_types.specs.declared.upcall.Why.TheVariants.{Removed as ByRemoval}
@@ -25,7 +25,8 @@ use Rattle.reactor_core.specs.Calls.{is_taken}
 use Rattle.reactor_core.specs.Polling.{AreDue, due_of, ready_of}
 use Rattle.reactor_core.specs.Settling.{IsClosing}
 use Rattle.reactor_core.specs.Removing.{AreRemovals, alive_handles}
-use Rattle.one_run.specs.Phases.{one_handle, one_live, closed_summary, notes_in, note_of, turns_in, AllReadOn, is_served, first_entry, served_until_end, IsServedSo, IsOpened, IsRead, IsShut, IsFinished, ClosesAs, CanEnd}
+use Rattle.one_run.specs.Phases.{one_handle, one_live, closed_summary, notes_in, note_of, turns_in, AllReadOn, is_served, first_entry, served_until_end, IsServedSo, IsOpened, IsRead, IsShut, IsFinished, ClosesAs, WasShut, CanEnd}
+use Rattle.one_run.specs.Running.{TurnsOnce}
 use Rattle.one_run.proofs.Phases.{so_more, notes_more, none_closed}
 
 -- ---- waits
@@ -61,9 +62,9 @@ waits_first {N} h timers opened due = subst (λ (h : List (Entry N)). IsRead (h 
     front = record { event = 2; sums = refl; so = record { served = Polled 0 ∷ Ready one_handle Read ∷ []; is = refl; kinds = refl }; notes = refl; read_on = tt; size = refl }
 
 -- a wait once the handler was closed
-pub waits_last : {N : Type 0} (h : List (Entry N)) (now : ℕ) (timers : List ℕ) (reports : List Report) (shut : IsShut 0 h) → AreDue (after (summary (past_of h)) (Polled now)) timers
-    → (after : IsShut 1 (h ++ Polled now ∷ (map due_of timers ++ map ready_of (filter (is_taken (summary (past_of h))) reports)))) × (after.closed.note ≡ shut.closed.note)
-waits_last {N} h now timers reports shut due = subst (λ more. (after : IsShut 1 (h ++ Polled now ∷ more)) × (after.closed.note ≡ shut.closed.note)) (sym nothing) (
+pub waits_last : {N : Type 0} (h : List (Entry N)) (now : ℕ) (timers : List ℕ) (reports : List Report) (shut : IsShut [] h) → AreDue (after (summary (past_of h)) (Polled now)) timers
+    → (after : IsShut (now ∷ []) (h ++ Polled now ∷ (map due_of timers ++ map ready_of (filter (is_taken (summary (past_of h))) reports)))) × (after.closed.note ≡ shut.closed.note)
+waits_last {N} h now timers reports shut due = subst (λ more. (after : IsShut (now ∷ []) (h ++ Polled now ∷ more)) × (after.closed.note ≡ shut.closed.note)) (sym nothing) (
   record {
     entries = suc shut.entries;
     moment = now;
@@ -83,7 +84,7 @@ waits_last {N} h now timers reports shut due = subst (λ more. (after : IsShut 1
       size = omega (arith, shut.closed.size, length-append h (Polled now ∷ []), length-append shut.closed.rest (Polled now ∷ []));
     };
     own = shut.own;
-    few = omega (arith, shut.few, length-append shut.closed.rest (Polled now ∷ []));
+    waits = ap (λ l. l ++ Polled now ∷ []) shut.waits;
   },
   refl,
 )
@@ -214,9 +215,9 @@ stops_going {N} most h entries g legal removals = subst (λ entries. IsFinished 
     turns : turns_in before ≡ turns_in h
     turns = ap (λ past. had past 0) (past_stopped h) ∙ (append-nil _ ∙ append-nil _)
 
-pub stops_shut : {N : Type 0} (w : ℕ) (h entries : List (Entry N)) → w ≤ 1 → (shut : IsShut w h)
+pub stops_shut : {N : Type 0} (moments : List ℕ) (h entries : List (Entry N)) → length moments ≤ 1 → (shut : IsShut moments h)
     → AreRemovals (is_busy (summary (past_of h))) (alive_handles (summary (past_of h))) entries → (finished : IsFinished ((h ++ Ended ∷ []) ++ entries)) × ClosesAs shut.closed ((h ++ Ended ∷ []) ++ entries) finished
-stops_shut {N} w h entries once shut removals =
+stops_shut {N} moments h entries once shut removals =
     subst (λ entries. (finished : IsFinished ((h ++ Ended ∷ []) ++ entries)) × ClosesAs shut.closed ((h ++ Ended ∷ []) ++ entries) finished) (sym is)
     (subst (λ l. (finished : IsFinished l) × ClosesAs shut.closed l finished) (sym (append-nil (h ++ Ended ∷ []))) (
       record {
@@ -226,7 +227,7 @@ stops_shut {N} w h entries once shut removals =
         served = shut.so.served ++ Ended ∷ [];
         is = ap (λ l. l ++ Ended ∷ []) shut.so.is;
         kinds = ends_served shut.so.served [] shut.so.kinds;
-        few = omega (arith, once, shut.few, length-append shut.closed.rest (Ended ∷ []));
+        few = omega (arith, once, ap length shut.waits ∙ length-map moments Polled, length-append shut.closed.rest (Ended ∷ []));
         closed = record {
           before = shut.closed.before;
           note = shut.closed.note;
@@ -241,14 +242,21 @@ stops_shut {N} w h entries once shut removals =
           size = omega (arith, shut.closed.size, length-append h (Ended ∷ []), length-append shut.closed.rest (Ended ∷ []));
         };
       },
-      record { reason = refl; note = refl },
+      record { reason = refl; note = refl; rest = refl },
     ))
   where
     is : entries ≡ []
     is = subst (λ hs. AreRemovals (is_busy (summary (past_of h))) hs entries) (ap alive_handles shut.sums) removals
 
-pub shut_later : {N : Type 0} (h : List (Entry N)) → IsShut 0 h → IsShut 1 h
-shut_later h s = record { entries = s.entries; moment = s.moment; sums = s.sums; so = s.so; closed = s.closed; own = s.own; few = omega (arith, s.few) }
+pub was_shut : {N : Type 0} (h : List (Entry N)) → IsShut [] h → WasShut h
+was_shut h s = ([], omega arith, s)
 
-pub can_end : {N : Type 0} (h : List (Entry N)) → IsRead h ⊎ IsShut 0 h → CanEnd h
-can_end h may = ⊎_elim (λ r. inr (inl r)) (λ s. inr (inr (shut_later h s))) may
+pub can_end : {N : Type 0} (h : List (Entry N)) → IsRead h ⊎ IsShut [] h → CanEnd h
+can_end h may = ⊎_elim (λ r. inr (inl r)) (λ s. inr (inr (was_shut h s))) may
+
+pub can_end_unserved : {N : Type 0} (h : List (Entry N)) → IsOpened h ⊎ IsShut [] h → CanEnd h
+can_end_unserved h may = ⊎_elim (λ opened. inl opened) (λ s. inr (inr (was_shut h s))) may
+
+-- one turn more at most was made
+pub turned_end : {N : Type 0} (before h : List (Entry N)) → TurnsOnce before h → IsRead h ⊎ IsShut [] h
+turned_end before h turns = ⊎_elim (λ r. inl r.0) (λ s. inr s.0) turns

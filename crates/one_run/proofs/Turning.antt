@@ -1,5 +1,5 @@
 -- One turn of a run of one connection: it reads on, or closes itself.
-use Rattle.std.proofs.Common.{ℕ, ◌≡◌, ◌≤◌, ◌-◌, ◌^◌, Bool, true, false, not, List, [], ◌∷◌, ◌++◌, length, refl, sym, ap, ◌∙◌, subst, arith, Option, Some, None, drop, inl, inr, ◌⊎◌}
+use Rattle.std.proofs.Common.{ℕ, suc, ◌≡◌, ◌≤◌, ◌-◌, ◌^◌, Bool, true, false, not, List, [], ◌∷◌, ◌++◌, length, refl, sym, ap, ◌∙◌, subst, arith, Option, Some, None, drop, inl, inr, ◌⊎◌}
 use Rattle.std.specs.List.{slice_get}
 use Rattle.std.specs.Prelude.{Result, Ok}
 use Rattle.std.proofs.lemmas.List.{append-nil, length-append, length-reverse, drop-append-le}
@@ -48,8 +48,8 @@ use Rattle.one_net.specs.declared.one_net.OneNet.{OneNet}
 use Rattle.one_net.specs.OneEnd.{one_end_facts}
 use Rattle.one_net.specs.OneKeeps.{OneEndKeeps}
 use Rattle.one_run.specs.Phases.{one_handle, waiting_summary, out_summary, turns_in, IsRead, IsShut}
-use Rattle.one_run.specs.Running.{one_meaning, StandsIn, ReadsOneMore, IsShutAs, is_lost, last_entry, closes_lost}
-use Rattle.one_run.proofs.Phases.{started_is, summary_started, reads_on, reads_on_more, shuts, shuts_note, past_two, same}
+use Rattle.one_run.specs.Running.{one_meaning, StandsIn, ReadsOneMore, TurnsOnce, IsShutAs, is_lost, last_entry, closes_lost}
+use Rattle.one_run.proofs.Phases.{started_is, summary_started, reads_on, reads_on_more, shuts, shuts_note, shuts_turns, past_two, same}
 use Rattle.one_run.proofs.Reading.{never_keeps}
 
 -- ---- the last entry
@@ -145,18 +145,19 @@ module _ {S K V : Type 0} (G : Ghosts (OneEnd S)) (source : S → SourceFacts) (
   the_core = Core (LogConnection (OneEnd S) G) (OneNet S) Content (LineSink K) V ServerNote (OneEnd S)
 
   -- the handler closed itself, which is the last entry, and was not handed over
-  pub record ClosesAt (F : ℕ) (core : the_core) : Type 0 where
+  pub record ClosesAt (F : ℕ) (h : List (Entry ServerNote)) (core : the_core) : Type 0 where
     pub before : List (Entry ServerNote)
     pub note : ServerNote
     pub within : F ≤ length before
     pub stands : Stands (one_meaning {G = G} source sink volumes) t core F (before ++ Closed one_handle note ∷ [])
-    pub shut : IsShut 0 (before ++ Closed one_handle note ∷ [])
+    pub shut : IsShut [] (before ++ Closed one_handle note ∷ [])
     pub noted : shut.closed.note ≡ note
+    pub turns : length (turns_in shut.closed.before) ≡ suc (length (turns_in h))
 
   abbrev pub TurnGives : Answer → ℕ → List (Entry ServerNote) → the_core → Type 0
   TurnGives Keep F h core = ⊥
   TurnGives Again F h core = StandsIn (one_meaning {G = G} source sink volumes) t (ReadsOneMore h) core
-  TurnGives Close F h core = ClosesAt F core
+  TurnGives Close F h core = ClosesAt F h core
 
   module _ (F : ℕ) (h : List (Entry ServerNote)) (r : IsRead h) (job : Job (LogConnection (OneEnd S) G) ServerNote (OneEnd S)) (done : Done (LogConnection (OneEnd S) G) ServerNote (OneEnd S)) (old new : the_core) (settled : Settled)
       (stands : Stands (one_meaning {G = G} source sink volumes) t old F (h ++ Started job.event ∷ []))
@@ -213,6 +214,7 @@ module _ {S K V : Type 0} (G : Ghosts (OneEnd S)) (source : S → SourceFacts) (
       stands = stands_new;
       shut = shuts t.most h r.event done.turn.note said.0 legal_before r refl;
       noted = shuts_note t.most h r.event done.turn.note said.0 legal_before r refl;
+      turns = shuts_turns t.most h r.event done.turn.note said.0 legal_before r refl;
     }
       where
         before : List (Entry ServerNote)
@@ -233,20 +235,23 @@ module _ {S K V : Type 0} (G : Ghosts (OneEnd S)) (source : S → SourceFacts) (
         legal_before = subst (λ past. is_legal t.most past ≡ true) (past_two h (Started r.event) (Returned r.event Close done.turn.note))
             (and_parts (may_follow t.most (past_of before) (Closed one_handle said.0)) _ (subst (λ past. is_legal t.most past ≡ true) (past_of-more before (Closed one_handle said.0)) stands_new.tracks.legal)).1
 
+  le_of : {a b : ℕ} → a ≡ b → a ≤ b
+  le_of same = omega (arith, same)
+
   -- what holds of the history whatever was answered
-  pub either : (a : Answer) (F : ℕ) (h : List (Entry ServerNote)) (core : the_core) → TurnGives a F h core → StandsIn (one_meaning {G = G} source sink volumes) t (λ h. IsRead h ⊎ IsShut 0 h) core
+  pub either : (a : Answer) (F : ℕ) (h : List (Entry ServerNote)) (core : the_core) → TurnGives a F h core → StandsIn (one_meaning {G = G} source sink volumes) t (TurnsOnce h) core
   either Keep F h core gives = absurd gives
-  either Again F h core gives = (gives.0, gives.1, gives.2, inl gives.3.0)
-  either Close F h core gives = (F, gives.before ++ Closed one_handle gives.note ∷ [], gives.stands, inr gives.shut)
+  either Again F h core gives = (gives.0, gives.1, gives.2, inl (gives.3.0, le_of gives.3.1))
+  either Close F h core gives = (F, gives.before ++ Closed one_handle gives.note ∷ [], gives.stands, inr (gives.shut, le_of gives.turns))
 
   pub goes_on : (a : Answer) (F : ℕ) (h : List (Entry ServerNote)) (core : the_core) → (a ≡ Close → ⊥) → TurnGives a F h core → StandsIn (one_meaning {G = G} source sink volumes) t (ReadsOneMore h) core
   goes_on Keep F h core other gives = absurd gives
   goes_on Again F h core other gives = gives
   goes_on Close F h core other gives = absurd (other refl)
 
-  pub closes_as : (F : ℕ) (core : the_core) (lost : Bool) (entries : (h : List (Entry ServerNote)) → Stands (one_meaning {G = G} source sink volumes) t core F h → lost ≡ closes_lost (last_entry (drop F h))) → ClosesAt F core
-      → StandsIn (one_meaning {G = G} source sink volumes) t (IsShutAs 0 lost) core
-  closes_as F core lost entries c = (
+  pub closes_as : (F : ℕ) (core : the_core) (lost : Bool) (entries : (h : List (Entry ServerNote)) → Stands (one_meaning {G = G} source sink volumes) t core F h → lost ≡ closes_lost (last_entry (drop F h))) → (before : List (Entry ServerNote)) → ClosesAt F before core
+      → StandsIn (one_meaning {G = G} source sink volumes) t (IsShutAs [] lost) core
+  closes_as F core lost entries before c = (
     F,
     c.before ++ Closed one_handle c.note ∷ [],
     c.stands,

@@ -16,7 +16,7 @@ use Rattle.reactor_core.specs.declared.reactor.Core.{Core}
 use Rattle.log_handler.specs.declared.note.ServerNote.{ServerNote}
 use Rattle.log_handler.specs.declared.line_sink.LineSink.{LineSink}
 use Rattle.log_handler.specs.LineSink.{PutsLines, is_broken, sink_of}
-use Rattle.one_net.specs.OneKeeps.{FaultsSince}
+use Rattle.one_run.specs.Opening.{CountsWrite}
 
 -- where nothing was put the text is what it was
 grows_nothing : (old new : Option (List ℕ)) (text more : List ℕ) → old ≡ Some text → more ≡ [] → GrowsBy old more new → new ≡ Some text
@@ -56,6 +56,6 @@ none_or_end (suc F) entries journal is within held = absurd (omega (arith, withi
 
 -- a sink of lines that holds nothing back broke where the count of faults rose, and else that stands
 pub sink_faults : {K : Type 0} (facts : K → SinkFacts) (t : Terms) (sink : LineSink K) (journal : List (Entry ServerNote)) (n : ℕ) → t.output_faults ≡ Some n → PutsLines facts t sink journal
-    → (broken : Bool) → broken ≡ is_broken sink → FaultsSince broken n (facts (sink_of sink)).faults
-sink_faults facts t sink journal n told p true is = subst (λ (n : ℕ). FaultsSince true n (facts (sink_of sink)).faults) (p.faults n told) (p.put.front (sym is)).rose
+    → (broken : Bool) → broken ≡ is_broken sink → CountsWrite broken n (facts (sink_of sink)).faults
+sink_faults facts t sink journal n told p true is = subst (λ (n : ℕ). CountsWrite true n (facts (sink_of sink)).faults) (p.faults n told) (p.put.front (sym is)).rose
 sink_faults facts t sink journal n told p false is = (p.put.whole (sym is)).takes.faults ∙ p.faults n told

@@ -1,5 +1,5 @@
 -- The waits of a run of one connection: the first reports it, and none behind its close.
-use Rattle.std.proofs.Common.{ℕ, ◌≡◌, ◌==◌, Bool, true, false, ◌&&◌, ◌||◌, List, [], ◌∷◌, ◌++◌, map, length, refl, sym, ap, ◌∙◌, subst, arith, Option, Some, None}
+use Rattle.std.proofs.Common.{ℕ, ◌≡◌, ◌==◌, Bool, true, false, ◌&&◌, ◌||◌, List, [], ◌∷◌, ◌++◌, map, length, refl, sym, ap, ◌∙◌, subst, arith, Option, Some, None, ◌⊎◌, inl, inr, ⊎_elim}
 use Rattle.std.specs.List.{filter, list_all}
 use Rattle.std.proofs.lemmas.Bool.{false≢true, eqb-true}
 use Rattle.ev_types.specs.declared.upcall.Mask.{Mask}
@@ -33,8 +33,8 @@ use Rattle.one_net.specs.declared.one_end.OneEnd.{OneEnd}
 use Rattle.one_net.specs.declared.one_net.OneNet.{OneNet}
 use Rattle.one_net.specs.OneNet.{one_net_facts, last_answer, masks_of}
 use Rattle.one_net.specs.Watched.{first_report, answer_of}
-use Rattle.one_run.specs.Phases.{one_handle, read_mask, IsOpened, IsRead}
-use Rattle.one_run.specs.Running.{one_meaning, StandsIn, IsShutAs, is_lost}
+use Rattle.one_run.specs.Phases.{one_handle, read_mask, IsOpened, IsRead, IsShut, CanEnd}
+use Rattle.one_run.specs.Running.{one_meaning, StandsIn, IsShutAs, HasEnded, is_lost}
 use Rattle.one_run.proofs.Ends.{waits_first, waits_last}
 
 -- what a wait that did not fail did
@@ -71,13 +71,13 @@ module _ {S K V : Type 0} (G : Ghosts (OneEnd S)) (source : S → SourceFacts) (
   the_core = Core (LogConnection (OneEnd S) G) (OneNet S) Content (LineSink K) V ServerNote (OneEnd S)
 
   pub last_wait : (old new : the_core) (F : ℕ) (h : List (Entry ServerNote)) (polled : Found)
-      → Polls (one_meaning source sink volumes) t F h None polled old new → StandsIn (one_meaning source sink volumes) t (λ now. (lost : Bool) → IsShutAs 0 lost h → IsShutAs 1 lost now) new
+      → Polls (one_meaning source sink volumes) t F h None polled old new → StandsIn (one_meaning source sink volumes) t (λ now. (lost : Bool) → IsShutAs [] lost h → HasEnded None lost now) new
   last_wait old new F h polled p =
       let w = p.waits in (
         F,
         h ++ Polled w.now ∷ (map due_of w.timers ++ map ready_of (filter (is_taken (summary (past_of h))) (one_net_facts new.net).reports)),
         w.stands,
-        λ lost shut. let after = waits_last h w.now w.timers (one_net_facts new.net).reports shut.0 w.due in (after.0, shut.1 ∙ ap is_lost (sym after.1)),
+        λ lost shut. let after = waits_last h w.now w.timers (one_net_facts new.net).reports shut.0 w.due in (w.now, (after.0, shut.1 ∙ ap is_lost (sym after.1))),
       )
 
   pub first_wait : (old new : the_core) (F : ℕ) (h : List (Entry ServerNote)) (polled : Found) → IsOpened h → Stands (one_meaning source sink volumes) t old F h
@@ -117,3 +117,15 @@ module _ {S K V : Type 0} (G : Ghosts (OneEnd S)) (source : S → SourceFacts) (
       read = subst (λ (n : ℕ). IsRead (h ++ Polled n ∷ (map due_of w.timers ++ map ready_of (filter (is_taken (summary (past_of h))) (one_net_facts new.net).reports)))) (sym now)
           (subst (λ (rs : List Report). IsRead (h ++ Polled 0 ∷ (map due_of w.timers ++ map ready_of (filter (is_taken (summary (past_of h))) rs)))) (sym reports)
           (waits_first h w.timers opened (subst (λ (n : ℕ). AreDue (after (summary (past_of h)) (Polled n)) w.timers) now w.due)))
+
+  -- what holds of the history behind either of the two waits
+  pub either_wait : (old new : the_core) (F : ℕ) (h : List (Entry ServerNote)) (polled : Found) → IsOpened h ⊎ IsShut [] h → Stands (one_meaning source sink volumes) t old F h
+      → Polls (one_meaning source sink volumes) t F h None polled old new → StandsIn (one_meaning source sink volumes) t CanEnd new
+  either_wait old new F h polled may stands p =
+      ⊎_elim (λ opened. let w = first_wait old new F h polled opened stands p in (w.0, w.1, w.2, inr (inl w.3)))
+      (λ shut. let w = p.waits in (
+        F,
+        h ++ Polled w.now ∷ (map due_of w.timers ++ map ready_of (filter (is_taken (summary (past_of h))) (one_net_facts new.net).reports)),
+        w.stands,
+        inr (inr (w.now ∷ [], omega arith, (waits_last h w.now w.timers (one_net_facts new.net).reports shut w.due).0)),
+      )) may

@@ -1,5 +1,6 @@
 -- How a run of one connection begins.
-use Rattle.std.specs.Prelude.{◌≡◌, ◌⊎◌, ℕ, true, List, [], ◌∷◌, length, Option, Some, None, option_map}
+use Rattle.std.specs.Prelude.{◌≡◌, ◌⊎◌, ℕ, Bool, true, false, List, [], ◌∷◌, length, Option, Some, None, option_map}
+use Rattle.ev_base.specs.Counts.{counted}
 use Rattle.ev_base.specs.Bytes.{ReaderBytes}
 use Rattle.ev_base.specs.Source.{SourceFacts}
 use Rattle.ev_base.specs.Sink.{SinkFacts}
@@ -9,7 +10,7 @@ use Rattle.reactor_journal.specs.declared.entry.Entry.TheVariants as entry
 use Rattle.reactor_model.specs.Volumes.{VolumesFacts}
 use Rattle.reactor_core.specs.Ends.{WhereTold}
 use Rattle.log_handler.specs.declared.note.ServerNote.{ServerNote}
-use Rattle.one_net.specs.OneKeeps.{StartsAt, FaultsSince}
+use Rattle.one_net.specs.OneKeeps.{StartsAt}
 use Rattle.one_run.specs.Running.{AreOfOne}
 use Rattle.one_run.specs.declared.opening.Unopened.{Unopened}
 
@@ -46,12 +47,17 @@ terms_of_run i o v = record {
   volumes_faults = Some v.faults;
 }
 
--- No handler was registered: the journal is empty, or the end alone, and the text of the output is what it was. The output's count
--- of faults rose where a write failed.
+-- a sink counts one failed write more where one failed, and else none
+abbrev pub CountsWrite : Bool → ℕ → ℕ → Type 0
+CountsWrite true before now = now ≡ counted before
+CountsWrite false before now = now ≡ before
+
+-- No handler was registered: the journal is empty, or the end alone, and the text of the output is what it was. The output
+-- counts one failed write more where one failed.
 pub record LeavesNothing {S K V : Type 0} (sink : K → SinkFacts) (t : Terms) (left : Unopened S K V) : Type 0 where
   pub journal : (left.journal.entries ≡ []) ⊎ (left.journal.entries ≡ entry.Ended ∷ [])
   pub text : (text : List ℕ) → t.opening ≡ Some text → (sink left.output).text ≡ Some text
-  pub output_faults : (n : ℕ) → t.output_faults ≡ Some n → FaultsSince left.broken n (sink left.output).faults
+  pub output_faults : (n : ℕ) → t.output_faults ≡ Some n → CountsWrite left.broken n (sink left.output).faults
 
 -- and the source was not read
 pub record LeavesUnopened {S K V : Type 0} (source : S → SourceFacts) (sink : K → SinkFacts) (input : S) (output : K) (left : Unopened S K V) : Type 0 where
@@ -59,4 +65,4 @@ pub record LeavesUnopened {S K V : Type 0} (source : S → SourceFacts) (sink : 
   pub text : (text : List ℕ) → (sink output).text ≡ Some text → (sink left.output).text ≡ Some text
   pub bytes : (source left.input).bytes ≡ (source input).bytes
   pub faults : (source left.input).faults ≡ (source input).faults
-  pub output_faults : FaultsSince left.broken (sink output).faults (sink left.output).faults
+  pub output_faults : CountsWrite left.broken (sink output).faults (sink left.output).faults

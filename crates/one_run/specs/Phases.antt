@@ -140,15 +140,15 @@ pub record HasClosed {N : Type 0} (h : List (Entry N)) : Type 0 where
   pub notes : notes_in before ≡ map note_of (turns_in before)
   pub size : length h ≤ 6 + 2 * length (turns_in before) + length rest
 
--- The handler closed itself, at most so many waits were made since, and the reactor was not stopped.
-pub record IsShut {N : Type 0} (waits : ℕ) (h : List (Entry N)) : Type 0 where
+-- The handler closed itself, waits at these moments were made since, and the reactor was not stopped.
+pub record IsShut {N : Type 0} (moments : List ℕ) (h : List (Entry N)) : Type 0 where
   pub entries : ℕ
   pub moment : ℕ
   pub sums : summary (past_of h) ≡ closed_summary entries moment false
   pub so : IsServedSo h
   pub closed : HasClosed h
   pub own : closed.reason ≡ Own
-  pub few : length closed.rest ≤ waits
+  pub waits : closed.rest ≡ map entry.Polled moments
 
 -- until the end there are only entries of those kinds
 abbrev pub served_until_end : {N : Type 0} → List (Entry N) → Bool
@@ -167,11 +167,16 @@ pub record IsFinished {N : Type 0} (h : List (Entry N)) : Type 0 where
   pub closed : HasClosed h
   pub few : length closed.rest ≤ 2
 
+-- The handler closed itself, and one wait at most was made since.
+abbrev pub WasShut : {N : Type 0} → List (Entry N) → Type 0
+WasShut h = (moments : List ℕ) × (length moments ≤ 1) × IsShut moments h
+
 -- The reactor may be stopped: the handler is alive and at home, or closed itself.
 abbrev pub CanEnd : {N : Type 0} → List (Entry N) → Type 0
-CanEnd h = IsOpened h ⊎ (IsRead h ⊎ IsShut 1 h)
+CanEnd h = IsOpened h ⊎ (IsRead h ⊎ WasShut h)
 
--- the closing of h is that of the history that is finished
+-- the closing of h is that of the history that is finished, behind which the reactor was stopped
 pub record ClosesAs {N : Type 0} {h : List (Entry N)} (closed : HasClosed h) (over : List (Entry N)) (finished : IsFinished over) : Type 0 where
   pub reason : finished.closed.reason ≡ closed.reason
   pub note : finished.closed.note ≡ closed.note
+  pub rest : finished.closed.rest ≡ closed.rest ++ entry.Ended ∷ []

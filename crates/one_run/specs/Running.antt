@@ -1,5 +1,5 @@
 -- What a run of the reactor of `one` does to it, from call to call.
-use Rattle.std.specs.Prelude.{◌≡◌, ◌≤◌, ◌-◌, ℕ, suc, length, slice_get, Bool, true, false, List, Option, Some, None, Result, Ok, Err}
+use Rattle.std.specs.Prelude.{◌≡◌, ◌≤◌, ◌⊎◌, ◌-◌, ℕ, suc, [], ◌∷◌, length, slice_get, Bool, true, false, List, Option, Some, None, Result, Ok, Err}
 use Rattle.ev_base.specs.Counts.{Rose}
 use Rattle.ev_base.specs.Source.{SourceFacts}
 use Rattle.ev_base.specs.Sink.{SinkFacts}
@@ -68,6 +68,12 @@ KeepsHistory {N = N} m old new = (t : Terms) (F : ℕ) (h : List (Entry N)) → 
 abbrev pub ReadsOneMore : {N : Type 0} → List (Entry N) → List (Entry N) → Type 0
 ReadsOneMore before h = IsRead h × (length (turns_in h) ≡ suc (length (turns_in before)))
 
+-- the handler had one turn more at most, and reads on or closed itself
+abbrev pub TurnsOnce : {N : Type 0} → List (Entry N) → List (Entry N) → Type 0
+TurnsOnce before h =
+    (IsRead h × (length (turns_in h) ≤ suc (length (turns_in before))))
+    ⊎ ((s : IsShut [] h) × (length (turns_in s.closed.before) ≤ suc (length (turns_in before))))
+
 -- the handler had so many turns at least, and reads on
 abbrev pub HasRead : {N : Type 0} → ℕ → List (Entry N) → Type 0
 HasRead turns h = IsRead h × (turns ≤ length (turns_in h))
@@ -95,17 +101,21 @@ closes_lost (Some (entry.Closed handle said)) = is_lost said
 closes_lost _ = false
 
 -- the handler closed itself, and this tells whether for want of memory
-abbrev pub IsShutAs : ℕ → Bool → List (Entry ServerNote) → Type 0
-IsShutAs waits lost h = (s : IsShut waits h) × (lost ≡ is_lost s.closed.note)
+abbrev pub IsShutAs : List ℕ → Bool → List (Entry ServerNote) → Type 0
+IsShutAs moments lost h = (s : IsShut moments h) × (lost ≡ is_lost s.closed.note)
 
--- a run was halted, or went on until its connection had closed itself and a wait behind that
+-- a run was halted, or went on until its connection had closed itself and one wait was made behind that
 abbrev pub HasEnded : Option Halt → Bool → List (Entry ServerNote) → Type 0
-HasEnded None lost h = IsShutAs 1 lost h
+HasEnded None lost h = (now : ℕ) × IsShutAs (now ∷ []) lost h
 HasEnded (Some why) lost h = CanEnd h
 
--- the handler of a journal that is finished had closed itself, and this tells whether for want of memory
-abbrev pub ClosedItself : Bool → (h : List (Entry ServerNote)) → IsFinished h → Type 0
-ClosedItself lost h over = (over.closed.reason ≡ Own) × (lost ≡ is_lost over.closed.note)
+-- The handler of a journal that is finished had closed itself, and this tells whether for want of memory. Behind its closing one wait
+-- was made, and then the reactor was stopped.
+pub record ClosedItself (lost : Bool) (h : List (Entry ServerNote)) (over : IsFinished h) : Type 0 where
+  pub own : over.closed.reason ≡ Own
+  pub lost_so : lost ≡ is_lost over.closed.note
+  pub moment : ℕ
+  pub rest : over.closed.rest ≡ entry.Polled moment ∷ entry.Ended ∷ []
 
 -- the parts of this reactor, which was stopped, stand for a history that is legal and finished
 pub record LeavesParts {H M W V E : Type 0} (m : Meaning H M Content W V ServerNote E) (t : Terms) (core : Core H M Content W V ServerNote E) (P : (h : List (Entry ServerNote)) → IsFinished h → Type 0) (parts : Parts ServerNote M Content W V) : Type 0 where

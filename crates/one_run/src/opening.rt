@@ -52,6 +52,7 @@ pub fn open<S: Source, K: Sink, V: Volumes<ServerNote>>(
 ) -> Result<OneCore<S, K, V>, Unopened<S, K, V>>
     requires { 1 ≤ volume }
     ensures ok { IfOk result (λ core. (t : Terms) → StartsRun t (S.facts input) (K.facts output) (V.facts volumes) → StandsIn (one_meaning S.facts K.facts V.facts) t IsOpened core) }
+    ensures volume { IfOk result (λ core. core.volume ≡ volume) }
     ensures volumes { IfOk result (λ core. core.volumes ≡ volumes) }
     ensures err { IfErr result (λ left. LeavesUnopened S.facts K.facts input output left × (left.volumes ≡ volumes)) }
 {

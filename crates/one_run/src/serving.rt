@@ -1,12 +1,12 @@
 //! The run of the one connection on a reactor.
-ghost use Rattle.std.specs.Prelude.{◌≡◌, ◌⊎◌, ◌≤◌, ℕ, List, OnOk, OnErr, IfOk, Some, None, true, Bool};
+ghost use Rattle.std.specs.Prelude.{◌≡◌, ◌⊎◌, ◌≤◌, ℕ, List, [], ◌∷◌, Option, OnOk, OnErr, IfOk, Some, None, true, false, Bool};
 ghost use Rattle.ev_base.specs.Terms.{Terms};
 ghost use Rattle.reactor_journal.specs.declared.entry.Entry.{Entry};
 ghost use Rattle.reactor_core.specs.Stands.{Stands, IsStanding};
 ghost use Rattle.log_handler.specs.declared.note.ServerNote.{ServerNote};
 ghost use Rattle.log_handler.specs.LineSink.{is_broken};
 ghost use Rattle.one_run.specs.Phases.{IsOpened, IsRead, IsShut, CanEnd};
-ghost use Rattle.one_run.specs.Running.{one_meaning, AreOfOne, CanRun, LeavesParts, ClosedItself, Leads, LeadsBy, KeepsHistory, ReadsOneMore, VolumesSince, halted, last_entry, closes_lost, IsShutAs, HasEnded};
+ghost use Rattle.one_run.specs.Running.{one_meaning, AreOfOne, CanRun, LeavesParts, ClosedItself, Leads, LeadsBy, KeepsHistory, ReadsOneMore, TurnsOnce, VolumesSince, halted, last_entry, closes_lost, IsShutAs, HasEnded};
 
 use ev_base::{Sink, Source};
 use ev_types::Answer;
@@ -42,12 +42,14 @@ pub struct Ending {
     pub lost: bool,
 }
 
-/// Serves the connection until it closes itself, or the run is halted.
+/// Serves the connection until it closed itself and a wait was over, or the run is halted. A failed write halts it: nothing is read
+/// behind it.
 pub fn run<S: Source, K: Sink, V: Volumes<ServerNote>>(core: &mut OneCore<S, K, V>) -> Ending
     requires { CanRun (one_meaning S.facts K.facts V.facts) IsOpened core.old }
     ensures leads { Leads (one_meaning S.facts K.facts V.facts) IsOpened (HasEnded result.halt result.lost) core.old core.new }
     ensures volumes { VolumesSince result.halt (V.facts core.old.volumes).faults (V.facts core.new.volumes).faults }
     ensures broken { result.halt ≡ Some Halt.Broken → is_broken core.new.watch ≡ true }
+    ensures whole { result.halt ≡ None → is_broken core.new.watch ≡ false }
 {
     match wait(core) {
         Ok(()) => {}
@@ -79,7 +81,7 @@ pub fn finish<S: Source, K: Sink, V: Volumes<ServerNote>>(
     requires { CanRun (one_meaning S.facts K.facts V.facts) CanEnd core }
     ensures ends { (t : Terms) (F : ℕ) (h : List (Entry ServerNote)) → Stands (one_meaning S.facts K.facts V.facts) t core F h → AreOfOne t → CanEnd h
         → LeavesParts (one_meaning S.facts K.facts V.facts) t core (λ h over. Unit {0}) result }
-    ensures closed { (t : Terms) (F : ℕ) (h : List (Entry ServerNote)) (lost : Bool) → Stands (one_meaning S.facts K.facts V.facts) t core F h → AreOfOne t → IsShutAs 1 lost h
+    ensures closed { (t : Terms) (F : ℕ) (h : List (Entry ServerNote)) (now : ℕ) (lost : Bool) → Stands (one_meaning S.facts K.facts V.facts) t core F h → AreOfOne t → IsShutAs (now ∷ []) lost h
         → LeavesParts (one_meaning S.facts K.facts V.facts) t core (ClosedItself lost) result }
     ensures volumes { result.volumes ≡ core.volumes }
     ensures broken { is_broken core.watch ≡ true → is_broken result.watch ≡ true }
@@ -106,56 +108,67 @@ fn hand_over<S: Source, K: Sink, V: Volumes<ServerNote>>(
     }
 }
 
-/// Waits once: before the first turn, for the report of the connection, and once it closed itself.
+/// Waits once: before the first turn, for the report of the connection, and once it closed itself. Then it looks whether a write
+/// failed.
 fn wait<S: Source, K: Sink, V: Volumes<ServerNote>>(core: &mut OneCore<S, K, V>) -> Result<(), Halt>
-    requires { CanRun (one_meaning S.facts K.facts V.facts) (λ h. IsOpened h ⊎ IsShut 0 h) core.old }
+    requires { CanRun (one_meaning S.facts K.facts V.facts) (λ h. IsOpened h ⊎ IsShut [] h) core.old }
     ensures first { OnOk result (Leads (one_meaning S.facts K.facts V.facts) IsOpened IsRead core.old core.new) }
-    ensures last { OnOk result (LeadsBy (one_meaning S.facts K.facts V.facts) (IsShut 0) (λ before h. (lost : Bool) → IsShutAs 0 lost before → IsShutAs 1 lost h) core.old core.new) }
-    ensures err { OnErr result (KeepsHistory (one_meaning S.facts K.facts V.facts) core.old core.new) }
+    ensures last { OnOk result (LeadsBy (one_meaning S.facts K.facts V.facts) (IsShut []) (λ before h. (lost : Bool) → IsShutAs [] lost before → HasEnded None lost h) core.old core.new) }
+    ensures err { OnErr result (Leads (one_meaning S.facts K.facts V.facts) (λ h. IsOpened h ⊎ IsShut [] h) CanEnd core.old core.new) }
     ensures volumes { VolumesSince (halted result) (V.facts core.old.volumes).faults (V.facts core.new.volumes).faults }
-    ensures whole { result ≡ Err Halt.Broken → ⊥ }
+    ensures broken { result ≡ Err Halt.Broken → is_broken core.new.watch ≡ true }
+    ensures whole { OnOk result (is_broken core.new.watch ≡ false) }
 {
     match hand_over(core) {
         Ok(()) => {}
         Err(halt) => return Err(halt),
     }
     match core.poll(None) {
-        Ok(_) => Ok(()),
-        Err(PollRefused::NoMemory) => Err(Halt::NoMemory),
+        Ok(_) => {}
+        Err(PollRefused::NoMemory) => return Err(Halt::NoMemory),
         Err(_) => unreachable!("the reactor was not stopped, and its net does not fail"),
+    }
+    match core.is_broken() {
+        true => Err(Halt::Broken),
+        false => Ok(()),
     }
 }
 
-/// Serves the connection, turn by turn, until it closes itself, and tells whether that was for want of memory.
+/// Serves the connection, turn by turn, until it closes itself, and tells whether that was for want of memory. Each turn begins with
+/// an output of which no write failed.
 fn serve<S: Source, K: Sink, V: Volumes<ServerNote>>(
     core: &mut OneCore<S, K, V>,
 ) -> Result<bool, Halt>
-    requires { CanRun (one_meaning S.facts K.facts V.facts) IsRead core.old }
-    ensures ok { IfOk result (λ lost. Leads (one_meaning S.facts K.facts V.facts) IsRead (IsShutAs 0 lost) core.old core.new) }
-    ensures err { OnErr result (Leads (one_meaning S.facts K.facts V.facts) IsRead (λ h. IsRead h ⊎ IsShut 0 h) core.old core.new) }
+    requires served { CanRun (one_meaning S.facts K.facts V.facts) IsRead core.old }
+    requires whole { is_broken core.old.watch ≡ false }
+    ensures ok { IfOk result (λ lost. Leads (one_meaning S.facts K.facts V.facts) IsRead (IsShutAs [] lost) core.old core.new) }
+    ensures err { OnErr result (Leads (one_meaning S.facts K.facts V.facts) IsRead (λ h. IsRead h ⊎ IsShut [] h) core.old core.new) }
     ensures volumes { VolumesSince (halted result) (V.facts core.old.volumes).faults (V.facts core.new.volumes).faults }
     ensures broken { result ≡ Err Halt.Broken → is_broken core.new.watch ≡ true }
+    ensures whole { OnOk result (is_broken core.new.watch ≡ false) }
 {
     for _turn in 0..MOST_TURNS {
         match turn(core) {
             Ok(None) => {}
             Ok(Some(lost)) => return Ok(lost),
-            Err(halt) => return Err(halt),
+            Err(why) => return Err(why),
         }
     }
     unreachable!("a journal has at most 2^62 entries")
 }
 
-/// Serves one upcall. Where the connection closed itself, tells whether that was for want of memory.
+/// Serves one upcall, where no write failed yet. Where the connection closed itself, tells whether that was for want of memory.
 fn turn<S: Source, K: Sink, V: Volumes<ServerNote>>(
     core: &mut OneCore<S, K, V>,
 ) -> Result<Option<bool>, Halt>
-    requires { CanRun (one_meaning S.facts K.facts V.facts) IsRead core.old }
+    requires served { CanRun (one_meaning S.facts K.facts V.facts) IsRead core.old }
+    requires whole { is_broken core.old.watch ≡ false }
     ensures goes { result ≡ Ok None → LeadsBy (one_meaning S.facts K.facts V.facts) IsRead ReadsOneMore core.old core.new }
-    ensures closes { (lost : Bool) → result ≡ Ok (Some lost) → Leads (one_meaning S.facts K.facts V.facts) IsRead (IsShutAs 0 lost) core.old core.new }
-    ensures err { OnErr result (Leads (one_meaning S.facts K.facts V.facts) IsRead (λ h. IsRead h ⊎ IsShut 0 h) core.old core.new) }
+    ensures closes { (lost : Bool) → result ≡ Ok (Some lost) → Leads (one_meaning S.facts K.facts V.facts) IsRead (IsShutAs [] lost) core.old core.new }
+    ensures err { OnErr result (LeadsBy (one_meaning S.facts K.facts V.facts) IsRead TurnsOnce core.old core.new) }
     ensures volumes { VolumesSince (halted result) (V.facts core.old.volumes).faults (V.facts core.new.volumes).faults }
     ensures broken { result ≡ Err Halt.Broken → is_broken core.new.watch ≡ true }
+    ensures whole { OnOk result (is_broken core.new.watch ≡ false) }
 {
     match hand_over(core) {
         Ok(()) => {}

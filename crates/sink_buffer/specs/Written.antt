@@ -1,6 +1,6 @@
 -- Texts that a sink took, whole or in part.
 use Rattle.std.specs.Prelude.{◌≡◌, ℕ, List, ◌++◌, Bool, true, false}
-use Rattle.ev_base.specs.Counts.{Rose}
+use Rattle.ev_base.specs.Counts.{counted}
 use Rattle.ev_base.specs.Sink.{SinkFacts, GrowsBy}
 
 -- the first list begins the second
@@ -12,12 +12,12 @@ pub record TakesAll (old : SinkFacts) (bytes : List ℕ) (new : SinkFacts) : Typ
   pub text : GrowsBy old.text bytes new.text
   pub faults : new.faults ≡ old.faults
 
--- a sink took the front of some bytes, and then failed
+-- A sink took the front of some bytes, and then failed. One write failed and no more: so none was tried behind it.
 pub record BreaksOff (old : SinkFacts) (bytes : List ℕ) (new : SinkFacts) : Type 0 where
   pub front : List ℕ
   pub is_front : IsPrefixOf front bytes
   pub text : GrowsBy old.text front new.text
-  pub rose : Rose old.faults new.faults
+  pub rose : new.faults ≡ counted old.faults
 
 -- some bytes were written, all of them or, where a write failed, a front of them
 abbrev pub WritesAll : SinkFacts → List ℕ → Bool → SinkFacts → Type 0

@@ -1,5 +1,5 @@
 //! The buffer, and the loop that writes it.
-ghost use Rattle.std.specs.Prelude.{◌≡◌, ◌≤◌, ℕ, List, [], ◌++◌, length, take, min, ◌-◌, ◌<◌, Bool, true, false, IsTrue, ◌↔◌};
+ghost use Rattle.std.specs.Prelude.{◌≡◌, ◌≤◌, ℕ, List, [], ◌++◌, ◌+◌, length, take, min, ◌-◌, ◌<◌, Bool, true, false, IsTrue, ◌↔◌};
 ghost use Rattle.ev_base.specs.Sink.{SinkFacts};
 ghost use Rattle.sink_buffer.specs.Written.{WritesAll};
 
@@ -22,7 +22,8 @@ pub struct SinkBuffer<K> {
 }
 
 impl<K: Sink> SinkBuffer<K> {
-    ghost use Rattle.sink_buffer.specs.Gathers.{Gathers, held_of, is_broken, output_of};
+    ghost use Rattle.sink_buffer.specs.Gathers.{Gathers, held_of, is_broken, output_of, HasPut};
+    ghost use Rattle.sink_buffer.specs.Texts.{Puts};
 
     /// A buffer before this sink, which holds nothing.
     pub fn new(output: K) -> SinkBuffer<K>
@@ -51,6 +52,29 @@ impl<K: Sink> SinkBuffer<K> {
         }
     }
 
+    /// Copies bytes for which there is room.
+    fn hold(&mut self, bytes: &[u8])
+        requires { self.old.held + length bytes.now ≤ 8192 }
+        ensures held { held_of self.new ≡ held_of self.old ++ bytes.now }
+        ensures output { output_of self.new ≡ output_of self.old }
+        ensures broken { is_broken self.new ≡ is_broken self.old }
+    {
+        let end = self.held + bytes.len();
+        self.bytes[self.held..end].copy_from_slice(bytes);
+        self.held = end;
+    }
+
+    /// Adds bytes to the text, a full buffer at a time.
+    fn put_long(&mut self, bytes: &[u8])
+        ensures { Puts (HasPut K.facts) self.old bytes.now self.new }
+    {
+        let mut at = 0;
+        while at < bytes.len() {
+            self.make_room();
+            at += self.fill(&bytes[at..]);
+        }
+    }
+
     /// Copies what there is room for, and tells how much that was.
     fn fill(&mut self, bytes: &[u8]) -> usize
         requires { self.old.held < 8192 }
@@ -67,12 +91,13 @@ impl<K: Sink> SinkBuffer<K> {
     }
 
     /// Writes what is held, in one write where the sink takes all of it, and in none where nothing is held. After it the sink has
-    /// the whole text, or a write failed.
+    /// the whole text, or a write failed. Behind a failed write nothing is written.
     pub fn flush(&mut self)
         ensures text { (start : SinkFacts) (put : List ℕ) → Gathers K.facts start self.old put → Gathers K.facts start self.new put }
         ensures held { held_of self.new ≡ [] }
         ensures empty { self.new.held ≡ 0 }
         ensures idle { length (held_of self.old) ≡ 0 → output_of self.new ≡ output_of self.old }
+        ensures quiet { is_broken self.old ≡ true → output_of self.new ≡ output_of self.old }
     {
         if self.broken {
             self.held = 0;
@@ -107,10 +132,10 @@ impl<K: Sink> TextOut for SinkBuffer<K> {
 
     /// Adds bytes to the text. Where there is room for them, nothing is written.
     fn put(&mut self, bytes: &[u8]) {
-        let mut at = 0;
-        while at < bytes.len() {
-            self.make_room();
-            at += self.fill(&bytes[at..]);
+        if bytes.len() <= SIZE - self.held {
+            self.hold(bytes);
+        } else {
+            self.put_long(bytes);
         }
     }
 }

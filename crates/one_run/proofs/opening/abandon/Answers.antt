@@ -1,7 +1,7 @@
 use Rattle.std.proofs.Common.{ap, sym, subst, ℕ, ◌∙◌, ◌++◌, ◌∷◌, []}
 use Rattle.reactor_journal.specs.declared.entry.Entry.TheVariants.{Ended}
 use Rattle.one_run.proofs.Unserved.{at_nothing, only_ended, over_at_once, none_or_end, same_text, sink_faults}
-use Rattle.one_net.specs.OneKeeps.{FaultsSince}
+use Rattle.one_run.specs.Opening.{CountsWrite}
 use Rattle.one_run.proofs.opening.abandon.Goals as goal
 
 pub into_parts-journal-requires : goal.into_parts-journal-requires
@@ -17,6 +17,6 @@ returns-clause-left g c t F stands =
     record {
       journal = none_or_end F _ _ (only_ended _ t F _ s) stands.tracks.journal.within parts.journal;
       text = λ text told. ap (λ k. (g.K.Sink.facts k).text) c.into_output.ensures ∙ same_text _ t _ text _ (only_ended _ t F _ s) told parts.watch;
-      output_faults = λ n told. subst (λ (faults : ℕ). FaultsSince c.broken-broken.result n faults) (sym (ap (λ k. (g.K.Sink.facts k).faults) c.into_output.ensures))
+      output_faults = λ n told. subst (λ (faults : ℕ). CountsWrite c.broken-broken.result n faults) (sym (ap (λ k. (g.K.Sink.facts k).faults) c.into_output.ensures))
           (sink_faults g.K.Sink.facts t c.into_parts-journal.result.watch _ n told parts.watch c.broken-broken.result c.broken-broken.ensures);
     }

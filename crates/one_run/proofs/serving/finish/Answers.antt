@@ -1,4 +1,4 @@
-use Rattle.std.proofs.Common.{sym, ap, ◌∙◌, inr, ◌++◌, ◌∷◌, []}
+use Rattle.std.proofs.Common.{arith, sym, ap, ◌∙◌, inr, ◌++◌, ◌∷◌, []}
 use Rattle.reactor_journal.specs.declared.entry.Entry.TheVariants.{Ended}
 use Rattle.one_run.specs.Running.{is_lost}
 use Rattle.one_run.proofs.Finishing.{stops, finishes, finishes_shut, is_over}
@@ -16,14 +16,14 @@ returns-clause-ends g c t F h stands terms may =
     record { first = F; journal = (h ++ Ended ∷ []) ++ s.entries; legal = s.stands.tracks.legal; finished = finishes _ t F h _ may s; so = tt; stand = c.into_parts.ensures.stands t F ((h ++ Ended ∷ []) ++ s.entries) s.stands }
 
 pub returns-clause-closed : goal.returns-clause-closed
-returns-clause-closed g c t F h lost stands terms shut =
-    let s = stops _ t F h _ (inr (inr shut.0)) (c.stop.ensures.stands t F h stands) in
-    let f = finishes_shut _ t F h _ shut.0 s in
+returns-clause-closed g c t F h now lost stands terms shut =
+    let s = stops _ t F h _ (inr (inr (now ∷ [], omega arith, shut.0))) (c.stop.ensures.stands t F h stands) in
+    let f = finishes_shut _ t F h _ now shut.0 s in
     record {
       first = F;
       journal = (h ++ Ended ∷ []) ++ s.entries;
       legal = s.stands.tracks.legal;
       finished = f.0;
-      so = (f.1.reason ∙ shut.0.own, shut.1 ∙ ap is_lost (sym f.1.note));
+      so = record { own = f.1.reason ∙ shut.0.own; lost_so = shut.1 ∙ ap is_lost (sym f.1.note); moment = now; rest = f.1.rest ∙ ap (λ rest. rest ++ Ended ∷ []) shut.0.waits };
       stand = c.into_parts.ensures.stands t F ((h ++ Ended ∷ []) ++ s.entries) s.stands;
     }

@@ -1,6 +1,9 @@
-use Rattle.std.proofs.Common.{inr}
-use Rattle.one_run.proofs.Ends.{can_end, shut_later}
+use Rattle.std.proofs.Common.{inl, inr}
+use Rattle.one_run.proofs.Ends.{can_end}
 use Rattle.one_run.proofs.serving.run.Goals as goal
+
+pub returns-in-Err-clause-leads : goal.returns-in-Err-clause-leads
+returns-in-Err-clause-leads g c t F h stands terms opened = c.in-Err.ensures.err t F h stands terms (inl opened)
 
 pub returns-in-Err-serve-clause-leads : goal.returns-in-Err-serve-clause-leads
 returns-in-Err-serve-clause-leads g c t F h stands terms opened =
@@ -26,5 +29,4 @@ pub returns-in-Err-wait-clause-leads : goal.returns-in-Err-wait-clause-leads
 returns-in-Err-wait-clause-leads g c t F h stands terms opened =
     let w = c.in-Ok.ensures.first t F h stands terms opened in
     let s = c.in-Ok-serve.ensures.ok t w.0 w.1 w.2 terms w.3 in
-    let e = c.in-Err-wait.ensures.err t s.0 s.1 s.2 in
-    (e.0, s.1, e.1, inr (inr (shut_later s.1 s.3.0)))
+    c.in-Err-wait.ensures.err t s.0 s.1 s.2 terms (inr s.3.0)

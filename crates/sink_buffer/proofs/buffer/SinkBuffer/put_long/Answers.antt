@@ -3,7 +3,7 @@ use Rattle.std.proofs.lemmas.List.{length-take-le}
 use Rattle.sink_buffer.specs.Gathers.{HasPut}
 use Rattle.sink_buffer.proofs.Texts.{take-next, length-part}
 use Rattle.sink_buffer.proofs.Gathering.{stands-none, stands-more}
-use Rattle.sink_buffer.proofs.buffer.SinkBufferTextOut.put.Goals as goal
+use Rattle.sink_buffer.proofs.buffer.SinkBuffer.put_long.Goals as goal
 
 pub loop-at-init : goal.loop-at-init
 loop-at-init g c = (omega arith, stands-none g.K.Sink.facts c.args.self.now)

@@ -1,7 +1,7 @@
 use Rattle.std.proofs.Common.{◌≤◌, length, take, ◌-◌}
 use Rattle.sink_buffer.specs.Texts.{Puts}
 use Rattle.sink_buffer.specs.Gathers.{HasPut}
-use Rattle.sink_buffer.proofs.buffer.SinkBufferTextOut.put.Given as goal
+use Rattle.sink_buffer.proofs.buffer.SinkBuffer.put_long.Given as goal
 
 -- what was put so far
 abbrev pub invariant-loop-at : goal.invariant-loop-at
