@@ -73,9 +73,10 @@ impl<
 > Core<H, M, Q, W, V> {
     /// Registers a handler (ACE's `register_handler`), with the reports that it wants and, where one is given, a timer: its first
     /// delay, from 1 to 4,294,967,295 milliseconds, and its period, 0 for once. The journal has `Opened`, and `Scheduled` for the
-    /// timer. With each refusal the handler comes back, and all is as it was: `Stopped` comes exactly where the reactor was
-    /// stopped; `Full` exactly where it was not, and as many handlers are live as may be or 4,294,967,295 were registered;
-    /// `NetFailed` only where the net's count of failed attaches rose.
+    /// timer. With each refusal the handler that was offered comes back, and all is as it was, but that after `NoMemory` there may be
+    /// more room. `Stopped` comes exactly where the reactor was stopped; `Full` exactly where it was not, and as many handlers are
+    /// live as may be or 4,294,967,295 were registered; `NetFailed` only where the net failed to attach its end. That was tried
+    /// once: the net's count of failed attaches rose, and the handler fits what it fitted before.
     #[tactic(auto, using(crate::proofs::Frames::attaching_goes_on, crate::proofs::Frames::attaching_of))]
     pub fn register(
         &mut self,
