@@ -6,8 +6,6 @@
 #![tactic(auto)]
 
 mod active;
-#[cfg(test)]
-mod active_tests;
 mod format;
 mod here;
 mod inbox;
@@ -21,8 +19,6 @@ mod row;
 mod separate;
 mod stream;
 mod task;
-#[cfg(test)]
-mod tests;
 mod text;
 mod wait;
 mod work;

@@ -3,10 +3,14 @@
 use std::hint::spin_loop;
 use std::sync::Wait;
 use std::sync::atomic::{AtomicU64, Ordering};
+use std::thread::yield_now;
 
-/// How often a thread looks before it sleeps: an item comes within microseconds while both threads run, and a sleep with its
-/// wake takes longer.
-const LOOKS: u32 = 200;
+/// How often a thread looks at once: where both run on processors of their own, the next item comes within a microsecond.
+const SPINS: u32 = 32;
+
+/// How often it looks before it sleeps, from then on letting other threads run in between: where both share a processor, the other
+/// goes on then. A sleep with its wake takes longer than all these looks.
+const LOOKS: u32 = 64;
 
 /// What a thread sleeps on until another wakes it. One thread waits at it at a time. No contract speaks of it.
 pub(crate) struct Parking {
@@ -67,12 +71,15 @@ impl Looks {
         Looks { made: 0 }
     }
 
-    /// Comes after a look in vain: a few times it is short, then it says that the thread is about to sleep, and after one more look it
-    /// sleeps.
+    /// Comes after a look in vain: it is short at first, then it lets other threads run, then it says that the thread is about to sleep,
+    /// and after one more look it sleeps.
     pub(crate) fn pause<R: Wait>(&mut self, rt: &R, at: &Parking) {
-        if self.made < LOOKS {
+        if self.made < SPINS {
             self.made += 1;
             spin_loop();
+        } else if self.made < LOOKS {
+            self.made += 1;
+            yield_now();
         } else if self.made == LOOKS {
             self.made += 1;
             at.parked.store(1, Ordering::SeqCst);

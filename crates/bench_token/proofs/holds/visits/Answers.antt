@@ -1,4 +1,3 @@
-use Rattle.std.proofs.Common.{ap, ◌∙◌}
 use Rattle.leader_token.proofs.Told.{as_it_was}
 use Rattle.bench_token.proofs.holds.visits.Goals as goal
 

@@ -3,10 +3,12 @@
 ghost use Rattle.std.specs.Prelude.{◌≡◌, ◌≤◌, IfOk, length, false};
 ghost use Rattle.module_stream.specs.Streams.{has_started};
 
-use super::*;
-use crate::text::full_block;
+use crate::KeepTask;
 use ev_types::NoMemory;
-use message_block::Message;
+use message_block::{Block, Message};
+use module_stream::{
+    FormatTask, Messages, Module, PassTask, PushRefused, SeparateTask, Stream, StreamRefused,
+};
 use std::alloc::Global;
 use std::test::Fail;
 
@@ -14,7 +16,9 @@ use std::test::Fail;
 fn message_of(alloc: Global, bytes: &[u8], priority: u32) -> Result<Message, NoMemory>
     requires { length bytes.now ≤ 1048576 }
 {
-    match Message::new(alloc, full_block(alloc, bytes)?, priority) {
+    let mut block = Block::new(alloc, bytes.len())?;
+    let _ = block.write(bytes);
+    match Message::new(alloc, block, priority) {
         Ok(message) => Ok(message),
         Err((_, refused)) => Err(refused),
     }
@@ -140,5 +144,31 @@ fn a_record_becomes_its_line(rt: HostRuntime) -> Result<(), Fail> {
         Some(3)
     );
     assert_eq!(rt; sizes(stream.finish()), Ok((0, 0, 0)));
+    Ok(())
+}
+
+#[test]
+fn kept_messages_come_at_the_end(rt: HostRuntime) -> Result<(), Fail> {
+    let alloc = rt.alloc();
+    let mut stream = Stream::new(alloc);
+    let separating = Module {
+        name: 1,
+        writer: Box::new(alloc, SeparateTask::new(alloc))?,
+        reader: Box::new(alloc, PassTask::new(alloc))?,
+    };
+    assert_eq!(rt; push(&mut stream, separating), None);
+    let keeping = Module {
+        name: 2,
+        writer: Box::new(alloc, KeepTask::new(alloc))?,
+        reader: Box::new(alloc, PassTask::new(alloc))?,
+    };
+    assert_eq!(rt; push(&mut stream, keeping), None);
+    for bytes in [b"one", b"two"] {
+        assert_eq!(rt;
+            sizes(stream.put(message_of(alloc, bytes.as_slice(), 1)?)),
+            Ok((0, 0, 0))
+        );
+    }
+    assert_eq!(rt; sizes(stream.finish()), Ok((2, 2, 4)));
     Ok(())
 }

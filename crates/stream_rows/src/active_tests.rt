@@ -1,10 +1,9 @@
 //! Active tasks: worked examples.
 ghost use Rattle.std.specs.Prelude.{◌≡◌};
 
-use crate::here::Here;
-use crate::{ActiveTask, Messages, PassTask, Task};
 use ev_types::NoMemory;
 use message_block::{Block, Message};
+use module_stream::{ActiveTask, Messages, PassTask, Task};
 use std::alloc::Global;
 use std::sync::atomic::{AtomicBool, Ordering};
 use std::sync::{Arc, Wait};
@@ -143,29 +142,5 @@ fn task_runs_beside(rt: HostRuntime) -> Result<(), Fail> {
     }
     assert!(rt; seen.load(Ordering::SeqCst));
     assert_eq!(rt; numbers.as_slice(), [7].as_slice());
-    Ok(())
-}
-
-#[test]
-fn the_caller_runs_a_task(rt: HostRuntime) -> Result<(), Fail> {
-    let mut here = Here {
-        task: PassTask::new(rt.alloc()),
-        lost: false,
-        held: Vec::new(rt.alloc()),
-    };
-    let mut numbers = Vec::new(rt.alloc());
-    note(
-        Messages::new(here.put(message_of(rt.alloc(), 3)?)),
-        &mut numbers,
-    )?;
-    note(
-        Messages::new(here.put(message_of(rt.alloc(), 4)?)),
-        &mut numbers,
-    )?;
-    match here.finish() {
-        Ok(rest) => note(rest, &mut numbers)?,
-        Err((_, refused)) => return Err(refused.into()),
-    }
-    assert_eq!(rt; numbers.as_slice(), [3, 4].as_slice());
     Ok(())
 }

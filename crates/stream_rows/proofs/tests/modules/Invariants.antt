@@ -1,6 +1,6 @@
 use Rattle.std.proofs.Common.{◌≡◌, false}
 use Rattle.module_stream.specs.Streams.{has_started}
-use Rattle.module_stream.proofs.tests.modules.Given as goal
+use Rattle.stream_rows.proofs.tests.modules.Given as goal
 
 -- no message was put yet
 abbrev pub invariant-loop-name : goal.invariant-loop-name

@@ -1,0 +1,10 @@
+//! Streams and active tasks over messages with known bytes, and a task that keeps its messages until it is finished.
+#![tactic(auto)]
+
+#[cfg(test)]
+mod active_tests;
+mod keep;
+#[cfg(test)]
+mod tests;
+
+pub use keep::KeepTask;
