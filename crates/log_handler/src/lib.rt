@@ -13,5 +13,3 @@ pub use line_sink::LineSink;
 pub use log_lines::EndKind;
 pub use note::ServerNote;
 
-#[cfg(test)]
-mod tests;

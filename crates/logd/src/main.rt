@@ -19,7 +19,7 @@ fn main(rt: HostRuntime) -> ExitCode {
         Ok(words) => words,
         Err(status) => return end_with(&rt, status, 0),
     };
-    let input = StdSource::new(rt.reader());
+    let input = StdSource::new(rt.stdin());
     let output = StdSink::new(io::writer(&rt));
     let mut host = NoHost::new();
     let Served { status, at, .. } = logd_main(

@@ -4,7 +4,7 @@ use Rattle.std.specs.Option.{option_to_list}
 use Rattle.std.proofs.lemmas.Bool.{false≢true}
 use Rattle.std.proofs.lemmas.List.{append-nil}
 use Rattle.std.proofs.Math.Seq.{drop-length}
-use Rattle.ev_base.specs.Counts.{Rose}
+use Rattle.ev_base.specs.Counts.{counted}
 use Rattle.ev_base.specs.Bytes.{ReaderBytes, MovesOn, NothingLeft}
 use Rattle.ev_base.specs.Source.{SourceFacts}
 use Rattle.ev_base.specs.Sink.{SinkFacts, GrowsBy}
@@ -14,7 +14,9 @@ use Rattle.cdr_record.proofs.Runs.{bad_ends}
 use Rattle.log_lines.specs.declared.end_kind.EndKind.{EndKind}
 use Rattle.log_lines.specs.declared.end_kind.EndKind.TheVariants as kind
 use Rattle.reactor_journal.specs.declared.entry.Entry.{Entry}
-use Rattle.reactor_journal.specs.declared.entry.Entry.TheVariants.{Ended}
+use Rattle.reactor_journal.specs.declared.entry.Entry.TheVariants.{Polled, Ended}
+use Rattle.reactor_journal.specs.Past.{past_of, reason_of}
+use Rattle.ev_types.specs.declared.upcall.Why.TheVariants.{Own}
 use Rattle.reactor_journal.specs.Follow.{Legal}
 use Rattle.reactor_model.specs.Volumes.{VolumesFacts}
 use Rattle.log_handler.specs.declared.note.ServerNote.{ServerNote}
@@ -23,17 +25,17 @@ use Rattle.log_handler.specs.declared.line_sink.LineSink.{LineSink}
 use Rattle.log_handler.specs.Notes.{journal_lines}
 use Rattle.log_handler.specs.Connection.{end_of}
 use Rattle.log_handler.specs.LineSink.{PutsLines, is_broken, sink_of}
-use Rattle.one_net.specs.OneKeeps.{FaultsSince, most_input}
+use Rattle.one_net.specs.OneKeeps.{most_input}
 use Rattle.one_run.specs.Phases.{first_entry, IsFinished}
 use Rattle.one_run.specs.Running.{VolumesSince, is_lost}
-use Rattle.one_run.specs.Opening.{LeavesUnopened}
+use Rattle.one_run.specs.Opening.{CountsWrite, LeavesUnopened}
 use Rattle.one_run.specs.declared.opening.Unopened.{Unopened}
 use Rattle.one_run.specs.declared.serving.Halt.{Halt}
 use Rattle.one_run.specs.declared.serving.Halt.TheVariants as halt
 use Rattle.logging_server.specs.Written.{TookAll, TookFront, IsWritten}
-use Rattle.logging_server.specs.Outcome.{lines_of, IsReadToEnd, IsClosedWith, TakesInput, ComesTo}
-use Rattle.logging_server.specs.Journals.{IsTold, IsTakenAndHeld, IsOver, StandsFor}
-use Rattle.logging_server.specs.Statuses.{IsMalformed, DecodesLeft, HasLines, IsDone, IsReadFault, IsNoMemory, IsTooLong, IsVolumeFault, HasStatus, code_of}
+use Rattle.logging_server.specs.Outcome.{lines_of, IsReadToEnd, IsClosedWith, TakesInput, ComesTo, IsMalformed, EndsAsRead}
+use Rattle.logging_server.specs.Journals.{IsTold, IsTakenAndHeld, IsOver, StandsFor, SomeJournal}
+use Rattle.logging_server.specs.Statuses.{DecodesLeft, HasLines, IsDone, IsReadFault, IsNoMemory, IsTooLong, IsVolumeFault, HasStatus, code_of}
 use Rattle.logging_server.specs.Ran.{RunsOne, status_without_fault, status_of}
 use Rattle.logging_server.specs.declared.status.Status.{Status}
 use Rattle.logging_server.specs.declared.status.Status.TheVariants as status
@@ -66,7 +68,7 @@ module _ {K : Type 0} (facts : K → SinkFacts) (t : Terms) (o : SinkFacts) (ope
         front = b.front;
         is_front = b.is_front;
         text = λ start told. grows puts.start.text (facts (sink_of sink)).text b.front start (puts.opening start (opening ∙ told)) b.text;
-        rose = subst (λ (n : ℕ). Rose n (facts (sink_of sink)).faults) (puts.faults o.faults faults) b.rose;
+        one_failed = b.rose ∙ ap counted (puts.faults o.faults faults);
       }
 
   pub wrote : (broken : Bool) → broken ≡ is_broken sink → IsWritten broken o (journal_lines h) (facts (sink_of sink))
@@ -107,12 +109,12 @@ failed_word j failed taken extra decoded kind.Idle closed unsound = absurd close
 failed_word j failed taken extra decoded kind.Refused closed unsound = absurd closed
 
 -- a connection that ended itself, with memory and without a fault, ended as reading stopped
-record EndsAsRead (j : SourceFacts) (taken decoded : List ℕ) (word : EndKind) : Type 0 where
+record StopsAsRead (j : SourceFacts) (taken decoded : List ℕ) (word : EndKind) : Type 0 where
   same : decoded ≡ taken
   word_is : word ≡ end_of (decode taken).stop
   all : IsMalformed (decode taken).stop ⊎ IsReadToEnd j
 
-done_word : (j : SourceFacts) (taken decoded : List ℕ) (word : EndKind) → IsClosedWith j false taken [] decoded word → (word ≡ kind.Stopped → ⊥) → is_lost (note.Finished 0 word) ≡ false → EndsAsRead j taken decoded word
+done_word : (j : SourceFacts) (taken decoded : List ℕ) (word : EndKind) → IsClosedWith j false taken [] decoded word → (word ≡ kind.Stopped → ⊥) → is_lost (note.Finished 0 word) ≡ false → StopsAsRead j taken decoded word
 done_word j taken decoded kind.End closed own kept = record { same = closed.0; word_is = ap end_of (sym closed.1); all = inr closed.2 }
 done_word j taken decoded (kind.Partial n) closed own kept = record { same = closed.0; word_is = ap end_of (sym closed.1); all = inr closed.2 }
 done_word j taken decoded (kind.Malformed at) closed own kept = record { same = closed.0; word_is = ap end_of (sym closed.1); all = inl (subst IsMalformed (sym closed.1) tt) }
@@ -130,25 +132,49 @@ one_more : (extra : Option ℕ) → option_to_list extra ≢ [] → (more : ℕ)
 one_more None some = absurd (some refl)
 one_more (Some more) some = (more, refl)
 
+-- The connection closed itself, and a wait was made behind that.
+pub record ClosesItself {failed : Bool} {i j : SourceFacts} {h : List (Entry ServerNote)} (run : ComesTo most_input failed i j h) (lost : Bool) : Type 0 where
+  pub own : reason_of (past_of run.closes.before) 0 ≡ Own
+  pub not_stopped : run.word ≡ kind.Stopped → ⊥
+  pub lost_is : lost ≡ is_lost (note.Finished 0 run.word)
+  pub moment : ℕ
+  pub rest : run.closes.rest ≡ Polled moment ∷ Ended ∷ []
+
 -- What is known of a run that was not begun in vain: the connection's outcome, what was written, why the run was halted, and whether its
 -- connection was closed for want of memory.
 pub record Known (i : SourceFacts) (o : SinkFacts) (j : SourceFacts) (p : SinkFacts) (h : List (Entry ServerNote)) (before now : ℕ) (extra : Option ℕ) (failed broken too_long lost : Bool) (why : Option Halt) : Type 0 where
   pub run : ComesTo most_input failed i j h
   pub extra_is : run.extra ≡ option_to_list extra
-  pub lines : journal_lines h ≡ lines_of run.decoded run.word
   pub written : IsWritten broken o (journal_lines h) p
-  pub closed : why ≡ None → (run.word ≡ kind.Stopped → ⊥) × (lost ≡ is_lost (note.Finished 0 run.word))
+  pub closed : why ≡ None → ClosesItself run lost
   pub volumes : VolumesSince why before now
   pub halted : why ≡ Some halt.Broken → broken ≡ true
   pub met : too_long ≡ true → option_to_list extra ≢ []
   pub not_met : too_long ≡ false → option_to_list extra ≡ []
+
+-- which number a run has that had no fault of input or output, and where
+data CodeOf (too_long lost : Bool) (why : Option Halt) (n : ℕ) : Type 0 where
+  WithoutMemory : n ≡ 6 → CodeOf too_long lost why n
+  TooLong : n ≡ 11 → too_long ≡ true → CodeOf too_long lost why n
+  Done : n ≡ 0 → too_long ≡ false → lost ≡ false → why ≡ None → CodeOf too_long lost why n
+  Halted : n ≡ 12 → CodeOf too_long lost why n
+
+code_cases : (too_long lost : Bool) (why : Option Halt) → CodeOf too_long lost why (code_of (status_without_fault too_long lost why))
+code_cases too_long true why = WithoutMemory refl
+code_cases too_long false (Some halt.NoMemory) = WithoutMemory refl
+code_cases true false None = TooLong refl refl
+code_cases true false (Some halt.VolumesFailed) = TooLong refl refl
+code_cases true false (Some halt.Broken) = TooLong refl refl
+code_cases false false None = Done refl refl refl refl
+code_cases false false (Some halt.VolumesFailed) = Halted refl
+code_cases false false (Some halt.Broken) = Halted refl
 
 module _ (i : SourceFacts) (o : SinkFacts) (j : SourceFacts) (p : SinkFacts) (h : List (Entry ServerNote)) (before now : ℕ) (extra : Option ℕ) where
   abbrev Knows : Bool → Bool → Bool → Bool → Option Halt → Type 0
   Knows = Known i o j p h before now extra
 
   abbrev due : (broken too_long lost : Bool) (why : Option Halt) → Knows false broken too_long lost why → HasLines most_input i j (journal_lines h)
-  due broken too_long lost why k = record { taken = k.run.taken; extra = k.run.extra; decoded = k.run.decoded; word = k.run.word; takes = k.run.takes; closed = k.run.closed; is = k.lines }
+  due broken too_long lost why k = record { taken = k.run.taken; extra = k.run.extra; decoded = k.run.decoded; word = k.run.word; takes = k.run.takes; closed = k.run.closed; is = k.run.lines }
 
   read_fault : (broken too_long lost : Bool) (why : Option Halt) → Knows true broken too_long lost why → IsReadFault most_input i o j p
   read_fault broken too_long lost why k = record { taken = k.run.taken; extra = k.run.extra; takes = k.run.takes; written = by broken k.written }
@@ -157,7 +183,7 @@ module _ (i : SourceFacts) (o : SinkFacts) (j : SourceFacts) (p : SinkFacts) (h 
       failing = failed_word j true k.run.taken k.run.extra k.run.decoded k.run.word k.run.closed (λ sound. false≢true (sym sound.0))
 
       text : journal_lines h ≡ lines_of k.run.taken kind.Failed
-      text = k.lines ∙ (ap (λ (word : EndKind). lines_of k.run.decoded word) failing.0 ∙ ap (λ (bytes : List ℕ). lines_of bytes kind.Failed) failing.1)
+      text = k.run.lines ∙ (ap (λ (word : EndKind). lines_of k.run.decoded word) failing.0 ∙ ap (λ (bytes : List ℕ). lines_of bytes kind.Failed) failing.1)
 
       by : (broken : Bool) → IsWritten broken o (journal_lines h) p → TookAll o (lines_of k.run.taken kind.Failed) p ⊎ TookFront o (lines_of k.run.taken kind.Failed) p
       by false w = inl (subst (λ (text : List ℕ). TookAll o text p) text w)
@@ -171,7 +197,7 @@ module _ (i : SourceFacts) (o : SinkFacts) (j : SourceFacts) (p : SinkFacts) (h 
       let behind = one_more extra (k.met refl) in
       let is : k.run.extra ≡ behind.0 ∷ [] = k.extra_is ∙ behind.1 in
       let failing = failed_word j false k.run.taken k.run.extra k.run.decoded k.run.word k.run.closed (λ sound. k.met refl (sym k.extra_is ∙ sound.1)) in
-      let text : journal_lines h ≡ lines_of k.run.taken kind.Failed = k.lines ∙ (ap (λ (word : EndKind). lines_of k.run.decoded word) failing.0 ∙ ap (λ (bytes : List ℕ). lines_of bytes kind.Failed) failing.1) in
+      let text : journal_lines h ≡ lines_of k.run.taken kind.Failed = k.run.lines ∙ (ap (λ (word : EndKind). lines_of k.run.decoded word) failing.0 ∙ ap (λ (bytes : List ℕ). lines_of bytes kind.Failed) failing.1) in
       record {
         taken = k.run.taken;
         more = behind.0;
@@ -179,19 +205,26 @@ module _ (i : SourceFacts) (o : SinkFacts) (j : SourceFacts) (p : SinkFacts) (h 
         written = subst (λ (text : List ℕ). TookAll o text p) text k.written;
       }
 
-  done : Knows false false false false None → IsDone most_input i o j p
-  done k =
-      let none : k.run.extra ≡ [] = k.extra_is ∙ k.not_met refl in
-      let takes = subst (λ (extra : List ℕ). TakesInput most_input false i j k.run.taken extra) none k.run.takes in
+  ends_as_read : (too_long lost : Bool) (why : Option Halt) (k : Knows false false too_long lost why) → too_long ≡ false → lost ≡ false → why ≡ None → EndsAsRead k.run
+  ends_as_read too_long lost why k not_long kept none_halted =
+      let none : k.run.extra ≡ [] = k.extra_is ∙ k.not_met not_long in
       let closed = subst (λ (extra : List ℕ). IsClosedWith j false k.run.taken extra k.run.decoded k.run.word) none k.run.closed in
-      let ends = done_word j k.run.taken k.run.decoded k.run.word closed (k.closed refl).0 (sym (k.closed refl).1) in
-      let text : journal_lines h ≡ lines_of k.run.taken (end_of (decode k.run.taken).stop) = k.lines ∙ (ap (λ (word : EndKind). lines_of k.run.decoded word) ends.word_is ∙ ap (λ (bytes : List ℕ). lines_of bytes (end_of (decode k.run.taken).stop)) ends.same) in
+      let itself = k.closed none_halted in
+      let ends = done_word j k.run.taken k.run.decoded k.run.word closed itself.not_stopped (sym itself.lost_is ∙ kept) in
+      record { own = itself.own; word_is = ends.word_is; decodes = ends.same; all = ends.all; none_behind = none; moment = itself.moment; rest = itself.rest }
+
+  done : Knows false false false false None → IsDone most_input i o j p before now
+  done k =
+      let ends = ends_as_read false false None k refl refl refl in
+      let takes = subst (λ (extra : List ℕ). TakesInput most_input false i j k.run.taken extra) ends.none_behind k.run.takes in
+      let text : journal_lines h ≡ lines_of k.run.taken (end_of (decode k.run.taken).stop) = k.run.lines ∙ (ap (λ (word : EndKind). lines_of k.run.decoded word) ends.word_is ∙ ap (λ (bytes : List ℕ). lines_of bytes (end_of (decode k.run.taken).stop)) ends.decodes) in
       record {
         taken = k.run.taken;
         takes = takes;
         all = ends.all;
         decodes = decodes-left i.bytes j k.run.taken takes.moves ends.all;
         written = subst (λ (text : List ℕ). TookAll o text p) text k.written;
+        volumes = k.volumes;
       }
 
   volume_fault : Knows false false false false (Some halt.VolumesFailed) → IsVolumeFault most_input i o j p before now
@@ -214,14 +247,44 @@ module _ (i : SourceFacts) (o : SinkFacts) (j : SourceFacts) (p : SinkFacts) (h 
   -- ---- what the journal says
 
   not_four : (too_long lost : Bool) (why : Option Halt) → code_of (status_without_fault too_long lost why) ≡ 4 → ⊥
-  not_four too_long true why q = omega (arith, q)
-  not_four too_long false (Some halt.NoMemory) q = omega (arith, q)
-  not_four true false None q = omega (arith, q)
-  not_four true false (Some halt.VolumesFailed) q = omega (arith, q)
-  not_four true false (Some halt.Broken) q = omega (arith, q)
-  not_four false false None q = omega (arith, q)
-  not_four false false (Some halt.VolumesFailed) q = omega (arith, q)
-  not_four false false (Some halt.Broken) q = omega (arith, q)
+  not_four too_long lost why q = elim (code_cases too_long lost why) [ WithoutMemory e ↦ omega (arith, q, e) | TooLong e long ↦ omega (arith, q, e) | Done e short kept none ↦ omega (arith, q, e) | Halted e ↦ omega (arith, q, e) ]
+
+  not_three : (too_long lost : Bool) (why : Option Halt) → code_of (status_without_fault too_long lost why) ≡ 3 → ⊥
+  not_three too_long lost why q = elim (code_cases too_long lost why) [ WithoutMemory e ↦ omega (arith, q, e) | TooLong e long ↦ omega (arith, q, e) | Done e short kept none ↦ omega (arith, q, e) | Halted e ↦ omega (arith, q, e) ]
+
+  -- with status 0 it ended as reading stops
+  at_zero : (failed broken too_long lost : Bool) (why : Option Halt) (k : Knows failed broken too_long lost why) → code_of (status_of failed broken too_long lost why) ≡ 0 → EndsAsRead k.run
+  at_zero true broken too_long lost why k q = absurd (omega (arith, q))
+  at_zero false true too_long lost why k q = absurd (omega (arith, q))
+  at_zero false false too_long lost why k q =
+      elim (code_cases too_long lost why) [
+        WithoutMemory e ↦ absurd (omega (arith, q, e))
+        | TooLong e long ↦ absurd (omega (arith, q, e))
+        | Done e short kept none ↦ ends_as_read too_long lost why k short kept none
+        | Halted e ↦ absurd (omega (arith, q, e))
+      ]
+
+  -- with status 11 a byte was met behind the limit
+  at_eleven : (failed broken too_long lost : Bool) (why : Option Halt) (k : Knows failed broken too_long lost why) → code_of (status_of failed broken too_long lost why) ≡ 11 → k.run.extra ≢ []
+  at_eleven true broken too_long lost why k q = absurd (omega (arith, q))
+  at_eleven false true too_long lost why k q = absurd (omega (arith, q))
+  at_eleven false false too_long lost why k q =
+      elim (code_cases too_long lost why) [
+        WithoutMemory e ↦ absurd (omega (arith, q, e))
+        | TooLong e long ↦ λ none. k.met long (sym k.extra_is ∙ none)
+        | Done e short kept none ↦ absurd (omega (arith, q, e))
+        | Halted e ↦ absurd (omega (arith, q, e))
+      ]
+
+  -- a read failed with status 3 and with no other
+  at_three : (failed broken too_long lost : Bool) (why : Option Halt) → code_of (status_of failed broken too_long lost why) ≡ 3 → failed ≡ true
+  at_three true broken too_long lost why q = refl
+  at_three false true too_long lost why q = absurd (omega (arith, q))
+  at_three false false too_long lost why q = absurd (not_three too_long lost why q)
+
+  at_others : (failed broken too_long lost : Bool) (why : Option Halt) → code_of (status_of failed broken too_long lost why) ≢ 3 → failed ≡ false
+  at_others true broken too_long lost why other = absurd (other refl)
+  at_others false broken too_long lost why other = refl
 
   not_empty : {A : Type 0} (e : A) (xs ys : List A) → xs ≡ e ∷ ys → xs ≢ []
   not_empty e xs ys is none = cc
@@ -231,7 +294,15 @@ module _ (i : SourceFacts) (o : SinkFacts) (j : SourceFacts) (p : SinkFacts) (h 
   stands_for f legal failed broken too_long lost why k = record {
     over = inr (finished_is_over h legal f);
     some = λ code. not_empty first_entry h f.served f.is;
-    run = inr (record { one = record { served = f.served; is = f.is; kinds = f.kinds; none_refused = finished_refuses_none h legal f }; failed = failed; comes_to = k.run });
+    run = inr (record {
+      one = record { served = f.served; is = f.is; kinds = f.kinds; none_refused = finished_refuses_none h legal f };
+      failed = failed;
+      run = k.run;
+      done = λ code. at_zero failed broken too_long lost why k code;
+      read_fault = λ code. at_three failed broken too_long lost why code;
+      no_read_fault = λ other. at_others failed broken too_long lost why other;
+      too_long = λ code. at_eleven failed broken too_long lost why k code;
+    });
     written = either broken k.written;
     whole = λ not_three not_four. all failed broken k.written not_three not_four;
     broken = λ code. front failed broken k.written code;
@@ -264,17 +335,17 @@ IsSame old new = (start : List ℕ) → old ≡ Some start → new ≡ Some star
 nothing_whole : (o p : SinkFacts) → IsSame o.text p.text → p.faults ≡ o.faults → TookAll o [] p
 nothing_whole o p same faults = record { text = λ start told. same start told ∙ ap Some (sym (append-nil start)); faults = faults }
 
-nothing_broken : (o p : SinkFacts) → IsSame o.text p.text → Rose o.faults p.faults → TookFront o [] p
-nothing_broken o p same rose = record { front = []; is_front = ([], refl); text = λ start told. same start told ∙ ap Some (sym (append-nil start)); rose = rose }
+nothing_broken : (o p : SinkFacts) → IsSame o.text p.text → p.faults ≡ counted o.faults → TookFront o [] p
+nothing_broken o p same one_failed = record { front = []; is_front = ([], refl); text = λ start told. same start told ∙ ap Some (sym (append-nil start)); one_failed = one_failed }
 
-nothing_written : (o p : SinkFacts) (broken : Bool) → IsSame o.text p.text → FaultsSince broken o.faults p.faults → IsWritten broken o [] p
+nothing_written : (o p : SinkFacts) (broken : Bool) → IsSame o.text p.text → CountsWrite broken o.faults p.faults → IsWritten broken o [] p
 nothing_written o p true same faults = nothing_broken o p same faults
 nothing_written o p false same faults = nothing_whole o p same faults
 
-unbegun_status : (i : SourceFacts) (o : SinkFacts) (j : SourceFacts) (p : SinkFacts) (before now : ℕ) (broken : Bool) → j.bytes ≡ i.bytes → j.faults ≡ i.faults → IsWritten broken o [] p
+unbegun_status : (i : SourceFacts) (o : SinkFacts) (j : SourceFacts) (p : SinkFacts) (before now : ℕ) (broken : Bool) → j.bytes ≡ i.bytes → j.gave ≡ i.gave → j.faults ≡ i.faults → IsWritten broken o [] p
     → HasStatus most_input i o j p before now (status_unbegun broken)
-unbegun_status i o j p before now true bytes faults written = record { text = []; due = inr (record { bytes = bytes; faults = faults; is = refl }); written = written }
-unbegun_status i o j p before now false bytes faults written = record { text = []; due = inr (record { bytes = bytes; faults = faults; is = refl }); written = written }
+unbegun_status i o j p before now true bytes gave faults written = record { text = []; due = inr (record { bytes = bytes; gave = gave; faults = faults; is = refl }); written = written }
+unbegun_status i o j p before now false bytes gave faults written = record { text = []; due = inr (record { bytes = bytes; gave = gave; faults = faults; is = refl }); written = written }
 
 no_lines : (journal : List (Entry ServerNote)) → (journal ≡ []) ⊎ (journal ≡ Ended ∷ []) → journal_lines journal ≡ []
 no_lines journal (inl none) = ap journal_lines none
@@ -284,15 +355,15 @@ over_at_once : (journal : List (Entry ServerNote)) → (journal ≡ []) ⊎ (jou
 over_at_once journal (inl none) = inl none
 over_at_once journal (inr ended) = inr (subst IsOver (sym ended) end_is_over)
 
-unbegun_stands : (i : SourceFacts) (o : SinkFacts) (j : SourceFacts) (p : SinkFacts) (journal : List (Entry ServerNote)) (broken : Bool) → j.bytes ≡ i.bytes → j.faults ≡ i.faults → IsWritten broken o [] p
+unbegun_stands : (i : SourceFacts) (o : SinkFacts) (j : SourceFacts) (p : SinkFacts) (journal : List (Entry ServerNote)) (broken : Bool) → j.bytes ≡ i.bytes → j.gave ≡ i.gave → j.faults ≡ i.faults → IsWritten broken o [] p
     → (journal ≡ []) ⊎ (journal ≡ Ended ∷ []) → StandsFor most_input i o j p (code_of (status_unbegun broken)) journal
-unbegun_stands i o j p journal broken bytes faults written entries = by broken (subst (λ (text : List ℕ). IsWritten broken o text p) (sym (no_lines journal entries)) written)
+unbegun_stands i o j p journal broken bytes gave faults written entries = by broken (subst (λ (text : List ℕ). IsWritten broken o text p) (sym (no_lines journal entries)) written)
   where
     by : (broken : Bool) → IsWritten broken o (journal_lines journal) p → StandsFor most_input i o j p (code_of (status_unbegun broken)) journal
     by true w = record {
       over = over_at_once journal entries;
       some = λ code. absurd (omega (arith, code));
-      run = inl (record { entries = entries; bytes = bytes; faults = faults });
+      run = inl (record { entries = entries; bytes = bytes; gave = gave; faults = faults; code_is = inr (inl refl) });
       written = inr w;
       whole = λ not_three not_four. absurd (not_four refl);
       broken = λ code. w;
@@ -300,14 +371,14 @@ unbegun_stands i o j p journal broken bytes faults written entries = by broken (
     by false w = record {
       over = over_at_once journal entries;
       some = λ code. absurd (omega (arith, code));
-      run = inl (record { entries = entries; bytes = bytes; faults = faults });
+      run = inl (record { entries = entries; bytes = bytes; gave = gave; faults = faults; code_is = inr (inr refl) });
       written = inl w;
       whole = λ not_three not_four. w;
       broken = λ code. absurd (omega (arith, code));
     }
 
 -- nothing was handed over
-held_is : (v : VolumesFacts ServerNote) (held journal : List (Entry ServerNote)) → IsTold v v 0 held journal → journal ≡ held
+pub held_is : (v : VolumesFacts ServerNote) (held journal : List (Entry ServerNote)) → IsTold v v 0 held journal → journal ≡ held
 held_is v held journal (inr by) = by.1
 held_is v held journal (inl by) = by_taken v.taken by
   where
@@ -320,13 +391,38 @@ pub unbegun : {S K V : Type 0} (source : S → SourceFacts) (sink : K → SinkFa
     → RunsOne source sink volumes most_input (source input) (sink output) (volumes left.volumes) (record { status = status; journal = left.journal; first = 0; input = left.input; output = left.output; volumes = left.volumes })
 unbegun source sink volumes input output left status is leaves = record {
   status = subst (λ (status : Status). HasStatus most_input (source input) (sink output) (source left.input) (sink left.output) (volumes left.volumes).faults (volumes left.volumes).faults status) (sym is)
-      (unbegun_status (source input) (sink output) (source left.input) (sink left.output) (volumes left.volumes).faults (volumes left.volumes).faults left.broken leaves.bytes leaves.faults written);
+      (unbegun_status (source input) (sink output) (source left.input) (sink left.output) (volumes left.volumes).faults (volumes left.volumes).faults left.broken leaves.bytes leaves.gave leaves.faults written);
   journal = λ journal told. subst (λ (status : Status). StandsFor most_input (source input) (sink output) (source left.input) (sink left.output) (code_of status) journal) (sym is)
       (subst (λ (entries : List (Entry ServerNote)). StandsFor most_input (source input) (sink output) (source left.input) (sink left.output) (code_of (status_unbegun left.broken)) entries)
       (sym (held_is (volumes left.volumes) left.journal.entries journal told))
-      (unbegun_stands (source input) (sink output) (source left.input) (sink left.output) left.journal.entries left.broken leaves.bytes leaves.faults written leaves.journal));
+      (unbegun_stands (source input) (sink output) (source left.input) (sink left.output) left.journal.entries left.broken leaves.bytes leaves.gave leaves.faults written leaves.journal));
+  some_journal = subst (λ (status : Status). SomeJournal most_input (source input) (sink output) (source left.input) (sink left.output) (code_of status) 0 left.journal.entries) (sym is) (record {
+    journal = left.journal.entries;
+    within = omega arith;
+    is_held = refl;
+    stands = unbegun_stands (source input) (sink output) (source left.input) (sink left.output) left.journal.entries left.broken leaves.bytes leaves.gave leaves.faults written leaves.journal;
+  });
   first = none_handed_over (volumes left.volumes).taken;
 }
   where
     written : IsWritten left.broken (sink output) [] (sink left.output)
     written = nothing_written (sink output) (sink left.output) left.broken leaves.text leaves.output_faults
+
+-- ---- other words
+
+-- nothing was done
+refused_stands : (i : SourceFacts) (o : SinkFacts) (code : ℕ) → code ≡ 1 → StandsFor most_input i o i o code []
+refused_stands i o code is = record {
+  over = inl refl;
+  some = λ done. absurd (omega (arith, is, done));
+  run = inl (record { entries = inl refl; bytes = refl; gave = refl; faults = refl; code_is = inl is });
+  written = inl (nothing_whole o o (λ start told. told) refl);
+  whole = λ not_three not_four. nothing_whole o o (λ start told. told) refl;
+  broken = λ failed. absurd (omega (arith, is, failed));
+}
+
+pub refused : (i : SourceFacts) (o : SinkFacts) (v : VolumesFacts ServerNote) (code : ℕ) (entries journal : List (Entry ServerNote)) → code ≡ 1 → entries ≡ [] → IsTold v v 0 entries journal → StandsFor most_input i o i o code journal
+refused i o v code entries journal is none told = subst (λ (journal : List (Entry ServerNote)). StandsFor most_input i o i o code journal) (sym (held_is v entries journal told ∙ none)) (refused_stands i o code is)
+
+pub refused_some : (i : SourceFacts) (o : SinkFacts) (code : ℕ) (entries : List (Entry ServerNote)) → code ≡ 1 → entries ≡ [] → SomeJournal most_input i o i o code 0 entries
+refused_some i o code entries is none = record { journal = []; within = omega arith; is_held = none; stands = refused_stands i o code is }

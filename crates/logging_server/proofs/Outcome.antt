@@ -4,7 +4,7 @@ use Rattle.std.specs.Prelude.{flat_map, nat_lt, is_none, ◌&&◌}
 use Rattle.std.specs.Option.{option_to_list}
 use Rattle.std.specs.List.{sum_by}
 use Rattle.std.proofs.lemmas.Bool.{false≢true, and_parts}
-use Rattle.std.proofs.lemmas.List.{append-nil}
+use Rattle.std.proofs.lemmas.List.{append-nil, length-append}
 use Rattle.std.proofs.lemmas.List.Sums.{sum_by-cons}
 use Rattle.std.proofs.lemmas.Grind.{flat_map-append}
 use Rattle.ev_types.specs.declared.upcall.Why.{Why}
@@ -30,11 +30,11 @@ use Rattle.log_handler.specs.Connections.{ConnectionGone, HasFaults, IsClosing, 
 use Rattle.log_handler.specs.Laws.{Accounts, CoursesAccount, EndedSo, HasRecords, WasIdle, records_of_note, records_in, took_of, took_in, took_last, last_turn}
 use Rattle.one_net.specs.declared.one_end.OneEnd.{OneEnd}
 use Rattle.one_net.specs.OneEnd.{one_end_facts, is_over, given_by, given_of, end_bytes, extra_of, failed_of, input_of, count_of}
-use Rattle.one_net.specs.OneKeeps.{OneEndKeeps, IsCountOf, most_input}
+use Rattle.one_net.specs.OneKeeps.{OneEndKeeps, most_input}
 use Rattle.one_run.specs.Phases.{one_handle, EndsBy, AllReadOn, IsFinished, note_of, notes_in, turns_in}
 use Rattle.one_run.specs.Opening.{StartsRun}
 use Rattle.one_run.proofs.Leaves.{finished_notes}
-use Rattle.logging_server.specs.Outcome.{lines_of, WhereBytesAreTold, IsReadToEnd, IsClosedWith, TakesInput, TellsConnection, IsWordFor, IsClosedIn, ComesTo}
+use Rattle.logging_server.specs.Outcome.{lines_of, IsReadToEnd, IsClosedWith, TakesInput, TellsConnection, IsWordFor, IsClosedIn, ComesTo}
 use Rattle.logging_server.proofs.Courses.{reads_on, few_turns}
 use Rattle.logging_server.proofs.Lines.{lines_by_notes, lines_of_pieces, pieces_of, records_of_turns}
 
@@ -45,16 +45,6 @@ moves_taken None None extra taken count moves given = tt
 moves_taken None (Some b) extra taken count moves given = absurd moves
 moves_taken (Some a) None extra taken count moves given = absurd moves
 moves_taken (Some a) (Some b) extra taken count moves given = subst (λ (bytes : List ℕ). MovesOn (Some a) (bytes ++ extra) (Some b)) given moves
-
-count_taken : (a b : Option ReaderBytes) (extra taken : List ℕ) (count : ℕ) → MovesOn a (given_by (length extra) count b ++ extra) b → HasGiven (end_bytes extra count b) taken
-    → IsCountOf (given_by (length extra) count b) b count → WhereBytesAreTold a (length taken ≡ count)
-count_taken None b extra taken count moves given counts = tt
-count_taken (Some a) None extra taken count moves given counts = absurd moves
-count_taken (Some a) (Some b) extra taken count moves given counts = sym (ap length given) ∙ counts
-
-where_told : {P Q : Type 0} (a : Option ReaderBytes) → (P → Q) → WhereBytesAreTold a P → WhereBytesAreTold a Q
-where_told None step told = tt
-where_told (Some a) step told = step told
 
 one_byte : (extra : Option ℕ) → option_to_list extra ≢ [] → length (option_to_list extra) ≡ 1
 one_byte None some = absurd (some refl)
@@ -153,12 +143,13 @@ pub record Became {S : Type 0} (source : S → SourceFacts) (i : SourceFacts) (h
   pub extra : run.extra ≡ extra_of end
   pub said : f.closed.note ≡ note.Finished 0 run.word
   pub own : f.closed.reason ≡ Own → run.word ≡ kind.Stopped → ⊥
-  pub lines : journal_lines h ≡ lines_of run.decoded run.word
+  pub before : run.closes.before ≡ f.closed.before
+  pub rest : run.closes.rest ≡ f.closed.rest
 
 idle_is : (time : Option ℕ) (told : Option (Option ℕ)) → told ≡ Some None → ((limit : Option ℕ) → told ≡ Some limit → time ≡ limit) → time ≡ None
 idle_is time told is waits = waits None is
 
-module _ {S : Type 0} (source : S → SourceFacts) (t : Terms) (i : SourceFacts) (o : SinkFacts) (v : VolumesFacts ServerNote) (account : CoursesAccount) (starts : StartsRun t i o v) (faults : t.input_faults ≡ Some i.faults)
+module _ {S : Type 0} (source : S → SourceFacts) (t : Terms) (i : SourceFacts) (o : SinkFacts) (v : VolumesFacts ServerNote) (account : CoursesAccount) (starts : StartsRun t i o v) (gave : t.input_gave ≡ Some i.gave) (faults : t.input_faults ≡ Some i.faults)
     (h : List (Entry ServerNote)) (f : IsFinished h) (origin : Option (Origin ServerNote)) (end : OneEnd S)
     (gone : ConnectionGone (one_end_facts source) (OneEndKeeps source) t origin end (turns_in f.closed.before) f.closed.reason f.closed.note) where
   had : List (Item ServerNote)
@@ -185,14 +176,15 @@ module _ {S : Type 0} (source : S → SourceFacts) (t : Terms) (i : SourceFacts)
   moved : MovesOn i.bytes (given_of source end ++ extra_of end) (source (input_of end)).bytes
   moved = subst (λ (bytes : Option ReaderBytes). MovesOn bytes (given_of source end ++ extra_of end) (source (input_of end)).bytes) starts.source.bytes gone.kept_end.bytes
 
-  counted : WhereBytesAreTold i.bytes (length gone.served.now.taken ≡ count_of end)
-  counted = count_taken i.bytes (source (input_of end)).bytes (extra_of end) gone.served.now.taken (count_of end) moved gone.served.end.given gone.kept_end.counts
+  counted : length gone.served.now.taken ≡ count_of end
+  counted = sym gone.served.end.gave
 
   takes : TakesInput most_input (failed_of end) i (source (input_of end)) gone.served.now.taken (extra_of end)
   takes = record {
     moves = moves_taken i.bytes (source (input_of end)).bytes (extra_of end) gone.served.now.taken (count_of end) moved gone.served.end.given;
-    within = where_told i.bytes (λ same. omega (arith, same, gone.kept_end.within, gone.kept_end.limit)) counted;
-    behind = λ some. where_told i.bytes (λ same. (same ∙ ((gone.kept_end.too_long some).0 ∙ gone.kept_end.limit), one_byte end.extra some)) counted;
+    gave = omega (arith, gone.kept_end.took i.gave gave, counted, length-append gone.served.now.taken (extra_of end));
+    within = omega (arith, counted, gone.kept_end.within, gone.kept_end.limit);
+    behind = λ some. (counted ∙ ((gone.kept_end.too_long some).0 ∙ gone.kept_end.limit), one_byte end.extra some);
     faults = gone.kept_end.source_faults i.faults faults;
   }
 
@@ -227,12 +219,17 @@ module _ {S : Type 0} (source : S → SourceFacts) (t : Terms) (i : SourceFacts)
         (word_for f.closed.reason (turns_in f.closed.before) gone.served.now.kept (last_turn (turns_in f.closed.before)) gone.served.now gone.word f.closed.ends gone.closing accounts.ended);
   }
 
+  lines : journal_lines h ≡ lines_of closed.decoded gone.word
+  lines = lines_of_all h (map note_of (turns_in f.closed.before)) gone.word closed.decoded notes
+      (lines_of_pieces (map note_of (turns_in f.closed.before)) (pieces_of (turns_in f.closed.before) accounts.notes) ∙ ap (λ (records : List LogRecord). record_lines 0 records) noted)
+
   pub became : Became source i h f end
+  unfolding closes_in
   became = record {
-    run = record { taken = gone.served.now.taken; extra = extra_of end; decoded = closed.decoded; word = gone.word; takes = takes; closed = closed.closed; tells = tells; closes = closes_in };
+    run = record { taken = gone.served.now.taken; extra = extra_of end; decoded = closed.decoded; word = gone.word; takes = takes; closed = closed.closed; tells = tells; closes = closes_in; lines = lines };
     extra = refl;
     said = said;
     own = λ own stopped. not_stopped f.closed.reason gone.served.now.kept (last_turn (turns_in f.closed.before)) gone.served.now gone.word own gone.closing accounts.ended stopped;
-    lines = lines_of_all h (map note_of (turns_in f.closed.before)) gone.word closed.decoded notes
-        (lines_of_pieces (map note_of (turns_in f.closed.before)) (pieces_of (turns_in f.closed.before) accounts.notes) ∙ ap (λ (records : List LogRecord). record_lines 0 records) noted);
+    before = refl;
+    rest = refl;
   }

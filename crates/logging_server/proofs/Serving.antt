@@ -1,12 +1,12 @@
 -- What is left of the reactor of a run says what became of the run.
-use Rattle.std.proofs.Common.{ℕ, ◌≡◌, ◌≢◌, Bool, true, false, List, [], ◌∷◌, refl, sym, ap, ◌∙◌, subst, Option, Some, None}
+use Rattle.std.proofs.Common.{ℕ, ◌≡◌, ◌≢◌, ◌⊎◌, Bool, true, false, List, [], ◌∷◌, refl, sym, ap, ◌∙◌, subst, arith, drop, Option, Some, None}
 use Rattle.timer_queue.specs.Content.{Content}
 use Rattle.ev_types.specs.declared.upcall.Why.TheVariants.{Own}
 use Rattle.ev_base.specs.Source.{SourceFacts}
 use Rattle.ev_base.specs.Sink.{SinkFacts}
 use Rattle.ev_base.specs.declared.end.PeerEnd.{Ghosts}
 use Rattle.reactor_journal.specs.declared.entry.Entry.{Entry}
-use Rattle.reactor_journal.specs.Past.{past_of, origin_of}
+use Rattle.reactor_journal.specs.Past.{past_of, origin_of, reason_of}
 use Rattle.reactor_journal.specs.Follow.{Legal}
 use Rattle.reactor_model.specs.Volumes.{VolumesFacts}
 use Rattle.reactor_core.specs.Beginning.{PartsStand}
@@ -25,15 +25,16 @@ use Rattle.one_net.specs.OneEnd.{one_end_facts, extra_of, failed_of, input_of}
 use Rattle.one_net.specs.OneKeeps.{OneEndKeeps, most_input}
 use Rattle.one_net.specs.OneNet.{one_net_facts}
 use Rattle.one_run.specs.Phases.{IsOpened, IsFinished, CanEnd, turns_in}
-use Rattle.one_run.specs.Running.{one_meaning, StandsIn, VolumesSince, is_lost, LeavesParts, ClosedItself, IsShutAs, HasEnded}
-use Rattle.one_run.specs.Opening.{terms_of_run}
+use Rattle.one_run.specs.Running.{one_meaning, VolumesSince, is_lost, LeavesParts, ClosedItself, IsShutAs, HasEnded}
+use Rattle.one_run.specs.Opening.{TakesNothing, terms_of_run}
 use Rattle.one_run.specs.declared.serving.Halt.{Halt}
 use Rattle.one_run.specs.declared.serving.Halt.TheVariants as halt
 use Rattle.one_run.proofs.Begins.{starts}
 use Rattle.one_run.proofs.Leaves.{RetiresOne, retires_one}
-use Rattle.logging_server.specs.Journals.{StandsFor}
-use Rattle.logging_server.specs.Statuses.{code_of}
+use Rattle.logging_server.specs.Journals.{IsTakenAndHeld, AreHandedOver, StandsFor}
+use Rattle.logging_server.specs.Statuses.{HasStatus, code_of}
 use Rattle.logging_server.specs.Ran.{RunsOne, status_of}
+use Rattle.logging_server.specs.declared.one.Ran.{Ran}
 use Rattle.logging_server.specs.declared.status.Status.{Status}
 use Rattle.logging_server.proofs.Journals.{told_is, handed_over}
 use Rattle.logging_server.proofs.Outcome.{Became, became}
@@ -51,7 +52,7 @@ pub record IsLeft {S K V : Type 0} (G : Ghosts (OneEnd S)) (source : S → Sourc
   pub finished : IsFinished journal
   pub stand : PartsStand (one_meaning {G = G} source sink volumes) (λ q. q.timers) (terms_of_run i o v) first journal parts
   -- one that was not halted went on until its connection had closed itself
-  pub closed : why ≡ None → (finished.closed.reason ≡ Own) × (lost ≡ is_lost finished.closed.note)
+  pub closed : why ≡ None → ClosedItself lost journal finished
   pub taken : VolumesSince why v.faults (volumes parts.volumes).faults
   pub broken : why ≡ Some halt.Broken → is_broken parts.watch ≡ true
 
@@ -62,10 +63,10 @@ not_none q = cc
 pub left_of : {S K V : Type 0} (G : Ghosts (OneEnd S)) (source : S → SourceFacts) (sink : K → SinkFacts) (volumes : V → VolumesFacts ServerNote) (i : SourceFacts) (o : SinkFacts) (v : VolumesFacts ServerNote)
     (core : Core (LogConnection (OneEnd S) G) (OneNet S) Content (LineSink K) V ServerNote (OneEnd S)) (parts : Parts ServerNote (OneNet S) Content (LineSink K) V) (why : Option Halt) (lost : Bool) (h : List (Entry ServerNote))
     → HasEnded why lost h → (CanEnd h → LeavesParts (one_meaning {G = G} source sink volumes) (terms_of_run i o v) core (λ h over. Unit {0}) parts)
-    → ((lost : Bool) → IsShutAs 1 lost h → LeavesParts (one_meaning {G = G} source sink volumes) (terms_of_run i o v) core (ClosedItself lost) parts)
+    → ((now : ℕ) (lost : Bool) → IsShutAs (now ∷ []) lost h → LeavesParts (one_meaning {G = G} source sink volumes) (terms_of_run i o v) core (ClosedItself lost) parts)
     → VolumesSince why v.faults (volumes parts.volumes).faults → (why ≡ Some halt.Broken → is_broken parts.watch ≡ true) → IsLeft G source sink volumes i o v parts why lost
 left_of G source sink volumes i o v core parts None lost h ended ends closes taken broken =
-    let l = closes lost ended in
+    let l = closes ended.0 lost ended.1 in
     record { first = l.first; journal = l.journal; legal = l.legal; finished = l.finished; stand = l.stand; closed = λ none. l.so; taken = taken; broken = broken }
 left_of G source sink volumes i o v core parts (Some halt) lost h ended ends closes taken broken =
     let l = ends ended in
@@ -82,16 +83,21 @@ module _ {S K V : Type 0} (G : Ghosts (OneEnd S)) (source : S → SourceFacts) (
       (sym (is_last 0 retired.end (ap Some retired.is))) retired.gone
 
   outcome : Became source i left.journal left.finished last
-  outcome = became source (terms_of_run i o v) i o v account (starts i o v) refl left.journal left.finished _ last gone
+  outcome = became source (terms_of_run i o v) i o v account (starts i o v) refl refl left.journal left.finished _ last gone
 
   module _ (broken too_long : Bool) (is_broken_so : broken ≡ is_broken parts.watch) (met : too_long ≡ true → extra_of last ≢ []) (not_met : too_long ≡ false → extra_of last ≡ []) where
     known : Known i o (source (input_of last)) (sink (sink_of parts.watch)) left.journal v.faults (volumes parts.volumes).faults last.extra (failed_of last) broken too_long lost why
     known = record {
       run = outcome.run;
       extra_is = outcome.extra;
-      lines = outcome.lines;
       written = wrote sink (terms_of_run i o v) o refl refl parts.watch left.journal left.stand.watch broken is_broken_so;
-      closed = λ none. (outcome.own (left.closed none).0, (left.closed none).1 ∙ ap is_lost outcome.said);
+      closed = λ none. record {
+        own = ap (λ (before : List (Entry ServerNote)). reason_of (past_of before) 0) outcome.before ∙ (left.finished.closed.closed_for ∙ (left.closed none).own);
+        not_stopped = outcome.own (left.closed none).own;
+        lost_is = (left.closed none).lost_so ∙ ap is_lost outcome.said;
+        moment = (left.closed none).moment;
+        rest = outcome.rest ∙ (left.closed none).rest;
+      };
       volumes = left.taken;
       halted = λ why. is_broken_so ∙ left.broken why;
       met = met;
@@ -109,10 +115,21 @@ module _ {S K V : Type 0} (G : Ghosts (OneEnd S)) (source : S → SourceFacts) (
               subst (λ (entries : List (Entry ServerNote)). StandsFor most_input i o (source (input_of last)) (sink (sink_of parts.watch)) (code_of (status_of (failed_of last) broken too_long lost why)) entries)
               (sym (told_is (terms_of_run i o v) v (volumes parts.volumes) left.first parts.first parts.journal.entries left.journal journal refl left.stand.volumes left.stand.first left.stand.journal told))
               (stands_for i o (source (input_of last)) (sink (sink_of parts.watch)) left.journal v.faults (volumes parts.volumes).faults last.extra left.finished left.legal (failed_of last) broken too_long lost why known);
+          some_journal = record {
+            journal = left.journal;
+            within = omega (arith, left.stand.first, left.stand.within);
+            is_held = left.stand.journal ∙ ap (λ (n : ℕ). drop n left.journal) (sym left.stand.first);
+            stands = stands_for i o (source (input_of last)) (sink (sink_of parts.watch)) left.journal v.faults (volumes parts.volumes).faults last.extra left.finished left.legal (failed_of last) broken too_long lost why known;
+          };
           first = handed_over (terms_of_run i o v) v (volumes parts.volumes) left.first parts.first left.journal refl left.stand.volumes left.stand.first left.stand.within;
         })))
 
--- the terms say what the volumes of the reactor tell
-pub stands_with : {H M Q W V E : Type 0} (m : Meaning H M Q W V ServerNote E) (volumes : V → VolumesFacts ServerNote) (i : SourceFacts) (o : SinkFacts) (core : Core H M Q W V ServerNote E) (a b : V) → b ≡ a
-    → StandsIn m (terms_of_run i o (volumes a)) IsOpened core → StandsIn m (terms_of_run i o (volumes b)) IsOpened core
-stands_with m volumes i o core a b same stands = subst (λ volume. StandsIn m (terms_of_run i o (volumes volume)) IsOpened core) (sym same) stands
+-- the same run, by what volumes told that have taken nothing since
+pub runs_with : {S K V : Type 0} (source : S → SourceFacts) (sink : K → SinkFacts) (volumes : V → VolumesFacts ServerNote) (i : SourceFacts) (o : SinkFacts) (v w : VolumesFacts ServerNote) (ran : Ran S K V) → TakesNothing v w
+    → RunsOne source sink volumes most_input i o w ran → RunsOne source sink volumes most_input i o v ran
+runs_with source sink volumes i o v w ran nothing runs = record {
+  status = subst (λ (before : ℕ). HasStatus most_input i o (source ran.input) (sink ran.output) before (volumes ran.volumes).faults ran.status) nothing.faults runs.status;
+  journal = λ journal told. runs.journal journal (subst (λ (taken : Option (List (Entry ServerNote))). IsTakenAndHeld taken (volumes ran.volumes).taken ran.journal.entries journal ⊎ ((ran.first ≡ 0) × (journal ≡ ran.journal.entries))) (sym nothing.taken) told);
+  some_journal = runs.some_journal;
+  first = subst (λ (taken : Option (List (Entry ServerNote))). AreHandedOver taken (volumes ran.volumes).taken ran.first) nothing.taken runs.first;
+}

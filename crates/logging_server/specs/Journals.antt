@@ -1,5 +1,5 @@
 -- The journal of a run of the command `one`.
-use Rattle.std.specs.Prelude.{◌≡◌, ◌≢◌, ◌⊎◌, ◌+◌, ℕ, Bool, true, List, [], ◌∷◌, ◌++◌, length, drop, Option, Some, None}
+use Rattle.std.specs.Prelude.{◌≡◌, ◌≢◌, ◌≤◌, ◌⊎◌, ◌+◌, ℕ, Bool, true, false, List, [], ◌∷◌, ◌++◌, length, drop, Option, Some, None}
 use Rattle.ev_base.specs.Source.{SourceFacts}
 use Rattle.ev_base.specs.Sink.{SinkFacts}
 use Rattle.reactor_journal.specs.declared.entry.Entry.{Entry}
@@ -12,7 +12,7 @@ use Rattle.log_handler.specs.declared.note.ServerNote.{ServerNote}
 use Rattle.log_handler.specs.Notes.{journal_lines}
 use Rattle.one_run.specs.Phases.{first_entry, served_until_end}
 use Rattle.logging_server.specs.Written.{TookAll, TookFront}
-use Rattle.logging_server.specs.Outcome.{ComesTo}
+use Rattle.logging_server.specs.Outcome.{ComesTo, EndsAsRead}
 
 -- the entries that volumes tell that they took in a run, and those that are held
 abbrev pub IsTakenAndHeld : {N : Type 0} → Option (List (Entry N)) → Option (List (Entry N)) → List (Entry N) → List (Entry N) → Type 0
@@ -45,24 +45,39 @@ pub record ServesOne (journal : List (Entry ServerNote)) : Type 0 where
   pub kinds : served_until_end served ≡ true
   pub none_refused : count is_refused (past_of journal) ≡ 0
 
--- no connection was opened, so the input was not read
-pub record OpensNothing (i j : SourceFacts) (journal : List (Entry ServerNote)) : Type 0 where
+-- no connection was opened, so the input was not read: the words were others, there was no memory, or a write failed
+pub record OpensNothing (i j : SourceFacts) (code : ℕ) (journal : List (Entry ServerNote)) : Type 0 where
   pub entries : (journal ≡ []) ⊎ (journal ≡ entry.Ended ∷ [])
   pub bytes : j.bytes ≡ i.bytes
+  pub gave : j.gave ≡ i.gave
   pub faults : j.faults ≡ i.faults
+  pub code_is : (code ≡ 1) ⊎ (code ≡ 4) ⊎ (code ≡ 6)
 
--- the connection was served until it was closed
-pub record ServesConnection (limit : ℕ) (i j : SourceFacts) (journal : List (Entry ServerNote)) : Type 0 where
+-- The connection was served until it was closed. With status 0 it closed itself where reading stops; a read failed with status 3 and
+-- no other; and with status 11 a byte was met behind the limit.
+pub record ServesConnection (limit : ℕ) (i j : SourceFacts) (code : ℕ) (journal : List (Entry ServerNote)) : Type 0 where
   pub one : ServesOne journal
   pub failed : Bool
-  pub comes_to : ComesTo limit failed i j journal
+  pub run : ComesTo limit failed i j journal
+  pub done : code ≡ 0 → EndsAsRead run
+  pub read_fault : code ≡ 3 → failed ≡ true
+  pub no_read_fault : code ≢ 3 → failed ≡ false
+  pub too_long : code ≡ 11 → run.extra ≢ []
 
 -- What the journal of a run says, by the status with which it ended: the output has its lines, or a front of them where a write
 -- failed.
 pub record StandsFor (limit : ℕ) (i : SourceFacts) (o : SinkFacts) (j : SourceFacts) (p : SinkFacts) (code : ℕ) (journal : List (Entry ServerNote)) : Type 0 where
   pub over : (journal ≡ []) ⊎ IsOver journal
   pub some : code ≡ 0 → journal ≢ []
-  pub run : OpensNothing i j journal ⊎ ServesConnection limit i j journal
+  pub run : OpensNothing i j code journal ⊎ ServesConnection limit i j code journal
   pub written : TookAll o (journal_lines journal) p ⊎ TookFront o (journal_lines journal) p
   pub whole : code ≢ 3 → code ≢ 4 → TookAll o (journal_lines journal) p
   pub broken : code ≡ 4 → TookFront o (journal_lines journal) p
+
+-- There is a journal that stands for the run, whether the volumes tell its first entries or not: from number `first` on its entries are
+-- those that are held.
+pub record SomeJournal (limit : ℕ) (i : SourceFacts) (o : SinkFacts) (j : SourceFacts) (p : SinkFacts) (code first : ℕ) (held : List (Entry ServerNote)) : Type 0 where
+  pub journal : List (Entry ServerNote)
+  pub within : first ≤ length journal
+  pub is_held : held ≡ drop first journal
+  pub stands : StandsFor limit i o j p code journal

@@ -4,3 +4,5 @@ pub mod Outcome
 pub mod Journals
 pub mod Statuses
 pub mod Ran
+pub mod FaultLines
+pub mod NoHost

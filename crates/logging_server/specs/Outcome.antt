@@ -1,14 +1,14 @@
 -- What became of the one connection of the command `one`, number 0, whose bytes are those of the input (C++NPv2 chapter 4: the
 -- networked logging server; how a connection ends is this project's own). The input told the facts i at the start of the run and
 -- tells j at its end.
-use Rattle.std.specs.Prelude.{◌≡◌, ◌≢◌, ◌≤◌, ◌+◌, ◌*◌, ◌⊎◌, ℕ, Bool, true, false, List, [], ◌∷◌, ◌++◌, length, flat_map, Option, Some, None}
+use Rattle.std.specs.Prelude.{◌≡◌, ◌≢◌, ◌≤◌, ◌+◌, ◌*◌, ◌⊎◌, ℕ, Bool, true, false, List, [], ◌∷◌, ◌++◌, length, flat_map}
 use Rattle.std.specs.List.{sum_by, AllByRecursion}
 use Rattle.ev_types.specs.declared.upcall.Why.{Why}
 use Rattle.ev_types.specs.declared.upcall.Why.TheVariants.{Own, Removed, Refused}
-use Rattle.ev_base.specs.Bytes.{ReaderBytes, MovesOn, NothingLeft}
+use Rattle.ev_base.specs.Bytes.{MovesOn, NothingLeft}
 use Rattle.ev_base.specs.Source.{SourceFacts}
 use Rattle.cdr_record.specs.declared.record.LogRecord.{LogRecord}
-use Rattle.cdr_record.specs.Decoding.{Clean, Partial, Malformed, decode}
+use Rattle.cdr_record.specs.Decoding.{Stop, Clean, Partial, Malformed, decode}
 use Rattle.sink_buffer.specs.Written.{IsPrefixOf}
 use Rattle.log_lines.specs.declared.end_kind.EndKind.{EndKind}
 use Rattle.log_lines.specs.declared.end_kind.EndKind.TheVariants as end
@@ -18,18 +18,15 @@ use Rattle.reactor_journal.specs.declared.entry.Entry.TheVariants as entry
 use Rattle.reactor_journal.specs.Past.{past_of, reason_of}
 use Rattle.log_handler.specs.declared.note.ServerNote.{ServerNote}
 use Rattle.log_handler.specs.declared.note.ServerNote.TheVariants as note
+use Rattle.log_handler.specs.Connection.{end_of}
 use Rattle.log_handler.specs.Laws.{took_of, records_of_note}
+use Rattle.log_handler.specs.Notes.{journal_lines}
 use Rattle.one_net.specs.OneKeeps.{FaultsSince}
 use Rattle.one_run.specs.Phases.{notes_in, one_handle}
 
 -- the lines of the records of some bytes, and a closing line
 abbrev pub lines_of : List ℕ → EndKind → List ℕ
 lines_of bytes word = record_lines 0 (decode bytes).records ++ closing_line 0 word
-
--- where the bytes are told, this holds
-abbrev pub WhereBytesAreTold : Option ReaderBytes → Type 0 → Type 0
-WhereBytesAreTold None P = Unit {0}
-WhereBytesAreTold (Some bytes) P = P
 
 -- a note of what a turn of connection 0 took
 abbrev pub IsPiece : ServerNote → Type 0
@@ -58,11 +55,13 @@ IsClosedWith j failed taken extra decoded end.Stopped = (decoded ≡ taken) × I
 IsClosedWith j failed taken extra decoded end.Idle = ⊥
 IsClosedWith j failed taken extra decoded end.Refused = ⊥
 
--- the connection took these bytes of the input, whose next is `extra` where one was met behind the limit
+-- The connection took these bytes of the input, whose next is `extra` where one was met behind the limit. The input gave so many, and
+-- no more than the limit were taken, whether it tells them or not.
 pub record TakesInput (limit : ℕ) (failed : Bool) (i : SourceFacts) (j : SourceFacts) (taken extra : List ℕ) : Type 0 where
   pub moves : MovesOn i.bytes (taken ++ extra) j.bytes
-  pub within : WhereBytesAreTold i.bytes (length taken ≤ limit)
-  pub behind : extra ≢ [] → WhereBytesAreTold i.bytes ((length taken ≡ limit) × (length extra ≡ 1))
+  pub gave : j.gave ≡ i.gave + length (taken ++ extra)
+  pub within : length taken ≤ limit
+  pub behind : extra ≢ [] → (length taken ≡ limit) × (length extra ≡ 1)
   pub faults : FaultsSince failed i.faults j.faults
 
 -- The connection, as a journal tells it: it took as many bytes as its notes say, which have the records of `decoded`, and one note
@@ -89,7 +88,8 @@ pub record IsClosedIn (journal : List (Entry ServerNote)) (word : EndKind) : Typ
   pub is : journal ≡ (before ++ entry.Closed one_handle (note.Finished 0 word) ∷ []) ++ rest
   pub reason : IsWordFor (reason_of (past_of before) 0) word
 
--- The run of the connection up to its closing.
+-- The run of the connection up to its closing: what it took, and with which word it was closed, as the journal tells; and the lines of
+-- the journal are those of its records, and the one with that word.
 pub record ComesTo (limit : ℕ) (failed : Bool) (i j : SourceFacts) (journal : List (Entry ServerNote)) : Type 0 where
   pub taken : List ℕ
   pub extra : List ℕ
@@ -99,3 +99,20 @@ pub record ComesTo (limit : ℕ) (failed : Bool) (i j : SourceFacts) (journal : 
   pub closed : IsClosedWith j failed taken extra decoded word
   pub tells : TellsConnection journal taken decoded word
   pub closes : IsClosedIn journal word
+  pub lines : journal_lines journal ≡ lines_of decoded word
+
+abbrev pub IsMalformed : Stop → Type 0
+IsMalformed Clean = ⊥
+IsMalformed (Partial n) = ⊥
+IsMalformed (Malformed at) = Unit {0}
+
+-- The connection closed itself where reading stops: at the end of the input, or at a malformed record, behind which no byte counts.
+-- Behind its closing one wait was made, and then the reactor was stopped.
+pub record EndsAsRead {limit : ℕ} {failed : Bool} {i j : SourceFacts} {journal : List (Entry ServerNote)} (run : ComesTo limit failed i j journal) : Type 0 where
+  pub own : reason_of (past_of run.closes.before) 0 ≡ Own
+  pub word_is : run.word ≡ end_of (decode run.taken).stop
+  pub decodes : run.decoded ≡ run.taken
+  pub all : IsMalformed (decode run.taken).stop ⊎ IsReadToEnd j
+  pub none_behind : run.extra ≡ []
+  pub moment : ℕ
+  pub rest : run.closes.rest ≡ entry.Polled moment ∷ entry.Ended ∷ []

@@ -7,7 +7,7 @@ use Rattle.reactor_model.specs.Volumes.{VolumesFacts}
 use Rattle.log_handler.specs.declared.note.ServerNote.{ServerNote}
 use Rattle.one_run.specs.declared.serving.Halt.{Halt}
 use Rattle.one_run.specs.declared.serving.Halt.TheVariants as halt
-use Rattle.logging_server.specs.Journals.{IsTold, AreHandedOver, StandsFor}
+use Rattle.logging_server.specs.Journals.{IsTold, AreHandedOver, StandsFor, SomeJournal}
 use Rattle.logging_server.specs.Statuses.{HasStatus, code_of, number_of}
 use Rattle.logging_server.specs.declared.one.Ran.{Ran}
 use Rattle.logging_server.specs.declared.top.Served.{Served}
@@ -34,6 +34,7 @@ pub record RunsOne {S K V : Type 0} (source : S → SourceFacts) (sink : K → S
   pub status : HasStatus limit i o (source ran.input) (sink ran.output) v.faults (volumes ran.volumes).faults ran.status
   pub journal : (journal : List (Entry ServerNote)) → IsTold v (volumes ran.volumes) ran.first ran.journal.entries journal
       → StandsFor limit i o (source ran.input) (sink ran.output) (code_of ran.status) journal
+  pub some_journal : SomeJournal limit i o (source ran.input) (sink ran.output) (code_of ran.status) ran.first ran.journal.entries
   pub first : AreHandedOver v.taken (volumes ran.volumes).taken ran.first
 
 -- the same of what the top call gives back: its status is the number of one, and the number beside it is that status's
@@ -45,4 +46,5 @@ pub record HasRun {S K V M : Type 0} (source : S → SourceFacts) (sink : K → 
   pub has : HasStatus limit i o (source served.input) (sink served.output) v.faults (volumes served.volumes).faults status
   pub journal : (journal : List (Entry ServerNote)) → IsTold v (volumes served.volumes) served.first served.journal.entries journal
       → StandsFor limit i o (source served.input) (sink served.output) served.status journal
+  pub some_journal : SomeJournal limit i o (source served.input) (sink served.output) served.status served.first served.journal.entries
   pub first : AreHandedOver v.taken (volumes served.volumes).taken served.first

@@ -5,19 +5,14 @@ use Rattle.ev_base.specs.Counts.{Rose}
 use Rattle.ev_base.specs.Bytes.{ReaderBytes}
 use Rattle.ev_base.specs.Source.{SourceFacts}
 use Rattle.ev_base.specs.Sink.{SinkFacts}
-use Rattle.cdr_record.specs.Decoding.{Stop, Clean, Partial, Malformed, decode}
+use Rattle.cdr_record.specs.Decoding.{decode}
 use Rattle.log_lines.specs.declared.end_kind.EndKind.{EndKind}
 use Rattle.log_lines.specs.declared.end_kind.EndKind.TheVariants as end
 use Rattle.log_handler.specs.Connection.{end_of}
 use Rattle.logging_server.specs.Written.{TookAll, TookFront}
-use Rattle.logging_server.specs.Outcome.{TakesInput, IsClosedWith, IsReadToEnd, lines_of}
+use Rattle.logging_server.specs.Outcome.{TakesInput, IsClosedWith, IsReadToEnd, IsMalformed, lines_of}
 use Rattle.logging_server.specs.declared.status.Status.{Status}
 use Rattle.logging_server.specs.declared.status.Status.TheVariants.{Done, Usage, ReadFault, WriteFault, NoMemory, TooLong, VolumeFault}
-
-abbrev pub IsMalformed : Stop → Type 0
-IsMalformed Clean = ⊥
-IsMalformed (Partial n) = ⊥
-IsMalformed (Malformed at) = Unit {0}
 
 -- where the bytes are told, all that were left are read as these are
 abbrev pub DecodesLeft : Option ReaderBytes → List ℕ → Type 0
@@ -37,17 +32,19 @@ pub record HasLines (limit : ℕ) (i j : SourceFacts) (text : List ℕ) : Type 0
 -- no connection was opened: the input was not read, and there are no lines
 pub record HasNoLines (i j : SourceFacts) (text : List ℕ) : Type 0 where
   pub bytes : j.bytes ≡ i.bytes
+  pub gave : j.gave ≡ i.gave
   pub faults : j.faults ≡ i.faults
   pub is : text ≡ []
 
 -- Done: the lines of all input, and how it ended. The input was read to its end, unless it has a malformed record, behind which
--- no byte counts.
-pub record IsDone (limit : ℕ) (i : SourceFacts) (o : SinkFacts) (j : SourceFacts) (p : SinkFacts) : Type 0 where
+-- no byte counts. Nothing failed, neither of the volumes.
+pub record IsDone (limit : ℕ) (i : SourceFacts) (o : SinkFacts) (j : SourceFacts) (p : SinkFacts) (before now : ℕ) : Type 0 where
   pub taken : List ℕ
   pub takes : TakesInput limit false i j taken []
   pub all : IsMalformed (decode taken).stop ⊎ IsReadToEnd j
   pub decodes : DecodesLeft i.bytes taken
   pub written : TookAll o (lines_of taken (end_of (decode taken).stop)) p
+  pub volumes : now ≡ before
 
 -- the input failed: the lines of what it gave before, closed as failed
 pub record IsReadFault (limit : ℕ) (i : SourceFacts) (o : SinkFacts) (j : SourceFacts) (p : SinkFacts) : Type 0 where
@@ -85,7 +82,7 @@ pub record IsVolumeFault (limit : ℕ) (i : SourceFacts) (o : SinkFacts) (j : So
 
 -- what each status says; the volumes' count of faults was this before and is this now
 abbrev pub HasStatus : ℕ → SourceFacts → SinkFacts → SourceFacts → SinkFacts → ℕ → ℕ → Status → Type 0
-HasStatus limit i o j p before now Done = IsDone limit i o j p
+HasStatus limit i o j p before now Done = IsDone limit i o j p before now
 HasStatus limit i o j p before now Usage = ⊥
 HasStatus limit i o j p before now ReadFault = IsReadFault limit i o j p
 HasStatus limit i o j p before now WriteFault = IsWriteFault limit i o j p

@@ -5,8 +5,6 @@ mod fault;
 mod no_host;
 mod one;
 mod status;
-#[cfg(test)]
-mod tests;
 mod top;
 
 pub use fault::{FaultLine, fault_line};

@@ -1,5 +1,6 @@
 //! A host without a network.
 ghost use Rattle.std.specs.Prelude.{◌≡◌};
+ghost use Rattle.logging_server.specs.NoHost.{failures_of};
 
 use demux::{PlayEnd, PlayNet};
 use ev_base::{Host, ListenRefused, Wake};
@@ -21,7 +22,9 @@ impl Wake for NoWaker {
 
 impl NoHost {
     /// A host on which nothing failed yet.
-    pub fn new() -> NoHost {
+    pub fn new() -> NoHost
+        ensures { failures_of result ≡ 0 }
+    {
         NoHost { faults: 0 }
     }
 }
@@ -33,7 +36,7 @@ impl Host for NoHost {
 
     type Waker = NoWaker;
 
-    ghost faults = { λ host. host.faults };
+    ghost faults = { failures_of };
 
     ghost keeps = { λ t host. Unit {0} };
 

@@ -2,6 +2,7 @@
 ghost use Rattle.std.specs.Prelude.{◌≡◌, ◌^◌};
 ghost use Rattle.ev_base.specs.Source.{SourceFacts};
 ghost use Rattle.ev_base.specs.Sink.{SinkFacts};
+ghost use Rattle.reactor_core.specs.Views.{volumes_of};
 ghost use Rattle.one_run.specs.Phases.{IsOpened};
 ghost use Rattle.one_run.specs.Opening.{LeavesUnopened, terms_of_run};
 ghost use Rattle.one_run.specs.Running.{one_meaning, StandsIn};
@@ -15,9 +16,6 @@ use one_run::{OneCore, Unopened, finish, open, run};
 use reactor_core::Parts;
 use reactor_model::{Journal, Volumes, Watch};
 use std::alloc::Global;
-
-/// How many entries of the journal are handed over at a time.
-const VOLUME: u64 = 65_536;
 
 /// What a run leaves.
 pub(crate) struct Ran<S, K, V> {
@@ -38,7 +36,7 @@ pub(crate) fn one<S: Source, K: Sink, V: Volumes<ServerNote>>(
 ) -> Ran<S, K, V>
     ensures { RunsOne S.facts K.facts V.facts (2 ^ 40) (S.facts input) (K.facts output) (V.facts volumes) result }
 {
-    match open(alloc, VOLUME, input, output, volumes) {
+    match open(alloc, input, output, volumes) {
         Ok(core) => serve(core),
         Err(left) => give_up(left),
     }
@@ -65,9 +63,9 @@ fn give_up<S: Source, K: Sink, V: Volumes<ServerNote>>(left: Unopened<S, K, V>) 
 
 /// Serves the connection of a reactor until it is closed.
 fn serve<S: Source, K: Sink, V: Volumes<ServerNote>>(core: OneCore<S, K, V>) -> Ran<S, K, V>
-    requires { (i : SourceFacts) × (o : SinkFacts) × StandsIn (one_meaning S.facts K.facts V.facts) (terms_of_run i o (V.facts core.volumes)) IsOpened core }
-    ensures { (i : SourceFacts) (o : SinkFacts) → StandsIn (one_meaning S.facts K.facts V.facts) (terms_of_run i o (V.facts core.volumes)) IsOpened core
-        → RunsOne S.facts K.facts V.facts (2 ^ 40) i o (V.facts core.volumes) result }
+    requires { (i : SourceFacts) × (o : SinkFacts) × StandsIn (one_meaning S.facts K.facts V.facts) (terms_of_run i o (V.facts (volumes_of core))) IsOpened core }
+    ensures { (i : SourceFacts) (o : SinkFacts) → StandsIn (one_meaning S.facts K.facts V.facts) (terms_of_run i o (V.facts (volumes_of core))) IsOpened core
+        → RunsOne S.facts K.facts V.facts (2 ^ 40) i o (V.facts (volumes_of core)) result }
 {
     let mut core = core;
     let ending = run(&mut core);

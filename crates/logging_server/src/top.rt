@@ -4,7 +4,7 @@ ghost use Rattle.reactor_journal.specs.declared.entry.Entry.{Entry};
 ghost use Rattle.log_handler.specs.declared.note.ServerNote.{ServerNote};
 ghost use Rattle.logging_server.specs.Words.{AreOne};
 ghost use Rattle.logging_server.specs.Ran.{HasRun};
-ghost use Rattle.logging_server.specs.Journals.{IsTold, AreHandedOver, StandsFor};
+ghost use Rattle.logging_server.specs.Journals.{IsTold, AreHandedOver, StandsFor, SomeJournal};
 ghost use Rattle.logging_server.specs.Statuses.{IsStatus, IsDone, IsReadFault, IsWriteFault, IsNoMemory, IsTooLong, IsVolumeFault};
 
 use crate::one::{Ran, one};
@@ -42,8 +42,8 @@ pub struct Served<K, S, M, V> {
 }
 
 /// Does what the words of the command line say, those after the program's name. The word `one` serves one connection, number 0,
-/// whose bytes are the input, on a reactor; the output has the lines of its notes, and the journal is handed over to `volumes`
-/// in volumes of 65,536 entries.
+/// whose bytes are the input, on a reactor; the output has the lines of its notes, and the journal is handed over to `volumes` in
+/// volumes of the size that these say.
 pub fn logd_main<
     R: Threads + Wait + Copy + Send + Sync + 'static,
     H: Host,
@@ -64,7 +64,7 @@ pub fn logd_main<
     ensures usage { result.status ≡ 1 → AreOne words.now → ⊥ }
     ensures words { (result.status ≡ 1) ⊎ AreOne words.now }
     ensures untouched { result.status ≡ 1 → (result.input ≡ input) × (result.output ≡ output) × (result.volumes ≡ volumes) }
-    ensures done { result.status ≡ 0 → IsDone (2 ^ 40) (S.facts input) (K.facts output) (S.facts result.input) (K.facts result.output) }
+    ensures done { result.status ≡ 0 → IsDone (2 ^ 40) (S.facts input) (K.facts output) (S.facts result.input) (K.facts result.output) (V.facts volumes).faults (V.facts result.volumes).faults }
     ensures read_fault { result.status ≡ 3 → IsReadFault (2 ^ 40) (S.facts input) (K.facts output) (S.facts result.input) (K.facts result.output) }
     ensures write_fault { result.status ≡ 4 → IsWriteFault (2 ^ 40) (S.facts input) (K.facts output) (S.facts result.input) (K.facts result.output) }
     ensures no_memory { result.status ≡ 6 → IsNoMemory (2 ^ 40) (S.facts input) (K.facts output) (S.facts result.input) (K.facts result.output) }
@@ -72,7 +72,8 @@ pub fn logd_main<
     ensures volume_fault { result.status ≡ 12 → IsVolumeFault (2 ^ 40) (S.facts input) (K.facts output) (S.facts result.input) (K.facts result.output) (V.facts volumes).faults (V.facts result.volumes).faults }
     ensures at { result.at ≡ (if result.status == 11 then 2 ^ 40 else 0) }
 
-    // Where the journal is told, it stands for the run, and the output for it.
+    // There is a journal that stands for the run, and the output for it. Where it is told, it is this one.
+    ensures some_journal { SomeJournal (2 ^ 40) (S.facts input) (K.facts output) (S.facts result.input) (K.facts result.output) result.status result.first result.journal.entries }
     ensures journal { (journal : List (Entry ServerNote)) → IsTold (V.facts volumes) (V.facts result.volumes) result.first result.journal.entries journal
         → StandsFor (2 ^ 40) (S.facts input) (K.facts output) (S.facts result.input) (K.facts result.output) result.status journal }
     ensures first { AreHandedOver (V.facts volumes).taken (V.facts result.volumes).taken result.first }

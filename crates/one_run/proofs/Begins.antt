@@ -1,5 +1,5 @@
 -- How a run of one connection begins.
-use Rattle.std.proofs.Common.{ℕ, ◌≡◌, false, List, [], ◌∷◌, ◌++◌, length, refl, sym, ap, ◌∙◌, subst, Option, Some, None}
+use Rattle.std.proofs.Common.{arith, ℕ, ◌≡◌, false, List, [], ◌∷◌, ◌++◌, length, refl, sym, ap, ◌∙◌, subst, Option, Some, None}
 use Rattle.std.proofs.lemmas.List.{append-nil}
 use Rattle.std.specs.Prelude.{Ok, Err, option_and_then, option_map, slice_get}
 use Rattle.ev_types.specs.declared.upcall.Handle.{Handle}
@@ -20,7 +20,7 @@ use Rattle.one_net.specs.Watched.{first_report, answer_of}
 use Rattle.reactor_journal.specs.Event.{Origin}
 use Rattle.reactor_journal.specs.declared.entry.Entry.{Entry}
 use Rattle.reactor_journal.specs.declared.entry.Entry.TheVariants.{Opened}
-use Rattle.reactor_model.specs.Volumes.{VolumesFacts}
+use Rattle.reactor_model.specs.Volumes.{VolumesFacts, BeginsJournal}
 use Rattle.reactor_core.specs.Offering.{RegisterGives, GivesBack}
 use Rattle.reactor_core.specs.Stands.{Meaning, Stands}
 use Rattle.reactor_core.specs.Ends.{WhereTold}
@@ -33,7 +33,7 @@ use Rattle.one_net.specs.declared.one_end.OneEnd.{OneEnd}
 use Rattle.one_net.specs.OneEnd.{one_end_facts, given_by, given_of, end_bytes, extra_of, failed_of, input_of, count_of}
 use Rattle.one_net.specs.OneKeeps.{OneEndKeeps, FaultsSince, bytes_at_start, start_bytes}
 use Rattle.one_run.specs.Phases.{one_handle, read_mask, IsOpened}
-use Rattle.one_run.specs.Opening.{StartsRun, stories_of, terms_of_run}
+use Rattle.one_run.specs.Opening.{StartsRun, TakesNothing, stories_of, terms_of_run}
 
 -- ---- the terms
 
@@ -66,7 +66,9 @@ starts i o v = record {
   most = refl;
   of_one = record { limit = limit_is; idle = refl };
   no_listener = refl;
+  no_script = refl;
   source = record {
+    gave = λ g told. faults_are i.gave g told;
     faults = λ f told. faults_are i.faults f told;
     bytes = at_start_is i.bytes;
     story = λ story told. let s = story_is i.bytes story told in (s.0, at_start_is i.bytes ∙ s.1, s.2);
@@ -75,6 +77,25 @@ starts i o v = record {
   output_faults = λ n told. faults_were o.faults n told;
   taken = taken_are v.taken;
 }
+
+-- volumes that have taken nothing since tell what they told
+pub starts_as : (i : SourceFacts) (o : SinkFacts) (v w : VolumesFacts ServerNote) → TakesNothing v w → StartsRun (terms_of_run i o w) i o v
+starts_as i o v w nothing =
+    let s = starts i o w in
+    record {
+      most = s.most;
+      of_one = s.of_one;
+      no_listener = s.no_listener;
+      no_script = s.no_script;
+      source = s.source;
+      opening = s.opening;
+      output_faults = s.output_faults;
+      taken = subst (λ (taken : Option (List (Entry ServerNote))). WhereTold (λ entries. (n : ℕ) → option_map length w.taken ≡ Some n → length entries ≡ n) taken) nothing.taken s.taken;
+    }
+
+-- a reactor's volumes began another journal, and it took the same since
+pub began_nothing : (v w now : VolumesFacts ServerNote) → BeginsJournal v w → now ≡ w → TakesNothing v now
+began_nothing v w now begins same = record { taken = ap (λ (f : VolumesFacts ServerNote). f.taken) same ∙ begins.taken; faults = ap (λ (f : VolumesFacts ServerNote). f.faults) same ∙ begins.faults }
 
 -- ---- the reactor
 
@@ -92,7 +113,7 @@ never_waited net new answer last = no_answer (sym (ap last_answer none) ∙ last
 
 pub can_begin : {S : Type 0} (t : Terms) (i : SourceFacts) (o : SinkFacts) (v : VolumesFacts ServerNote) (net : OneNet S) (timers : List Timer) (watch : Type 0) → StartsRun t i o v → IsNew (one_net_facts net) → one_net_facts net ≡ new_net_facts
     → timers ≡ [] → watch → CanBegin (one_net_facts net) (one_net_keeps t net) timers watch v t 1
-can_begin t i o v net timers watch s fresh new none seen = record { terms = s.most; fresh = fresh; steady = λ asked. refl; keeps = never_waited net new; no_timers = none; seen = seen; taken = s.taken }
+can_begin t i o v net timers watch s fresh new none seen = record { terms = s.most; fresh = fresh; steady = λ asked. refl; keeps = record { no_script = s.no_script; answered = never_waited net new }; no_timers = none; seen = seen; taken = s.taken }
 
 -- ---- the handler
 
@@ -151,9 +172,9 @@ given_none extra count (Some b) given = given
 
 -- an end that had no turn did not read its source
 pub unread : {S : Type 0} (source : S → SourceFacts) (t : Terms) (i : SourceFacts) (o : SinkFacts) (v : VolumesFacts ServerNote) (origin : Option (Origin ServerNote)) (end : OneEnd S) (said : ServerNote)
-    → StartsRun t i o v → t.input_faults ≡ Some i.faults → ConnectionGone (one_end_facts source) (OneEndKeeps source) t origin end [] Refused said
-    → ((source (input_of end)).bytes ≡ i.bytes) × ((source (input_of end)).faults ≡ i.faults)
-unread {S} source t i o v origin end said s told gone = (bytes, faults)
+    → StartsRun t i o v → t.input_gave ≡ Some i.gave → t.input_faults ≡ Some i.faults → ConnectionGone (one_end_facts source) (OneEndKeeps source) t origin end [] Refused said
+    → ((source (input_of end)).bytes ≡ i.bytes) × ((source (input_of end)).faults ≡ i.faults) × ((source (input_of end)).gave ≡ i.gave)
+unread {S} source t i o v origin end said s told_gave told gone = (bytes, faults, gave)
   where
     keeps : OneEndKeeps source t end
     keeps = gone.kept_end
@@ -169,6 +190,12 @@ unread {S} source t i o v origin end said s told gone = (bytes, faults)
 
     faults : (source (input_of end)).faults ≡ i.faults
     faults = subst (λ failed. FaultsSince failed i.faults (source (input_of end)).faults) sound.0 (keeps.source_faults i.faults told)
+
+    none_given : count_of end ≡ 0
+    none_given = gone.served.end.gave ∙ ap (λ p. length p.taken) gone.served.course
+
+    gave : (source (input_of end)).gave ≡ i.gave
+    gave = omega (arith, keeps.took i.gave told_gave, none_given, ap length sound.1)
 
 pub not_own : {P : Type 0} → Refused ≡ Own → P
 not_own q = cc

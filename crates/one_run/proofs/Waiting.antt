@@ -104,7 +104,7 @@ module _ {S K V : Type 0} (G : Ghosts (OneEnd S)) (source : S → SourceFacts) (
       calls = a.1.calls ∙ ap (λ calls. with_one calls (Waits (least_limit None (time_left (summary (past_of h)))) w.answer (one_net_facts new.net).reports)) p.reserves.calls
 
       answer : w.answer ≡ waited.Reports 0 1
-      answer = w.stands.tracks.keeps w.answer (ap last_answer (some_same _ _ calls)) ∙ ap (λ masks. answer_of (first_report masks)) masks_new
+      answer = w.stands.tracks.keeps.answered w.answer (ap last_answer (some_same _ _ calls)) ∙ ap (λ masks. answer_of (first_report masks)) masks_new
 
       reports : (one_net_facts new.net).reports ≡ record { handle = one_handle; kind = Read } ∷ []
       reports = one_wanted (one_net_facts new.net).reports (subst (λ answer. NetWaits p.net (least_limit None (time_left (summary (past_of h)))) answer (one_net_facts new.net)) answer w.waits).1

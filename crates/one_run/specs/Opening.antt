@@ -14,11 +14,13 @@ use Rattle.one_net.specs.OneKeeps.{StartsAt}
 use Rattle.one_run.specs.Running.{AreOfOne}
 use Rattle.one_run.specs.declared.opening.Unopened.{Unopened}
 
--- The terms lay down what the source, the sink and the volumes tell at the start of a run. There is one handler, and no listener.
+-- The terms lay down what the source, the sink and the volumes tell at the start of a run. There is one handler, no listener
+-- and no script.
 pub record StartsRun (t : Terms) (i : SourceFacts) (o : SinkFacts) (v : VolumesFacts ServerNote) : Type 0 where
   pub most : t.most ≡ 1
   pub of_one : AreOfOne t
   pub no_listener : t.offers ≡ None
+  pub no_script : t.groups ≡ None
   pub source : StartsAt t i
   pub opening : (text : List ℕ) → t.opening ≡ Some text → o.text ≡ Some text
   pub output_faults : (n : ℕ) → t.output_faults ≡ Some n → o.faults ≡ n
@@ -38,6 +40,7 @@ terms_of_run i o v = record {
   stories = stories_of i.bytes;
   groups = None;
   opening = o.text;
+  input_gave = Some i.gave;
   input_faults = Some i.faults;
   output_faults = Some o.faults;
   steady = Some true;
@@ -46,6 +49,11 @@ terms_of_run i o v = record {
   volumes_taken = option_map length v.taken;
   volumes_faults = Some v.faults;
 }
+
+-- volumes have taken nothing, and none failed
+pub record TakesNothing (v w : VolumesFacts ServerNote) : Type 0 where
+  pub taken : w.taken ≡ v.taken
+  pub faults : w.faults ≡ v.faults
 
 -- a sink counts one failed write more where one failed, and else none
 abbrev pub CountsWrite : Bool → ℕ → ℕ → Type 0
@@ -65,4 +73,5 @@ pub record LeavesUnopened {S K V : Type 0} (source : S → SourceFacts) (sink : 
   pub text : (text : List ℕ) → (sink output).text ≡ Some text → (sink left.output).text ≡ Some text
   pub bytes : (source left.input).bytes ≡ (source input).bytes
   pub faults : (source left.input).faults ≡ (source input).faults
+  pub gave : (source left.input).gave ≡ (source input).gave
   pub output_faults : CountsWrite left.broken (sink output).faults (sink left.output).faults

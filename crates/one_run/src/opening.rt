@@ -3,9 +3,10 @@ ghost use Rattle.std.specs.Prelude.{◌≡◌, ◌≤◌, ℕ, [], IfOk, IfErr};
 ghost use Rattle.ev_base.specs.Terms.{Terms};
 ghost use Rattle.one_run.specs.Phases.{IsOpened};
 ghost use Rattle.reactor_core.specs.Stands.{Stands};
+ghost use Rattle.reactor_core.specs.Views.{volume_of, volumes_of};
 ghost use Rattle.one_net.specs.OneEnd.{input_of};
 ghost use Rattle.one_run.specs.Running.{one_meaning, CanRun, StandsIn};
-ghost use Rattle.one_run.specs.Opening.{StartsRun, LeavesNothing, LeavesUnopened};
+ghost use Rattle.one_run.specs.Opening.{StartsRun, TakesNothing, LeavesNothing, LeavesUnopened};
 
 use crate::OneCore;
 use ev_base::{Sink, Source};
@@ -42,25 +43,24 @@ pub struct Unopened<S, K, V> {
 }
 
 /// A reactor for the one connection of a source, number 0, which is registered with it. It writes the lines of its notes to the
-/// sink, and hands its journal over in volumes of at least so many entries, from 1. For want of memory all comes back.
+/// sink, and hands its journal over in volumes of at least as many entries as the keeper of volumes says. For want of memory all comes
+/// back.
 pub fn open<S: Source, K: Sink, V: Volumes<ServerNote>>(
     alloc: Global,
-    volume: u64,
     input: S,
     output: K,
     volumes: V,
 ) -> Result<OneCore<S, K, V>, Unopened<S, K, V>>
-    requires { 1 ≤ volume }
     ensures ok { IfOk result (λ core. (t : Terms) → StartsRun t (S.facts input) (K.facts output) (V.facts volumes) → StandsIn (one_meaning S.facts K.facts V.facts) t IsOpened core) }
-    ensures volume { IfOk result (λ core. core.volume ≡ volume) }
-    ensures volumes { IfOk result (λ core. core.volumes ≡ volumes) }
-    ensures err { IfErr result (λ left. LeavesUnopened S.facts K.facts input output left × (left.volumes ≡ volumes)) }
+    ensures volume { IfOk result (λ core. volume_of core ≡ (V.facts volumes).size) }
+    ensures volumes { IfOk result (λ core. TakesNothing (V.facts volumes) (V.facts (volumes_of core))) }
+    ensures err { IfErr result (λ left. LeavesUnopened S.facts K.facts input output left × TakesNothing (V.facts volumes) (V.facts left.volumes)) }
 {
     let end = OneEnd::new(input, MOST_INPUT);
     let made = Core::new(
         alloc,
         1,
-        volume,
+        volumes.volume_size(),
         OneNet::new(alloc),
         SortedTimers::new(alloc),
         LineSink::new(output),
@@ -99,7 +99,7 @@ fn abandon<S: Source, K: Sink, V: Volumes<ServerNote>>(
     requires { CanRun (one_meaning S.facts K.facts V.facts) (λ h. h ≡ []) core }
     ensures left { (t : Terms) (F : ℕ) → Stands (one_meaning S.facts K.facts V.facts) t core F [] → LeavesNothing K.facts t result }
     ensures input { result.input ≡ input_of end }
-    ensures volumes { result.volumes ≡ core.volumes }
+    ensures volumes { result.volumes ≡ volumes_of core }
 {
     let mut core = core;
     core.stop();

@@ -3,6 +3,7 @@ ghost use Rattle.std.specs.Prelude.{◌≡◌, ◌⊎◌, ◌≤◌, ℕ, List, 
 ghost use Rattle.ev_base.specs.Terms.{Terms};
 ghost use Rattle.reactor_journal.specs.declared.entry.Entry.{Entry};
 ghost use Rattle.reactor_core.specs.Stands.{Stands, IsStanding};
+ghost use Rattle.reactor_core.specs.Views.{net_of, watch_of, volumes_of};
 ghost use Rattle.log_handler.specs.declared.note.ServerNote.{ServerNote};
 ghost use Rattle.log_handler.specs.LineSink.{is_broken};
 ghost use Rattle.one_run.specs.Phases.{IsOpened, IsRead, IsShut, CanEnd};
@@ -47,9 +48,9 @@ pub struct Ending {
 pub fn run<S: Source, K: Sink, V: Volumes<ServerNote>>(core: &mut OneCore<S, K, V>) -> Ending
     requires { CanRun (one_meaning S.facts K.facts V.facts) IsOpened core.old }
     ensures leads { Leads (one_meaning S.facts K.facts V.facts) IsOpened (HasEnded result.halt result.lost) core.old core.new }
-    ensures volumes { VolumesSince result.halt (V.facts core.old.volumes).faults (V.facts core.new.volumes).faults }
-    ensures broken { result.halt ≡ Some Halt.Broken → is_broken core.new.watch ≡ true }
-    ensures whole { result.halt ≡ None → is_broken core.new.watch ≡ false }
+    ensures volumes { VolumesSince result.halt (V.facts (volumes_of core.old)).faults (V.facts (volumes_of core.new)).faults }
+    ensures broken { result.halt ≡ Some Halt.Broken → is_broken (watch_of core.new) ≡ true }
+    ensures whole { result.halt ≡ None → is_broken (watch_of core.new) ≡ false }
 {
     match wait(core) {
         Ok(()) => {}
@@ -83,8 +84,8 @@ pub fn finish<S: Source, K: Sink, V: Volumes<ServerNote>>(
         → LeavesParts (one_meaning S.facts K.facts V.facts) t core (λ h over. Unit {0}) result }
     ensures closed { (t : Terms) (F : ℕ) (h : List (Entry ServerNote)) (now : ℕ) (lost : Bool) → Stands (one_meaning S.facts K.facts V.facts) t core F h → AreOfOne t → IsShutAs (now ∷ []) lost h
         → LeavesParts (one_meaning S.facts K.facts V.facts) t core (ClosedItself lost) result }
-    ensures volumes { result.volumes ≡ core.volumes }
-    ensures broken { is_broken core.watch ≡ true → is_broken result.watch ≡ true }
+    ensures volumes { result.volumes ≡ volumes_of core }
+    ensures broken { is_broken (watch_of core) ≡ true → is_broken result.watch ≡ true }
 {
     let mut core = core;
     core.stop();
@@ -97,8 +98,8 @@ fn hand_over<S: Source, K: Sink, V: Volumes<ServerNote>>(
 ) -> Result<(), Halt>
     requires { IsStanding (one_meaning S.facts K.facts V.facts) core.old }
     ensures stands { KeepsHistory (one_meaning S.facts K.facts V.facts) core.old core.new }
-    ensures volumes { VolumesSince (halted result) (V.facts core.old.volumes).faults (V.facts core.new.volumes).faults }
-    ensures net { core.new.net ≡ core.old.net }
+    ensures volumes { VolumesSince (halted result) (V.facts (volumes_of core.old)).faults (V.facts (volumes_of core.new)).faults }
+    ensures net { net_of core.new ≡ net_of core.old }
     ensures whole { result ≡ Err Halt.Broken → ⊥ }
 {
     match core.hand_over() {
@@ -115,9 +116,9 @@ fn wait<S: Source, K: Sink, V: Volumes<ServerNote>>(core: &mut OneCore<S, K, V>)
     ensures first { OnOk result (Leads (one_meaning S.facts K.facts V.facts) IsOpened IsRead core.old core.new) }
     ensures last { OnOk result (LeadsBy (one_meaning S.facts K.facts V.facts) (IsShut []) (λ before h. (lost : Bool) → IsShutAs [] lost before → HasEnded None lost h) core.old core.new) }
     ensures err { OnErr result (Leads (one_meaning S.facts K.facts V.facts) (λ h. IsOpened h ⊎ IsShut [] h) CanEnd core.old core.new) }
-    ensures volumes { VolumesSince (halted result) (V.facts core.old.volumes).faults (V.facts core.new.volumes).faults }
-    ensures broken { result ≡ Err Halt.Broken → is_broken core.new.watch ≡ true }
-    ensures whole { OnOk result (is_broken core.new.watch ≡ false) }
+    ensures volumes { VolumesSince (halted result) (V.facts (volumes_of core.old)).faults (V.facts (volumes_of core.new)).faults }
+    ensures broken { result ≡ Err Halt.Broken → is_broken (watch_of core.new) ≡ true }
+    ensures whole { OnOk result (is_broken (watch_of core.new) ≡ false) }
 {
     match hand_over(core) {
         Ok(()) => {}
@@ -140,12 +141,12 @@ fn serve<S: Source, K: Sink, V: Volumes<ServerNote>>(
     core: &mut OneCore<S, K, V>,
 ) -> Result<bool, Halt>
     requires served { CanRun (one_meaning S.facts K.facts V.facts) IsRead core.old }
-    requires whole { is_broken core.old.watch ≡ false }
+    requires whole { is_broken (watch_of core.old) ≡ false }
     ensures ok { IfOk result (λ lost. Leads (one_meaning S.facts K.facts V.facts) IsRead (IsShutAs [] lost) core.old core.new) }
     ensures err { OnErr result (Leads (one_meaning S.facts K.facts V.facts) IsRead (λ h. IsRead h ⊎ IsShut [] h) core.old core.new) }
-    ensures volumes { VolumesSince (halted result) (V.facts core.old.volumes).faults (V.facts core.new.volumes).faults }
-    ensures broken { result ≡ Err Halt.Broken → is_broken core.new.watch ≡ true }
-    ensures whole { OnOk result (is_broken core.new.watch ≡ false) }
+    ensures volumes { VolumesSince (halted result) (V.facts (volumes_of core.old)).faults (V.facts (volumes_of core.new)).faults }
+    ensures broken { result ≡ Err Halt.Broken → is_broken (watch_of core.new) ≡ true }
+    ensures whole { OnOk result (is_broken (watch_of core.new) ≡ false) }
 {
     for _turn in 0..MOST_TURNS {
         match turn(core) {
@@ -162,13 +163,13 @@ fn turn<S: Source, K: Sink, V: Volumes<ServerNote>>(
     core: &mut OneCore<S, K, V>,
 ) -> Result<Option<bool>, Halt>
     requires served { CanRun (one_meaning S.facts K.facts V.facts) IsRead core.old }
-    requires whole { is_broken core.old.watch ≡ false }
+    requires whole { is_broken (watch_of core.old) ≡ false }
     ensures goes { result ≡ Ok None → LeadsBy (one_meaning S.facts K.facts V.facts) IsRead ReadsOneMore core.old core.new }
     ensures closes { (lost : Bool) → result ≡ Ok (Some lost) → Leads (one_meaning S.facts K.facts V.facts) IsRead (IsShutAs [] lost) core.old core.new }
     ensures err { OnErr result (LeadsBy (one_meaning S.facts K.facts V.facts) IsRead TurnsOnce core.old core.new) }
-    ensures volumes { VolumesSince (halted result) (V.facts core.old.volumes).faults (V.facts core.new.volumes).faults }
-    ensures broken { result ≡ Err Halt.Broken → is_broken core.new.watch ≡ true }
-    ensures whole { OnOk result (is_broken core.new.watch ≡ false) }
+    ensures volumes { VolumesSince (halted result) (V.facts (volumes_of core.old)).faults (V.facts (volumes_of core.new)).faults }
+    ensures broken { result ≡ Err Halt.Broken → is_broken (watch_of core.new) ≡ true }
+    ensures whole { OnOk result (is_broken (watch_of core.new) ≡ false) }
 {
     match hand_over(core) {
         Ok(()) => {}

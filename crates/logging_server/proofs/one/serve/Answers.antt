@@ -43,7 +43,7 @@ returns g c i o stands =
     let n = c.run-ending.ensures.leads t stands.0 stands.1 stands.2 of_one stands.3 in
     let taken = subst (λ (now : ℕ). VolumesSince c.run-ending.result.halt v.faults now) (sym (ap (λ w. (volumes w).faults) c.finish-journal.ensures.volumes)) c.run-ending.ensures.volumes in
     let left = left_of _ source sink volumes i o v _ c.finish-journal.result c.run-ending.result.halt c.run-ending.result.lost n.1 n.3 (λ may. c.finish-journal.ensures.ends t n.0 n.1 n.2 of_one may)
-    (λ lost shut. c.finish-journal.ensures.closed t n.0 n.1 lost n.2 of_one shut) taken (λ why. c.finish-journal.ensures.broken (c.run-ending.ensures.broken why)) in
+    (λ now lost shut. c.finish-journal.ensures.closed t n.0 n.1 now lost n.2 of_one shut) taken (λ why. c.finish-journal.ensures.broken (c.run-ending.ensures.broken why)) in
     runs _ source sink volumes c.courses_account.ensures i o v c.finish-journal.result c.run-ending.result.halt c.run-ending.result.lost left c.into_retired-end.result c.into_retired-end.ensures
     c.broken.result c.is_too_long.result c.broken.ensures c.is_too_long.ensures.met c.is_too_long.ensures.not_met c.least.result c.into_input.result c.into_output.result
     (c.least.ensures ∙ ap (λ failed. status_of failed c.broken.result c.is_too_long.result c.run-ending.result.lost c.run-ending.result.halt) c.has_failed.ensures) c.into_input.ensures c.into_output.ensures

@@ -2,7 +2,7 @@ use Rattle.std.proofs.Common.{refl, ap, ◌∙◌, ◌≡◌, None, [], inl}
 use Rattle.log_handler.specs.LineSink.{sink_of}
 use Rattle.one_run.specs.Phases.{read_mask}
 use Rattle.one_run.specs.Opening.{terms_of_run}
-use Rattle.one_run.proofs.Begins.{starts, may_come, can_begin, registers, gives_back, unread, not_own}
+use Rattle.one_run.proofs.Begins.{starts, may_come, can_begin, registers, gives_back, unread, not_own, began_nothing}
 use Rattle.one_run.proofs.opening.open.Goals as goal
 
 pub new-made-requires-clause-begins : goal.new-made-requires-clause-begins
@@ -58,15 +58,16 @@ returns-in-Err-register-clause-err g c =
     let offered = c.new-handler.ensures.fits t None (c.new-end.ensures.kept t refl s.source) (may_come t i o v None _ s c.new-end.ensures.serial) in
     let back = gives_back _ t read_mask None c.in-Ok.core _ _ c.register.new.self (c.in-Err-register.ensures.stands t 0 [] stands offered) in
     let left = c.abandon.ensures.left t 0 back.stands in
-    let source = unread g.S.Source.facts t i o v None c.handle_close-end.result.0 _ s refl (c.handle_close-end.ensures.gone t None [] (λ own. not_own own) back.offered) in (
+    let source = unread g.S.Source.facts t i o v None c.handle_close-end.result.0 _ s refl refl (c.handle_close-end.ensures.gone t None [] (λ own. not_own own) back.offered) in (
       record {
         journal = left.journal;
         text = left.text;
         bytes = ap (λ k. (g.S.Source.facts k).bytes) c.abandon.ensures.input ∙ source.0;
         faults = ap (λ k. (g.S.Source.facts k).faults) c.abandon.ensures.input ∙ source.1;
+        gave = ap (λ k. (g.S.Source.facts k).gave) c.abandon.ensures.input ∙ source.2;
         output_faults = left.output_faults o.faults refl;
       },
-      c.abandon.ensures.volumes ∙ (c.in-Err-register.ensures.rest.volumes ∙ c.in-Ok.ensures.parts.2),
+      began_nothing _ _ _ c.in-Ok.ensures.volumes (ap g.V.Volumes.facts (c.abandon.ensures.volumes ∙ c.in-Err-register.ensures.rest.volumes)),
     )
 
 pub returns-in-Err-clause-err : goal.returns-in-Err-clause-err
@@ -78,7 +79,11 @@ returns-in-Err-clause-err g c =
         text = λ text told. ap (λ k. (g.K.Sink.facts k).text) same ∙ told;
         bytes = ap (λ k. (g.S.Source.facts k).bytes) unread;
         faults = ap (λ k. (g.S.Source.facts k).faults) unread;
+        gave = ap (λ k. (g.S.Source.facts k).gave) unread;
         output_faults = ap (λ k. (g.K.Sink.facts k).faults) same;
       },
-      c.in-Err.ensures.err.3,
+      record { taken = ap (λ v. (g.V.Volumes.facts v).taken) c.in-Err.ensures.err.3; faults = ap (λ v. (g.V.Volumes.facts v).faults) c.in-Err.ensures.err.3 },
     )
+
+pub returns-in-Ok-register-clause-volumes : goal.returns-in-Ok-register-clause-volumes
+returns-in-Ok-register-clause-volumes g c = began_nothing _ _ _ c.in-Ok.ensures.volumes (ap g.V.Volumes.facts c.in-Ok-register.ensures.rest.volumes)

@@ -1,12 +1,12 @@
-//! The lines that a watch writes, and in how many writes.
+//! In how many writes lines are written.
 ghost use Rattle.ev_base.specs.MemSink.{mem_sink_facts};
 
-use crate::{EndKind, LineSink, ServerNote};
+use crate::running::{RECORD, serve};
 use cdr_record::{Bytes, LogRecord, Records};
-use ev_base::{MemSink, Sink, Wrote};
+use ev_base::{MemSink, Sink, SteadySource, Wrote};
 use ev_types::{Answer, Handle, Mask};
-use reactor_journal::Entry;
-use reactor_model::Watch;
+use log_handler::{EndKind, LineSink, ServerNote};
+use reactor_model::{DropVolumes, Entry, Watch};
 use std::alloc::Global;
 use std::test::Fail;
 
@@ -26,10 +26,9 @@ impl Sink for CountingSink {
     }
 }
 
-/// A watch over a sink that fails behind so many bytes.
-fn watch(alloc: Global, fail_after: Option<u64>) -> Result<LineSink<CountingSink>, Fail> {
-    let below = MemSink::new(alloc, 4096, fail_after).map_err(|_| Fail::from("no room"))?;
-    Ok(LineSink::new(CountingSink { below, writes: 0 }))
+fn counting_sink(alloc: Global) -> Result<CountingSink, Fail> {
+    let below = MemSink::new(alloc, 4096, None).map_err(|_| Fail::from("no room"))?;
+    Ok(CountingSink { below, writes: 0 })
 }
 
 /// A turn of connection 3 with so many records.
@@ -55,10 +54,6 @@ fn piece(alloc: Global, count: u64) -> Result<Entry<ServerNote>, Fail> {
     })
 }
 
-fn finished(end: EndKind) -> ServerNote {
-    ServerNote::Finished { conn: 3, end }
-}
-
 fn accepted() -> Entry<ServerNote> {
     Entry::Returned {
         event: 0,
@@ -81,15 +76,7 @@ fn opened() -> Entry<ServerNote> {
 fn closed(end: EndKind) -> Entry<ServerNote> {
     Entry::Closed {
         handle: Handle(1),
-        note: finished(end),
-    }
-}
-
-fn refused() -> Entry<ServerNote> {
-    Entry::Refused {
-        live: 1,
-        fault: false,
-        note: finished(EndKind::Refused),
+        note: ServerNote::Finished { conn: 3, end },
     }
 }
 
@@ -106,14 +93,12 @@ fn a_note_is_written_at_once(rt: HostRuntime) -> Result<(), Fail> {
             1,
             b"3 1,2 7 LM_DEBUG: hi\n3 1,2 7 LM_DEBUG: hi\n",
         ),
-        (closed(EndKind::End), 1, b"3 closed: end\n"),
-        (closed(EndKind::Partial(7)), 1, b"3 closed: partial 7\n"),
         (closed(EndKind::Idle), 1, b"3 closed: idle\n"),
         (closed(EndKind::Stopped), 1, b"3 closed: stopped\n"),
-        (refused(), 1, b"3 closed: refused\n"),
+        (closed(EndKind::Refused), 1, b"3 closed: refused\n"),
     ];
     for (entry, writes, lines) in table {
-        let mut watch = watch(alloc, None)?;
+        let mut watch = LineSink::new(counting_sink(alloc)?);
         watch.saw(&entry);
         assert!(rt; !watch.broken());
         let output = watch.into_output();
@@ -124,17 +109,17 @@ fn a_note_is_written_at_once(rt: HostRuntime) -> Result<(), Fail> {
 }
 
 #[test]
-fn nothing_is_written_after_a_failed_write(rt: HostRuntime) -> Result<(), Fail> {
+fn the_lines_of_a_piece_are_written_together(rt: HostRuntime) -> Result<(), Fail> {
     let alloc = rt.alloc();
-    let mut watch = watch(alloc, Some(10))?;
-    watch.saw(&piece(alloc, 1)?);
-    assert!(rt; watch.broken());
-    watch.saw(&piece(alloc, 1)?);
-    watch.saw(&closed(EndKind::End));
-    assert!(rt; watch.broken());
-    let output = watch.into_output();
-    // one write that takes ten bytes, and one that fails
-    assert_eq!(rt; output.writes, 2);
-    assert_eq!(rt; output.below.bytes(), b"3 1,2 7 LM".as_slice());
+    let mut bytes = Vec::new(alloc);
+    for _ in 0..100 {
+        bytes.extend_from_slice(RECORD)?;
+    }
+    let input = SteadySource::new(bytes);
+    let served = serve(&rt, alloc, input, counting_sink(alloc)?, DropVolumes)?;
+    assert_eq!(rt; served.status, 0);
+    // 3,000 bytes are one piece: one write for its 100 lines of 21 bytes, and one for the closing line of 14
+    assert_eq!(rt; served.output.writes, 2);
+    assert_eq!(rt; served.output.below.bytes().len(), 100 * 21 + 14);
     Ok(())
 }

@@ -1,0 +1,11 @@
+//! Worked examples of the logging server's commands: what is written, in how many writes, the journal, and the status.
+#![tactic(auto)]
+
+#[cfg(test)]
+mod line_rows;
+#[cfg(test)]
+mod long_rows;
+#[cfg(test)]
+mod one_rows;
+#[cfg(test)]
+mod running;
