@@ -1,6 +1,5 @@
 //! The registration of handlers.
-ghost use Rattle.std.specs.Prelude.{nat_lt, ◌&&◌, ◌≡◌, ◌≤◌, ◌+◌, ◌-◌, ◌++◌, ◌∷◌, [], ℕ, List, true, false, None, IfOk, IfErr};
-ghost use Rattle.ev_base.specs.Terms.{Terms};
+ghost use Rattle.std.specs.Prelude.{nat_lt, ◌&&◌, ◌≡◌, ◌≤◌, ◌+◌, ◌-◌, ◌++◌, ◌∷◌, [], true, false, None, IfOk, IfErr};
 ghost use Rattle.reactor_journal.specs.declared.entry.Entry.{Entry};
 ghost use Rattle.reactor_journal.specs.Past.{past_of};
 ghost use Rattle.reactor_summary.specs.Summary.{summary, is_alive};
@@ -11,9 +10,8 @@ ghost use Rattle.reactor_core.specs.Rest.{LeavesButAttaches, LeavesRest};
 ghost use Rattle.reactor_core.specs.Refusals.{LeavesAdmission, LeavesOffer};
 ghost use Rattle.reactor_core.specs.Steps.{MayAdmit, MayOpen};
 ghost use Rattle.reactor_core.specs.Stands.{From, FromTracks, Somewhere, Each, Tracks, TracksWith, StandsWith};
-ghost use Rattle.reactor_core.specs.Registering.{HasPlaceFor, IsOffered, registered};
+ghost use Rattle.reactor_core.specs.Registering.{IsOffered, registered};
 ghost use Rattle.reactor_core.specs.Offering.{TakesHandle, ComesBack, RegisterGives, AdmitGives};
-ghost use Rattle.reactor_core.specs.Settling.{act_places};
 
 use crate::Core;
 use crate::append::append;
