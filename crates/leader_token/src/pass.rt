@@ -9,7 +9,8 @@ use atomic_table::{Seat, Table};
 use std::alloc::Global;
 use std::sync::atomic::AtomicU64;
 
-/// A token for one value: whoever got the value has it alone until it is put back.
+/// A token for one value: whoever got the value has it alone until it is put back. The value lies on the heap, so
+/// that a hold moves a pointer, however large the value is.
 pub struct Token<T: Kept> {
     pub(crate) table: Table<Option<Box<T>>, View<T::Entry, T::Terms>, Key<T>, TokenRule<T>, Global>,
     // How many threads sleep on the word or are about to. It is a hint that spares `put` a call of the kernel,

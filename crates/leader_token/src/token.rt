@@ -134,8 +134,8 @@ impl<T: Kept> Token<T> {
         Pass { seat }
     }
 
-    /// Takes a pass in. Of the two lists one begins the other, and the root has then seen the longer. It
-    /// takes no memory.
+    /// Takes a pass in. Of the two lists one begins the other, and the root has then seen the longer. The
+    /// root's own event is still open, in a list that the longer one begins. It takes no memory.
     pub fn join(&self, root: &mut Pass<T>, other: Pass<T>)
         requires token { (token_of root.old ≡ id_of self.now) × (token_of other ≡ id_of self.now) }
         requires root { ((view_of root.old).root ≡ true) × ((view_of root.old).base ≡ None) }

@@ -5,12 +5,16 @@ use std::sync::Wait;
 use std::sync::atomic::{AtomicU64, Ordering};
 use std::thread::yield_now;
 
-/// How often a thread looks at once: where both run on processors of their own, the next item comes within a microsecond.
-const SPINS: u32 = 32;
+/// How often a thread only waits a moment before it looks again: where both run on processors of their own, the next items come
+/// within a microsecond.
+const SPINS: u32 = 2;
+
+/// How many turns the first of these moments has. The next is twice as long.
+const FIRST_SPINS: u32 = 4;
 
 /// How often it looks before it sleeps, from then on letting other threads run in between: where both share a processor, the other
 /// goes on then. A sleep with its wake takes longer than all these looks.
-const LOOKS: u32 = 64;
+const LOOKS: u32 = 32;
 
 /// What a thread sleeps on until another wakes it. One thread waits at it at a time. No contract speaks of it.
 pub(crate) struct Parking {
@@ -71,12 +75,14 @@ impl Looks {
         Looks { made: 0 }
     }
 
-    /// Comes after a look in vain: it is short at first, then it lets other threads run, then it says that the thread is about to sleep,
-    /// and after one more look it sleeps.
+    /// Comes after a look in vain: it waits a moment at first, then it lets other threads run, then it says that the thread is about to
+    /// sleep, and after one more look it sleeps.
     pub(crate) fn pause<R: Wait>(&mut self, rt: &R, at: &Parking) {
         if self.made < SPINS {
+            for _ in 0..FIRST_SPINS << self.made {
+                spin_loop();
+            }
             self.made += 1;
-            spin_loop();
         } else if self.made < LOOKS {
             self.made += 1;
             yield_now();
