@@ -11,12 +11,6 @@ const READ: Mask = Mask {
     except: false,
 };
 
-const WRITE: Mask = Mask {
-    read: false,
-    write: true,
-    except: false,
-};
-
 // What the reads of an end answer, with room for 8 bytes.
 fn reads<E: PeerEnd>(rt: &impl Abort, end: &mut E, answers: &[Got]) {
     for want in answers {
@@ -66,22 +60,16 @@ fn the_end_is_reported_until_it_is_retired(rt: HostRuntime) -> Result<(), Fail> 
         net.close();
         return Err(Fail::from("memory"));
     }
-    assert_eq!(rt; net.wait(None), Waited::Over { now: 0 });
     match net.attach(&mut end, Handle(0), READ) {
         Ok(()) => {}
         Err(_) => unreachable!(),
     }
     assert_eq!(rt; net.wait(Some(0)), Waited::Reports { now: 0, count: 1 });
-    assert_eq!(rt; net.wait(None), Waited::Reports { now: 0, count: 1 });
     let report = Report {
         handle: Handle(0),
         kind: Kind::Read,
     };
     assert_eq!(rt; net.report(0), report);
-    net.set_mask(Handle(0), WRITE);
-    assert_eq!(rt; net.wait(None), Waited::Over { now: 0 });
-    net.set_mask(Handle(0), READ);
-    assert_eq!(rt; net.wait(None), Waited::Reports { now: 0, count: 1 });
     net.retire(Handle(0), end);
     assert_eq!(rt; net.wait(None), Waited::Over { now: 0 });
     let mut source = net.into_retired().into_input();
