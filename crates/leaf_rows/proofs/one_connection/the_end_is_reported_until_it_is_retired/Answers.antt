@@ -1,6 +1,6 @@
 use Rattle.std.proofs.Common.{ap, ◌∙◌}
 use Rattle.ev_base.specs.Net.{with_one}
-use Rattle.one_net.proofs.tests.the_end_is_reported_until_it_is_retired.Goals as goal
+use Rattle.leaf_rows.proofs.one_connection.the_end_is_reported_until_it_is_retired.Goals as goal
 
 pub into_retired-requires : goal.into_retired-requires
 into_retired-requires g c =
