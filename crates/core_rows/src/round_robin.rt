@@ -1,5 +1,5 @@
 //! A demultiplexer that reports its handles in turn.
-ghost use Rattle.std.specs.Prelude.{◌≡◌, [], ℕ};
+ghost use Rattle.std.specs.Prelude.{◌≡◌, []};
 ghost use Rattle.core_rows.specs.RoundRobin.{reported, round_robin_facts};
 
 use demux::PlayEnd;

@@ -75,7 +75,6 @@ impl<
     /// more room. `Stopped` comes exactly where the reactor was stopped; `Full` exactly where it was not, and as many handlers are
     /// live as may be or 4,294,967,295 were registered; `NetFailed` only where the net failed to attach its end. That was tried
     /// once: the net's count of failed attaches rose, and the handler fits what it fitted before.
-    #[tactic(auto, using(crate::proofs::Frames::attaching_goes_on, crate::proofs::Frames::attaching_of))]
     pub fn register(
         &mut self,
         handler: H,
@@ -110,7 +109,6 @@ impl<
     }
 
     /// Registers a handler for which there is room, and its timer.
-    #[tactic(auto, using(crate::proofs::Frames::attaching_goes_on, crate::proofs::Frames::attaching_of))]
     pub(crate) fn admit(
         &mut self,
         handler: H,
@@ -138,7 +136,6 @@ impl<
 
     /// Registers a handler for which there is room: its end is attached, and the journal has `Opened`. Where the net cannot take
     /// the end the handler comes back.
-    #[tactic(auto, using(crate::proofs::Frames::attaching_goes_on, crate::proofs::Frames::attaching_of))]
     fn open_handler(&mut self, handler: H, mask: Mask) -> Result<Handle, H>
         requires may { Somewhere (MayOpen ⟦<Self as Means>⟧.m handler) self.old }
         requires journal { 1 ≤ self.old.journal.spare }
