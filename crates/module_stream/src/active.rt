@@ -18,6 +18,7 @@ use std::sync::Wait;
 use std::thread::{self, PromisedHandle, Threads};
 
 /// A task that runs on a thread of its own. Messages go to it through a queue of 64, and what comes out comes back through another.
+/// Whoever waits for the other looks a few times and then sleeps.
 /// Where no thread can be started, the caller runs the task inside `put` and `finish`. An active task is ended by `finish` and
 /// cannot be let go otherwise, so that no thread is left behind.
 pub struct ActiveTask<T: Task> {
