@@ -75,7 +75,7 @@ impl PeerEnd for WaitingEnd {
         })
     }
 
-    ghost keeps_story = { λ t end keeps. record { connection = λ serial story reader is. absurd (Prim.cc); listener = λ offers listens is. absurd (Prim.cc); unnumbered = λ offers listens is. refl } };
+    ghost keeps_story = { λ t end keeps. record { connection = λ serial story reader is. absurd (Prim.cc); listener = λ offers listens is. absurd (Prim.cc); unnumbered = λ offers listens is. absurd (Prim.cc) } };
 }
 
 /// What a turn offers.

@@ -5,8 +5,6 @@
 mod planned;
 mod play_end;
 mod play_net;
-#[cfg(test)]
-mod tests;
 mod watched;
 
 pub use play_end::PlayEnd;

@@ -10,8 +10,6 @@ mod net;
 mod sink;
 mod source;
 mod standard;
-#[cfg(test)]
-mod tests;
 
 pub use end::{PeerEnd, Sent, Taken};
 pub use ev_types::{Answer, Handle, Kind, Mask, NetFailed, NoMemory, Upcall, Why};

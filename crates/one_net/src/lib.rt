@@ -4,8 +4,6 @@
 
 mod one_end;
 mod one_net;
-#[cfg(test)]
-mod tests;
 mod watched;
 
 pub use one_end::OneEnd;

@@ -1,19 +1,13 @@
-//! What no contract says: that ends and nets do their work where memory is ample.
-use super::*;
+//! The end and the net of one connection: how many bytes a read gives, and that they do their work where memory is ample.
 use ev_base::{Got, MemSource, Net, PeerEnd, Report, Sent, Source, SteadySource, Waited};
 use ev_types::{Handle, Kind, Mask};
+use one_net::{OneEnd, OneNet};
 use std::process::Abort;
 use std::test::Fail;
 
 const READ: Mask = Mask {
     read: true,
     write: false,
-    except: false,
-};
-
-const WRITE: Mask = Mask {
-    read: false,
-    write: true,
     except: false,
 };
 
@@ -27,39 +21,23 @@ fn reads<E: PeerEnd>(rt: &impl Abort, end: &mut E, answers: &[Got]) {
 }
 
 #[test]
-fn a_byte_behind_the_limit_is_a_fault(rt: HostRuntime) -> Result<(), Fail> {
+fn ends_give_what_their_limit_lets(rt: HostRuntime) -> Result<(), Fail> {
+    let alloc = rt.alloc();
     let bytes = b"0123456789abcdefghijklmnopqrstuvwxyz";
-    let mut end = OneEnd::new(SteadySource::new(bytes[..31].to_vec(rt.alloc())?), 30);
-    reads(
-        &rt,
-        &mut end,
-        &[Got::Bytes(8), Got::Bytes(8), Got::Bytes(8), Got::Bytes(6)],
-    );
+    let whole = [Got::Bytes(8), Got::Bytes(8), Got::Bytes(8), Got::Bytes(6)];
+
+    let mut end = OneEnd::new(SteadySource::new(bytes[..31].to_vec(alloc)?), 30);
+    reads(&rt, &mut end, &whole);
     assert!(rt; !end.is_too_long());
     reads(&rt, &mut end, &[Got::Failed, Got::Failed]);
-    assert!(rt; end.is_too_long());
-    assert!(rt; !end.has_failed());
-    Ok(())
-}
+    assert!(rt; end.is_too_long() && !end.has_failed());
 
-#[test]
-fn as_many_bytes_as_the_limit_are_none_too_many(rt: HostRuntime) -> Result<(), Fail> {
-    let bytes = b"0123456789abcdefghijklmnopqrstuvwxyz";
-    let mut end = OneEnd::new(SteadySource::new(bytes[..30].to_vec(rt.alloc())?), 30);
-    reads(
-        &rt,
-        &mut end,
-        &[Got::Bytes(8), Got::Bytes(8), Got::Bytes(8), Got::Bytes(6)],
-    );
+    let mut end = OneEnd::new(SteadySource::new(bytes[..30].to_vec(alloc)?), 30);
+    reads(&rt, &mut end, &whole);
     reads(&rt, &mut end, &[Got::Over, Got::Over]);
     assert!(rt; !end.is_too_long());
     assert_eq!(rt; end.write(b"hello"), Sent::Pause);
-    Ok(())
-}
 
-#[test]
-fn a_failing_source_is_remembered(rt: HostRuntime) -> Result<(), Fail> {
-    let alloc = rt.alloc();
     let mut pieces = Vec::new(alloc);
     pieces.push(b"abc".to_vec(alloc)?)?;
     pieces.push(b"de".to_vec(alloc)?)?;
@@ -67,8 +45,7 @@ fn a_failing_source_is_remembered(rt: HostRuntime) -> Result<(), Fail> {
     reads(&rt, &mut end, &[Got::Bytes(3)]);
     assert!(rt; !end.has_failed());
     reads(&rt, &mut end, &[Got::Failed, Got::Bytes(1)]);
-    assert!(rt; end.has_failed());
-    assert!(rt; !end.is_too_long());
+    assert!(rt; end.has_failed() && !end.is_too_long());
     reads(&rt, &mut end, &[Got::Failed]);
     assert!(rt; end.is_too_long());
     Ok(())
@@ -83,22 +60,16 @@ fn the_end_is_reported_until_it_is_retired(rt: HostRuntime) -> Result<(), Fail> 
         net.close();
         return Err(Fail::from("memory"));
     }
-    assert_eq!(rt; net.wait(None), Waited::Over { now: 0 });
     match net.attach(&mut end, Handle(0), READ) {
         Ok(()) => {}
         Err(_) => unreachable!(),
     }
     assert_eq!(rt; net.wait(Some(0)), Waited::Reports { now: 0, count: 1 });
-    assert_eq!(rt; net.wait(None), Waited::Reports { now: 0, count: 1 });
     let report = Report {
         handle: Handle(0),
         kind: Kind::Read,
     };
     assert_eq!(rt; net.report(0), report);
-    net.set_mask(Handle(0), WRITE);
-    assert_eq!(rt; net.wait(None), Waited::Over { now: 0 });
-    net.set_mask(Handle(0), READ);
-    assert_eq!(rt; net.wait(None), Waited::Reports { now: 0, count: 1 });
     net.retire(Handle(0), end);
     assert_eq!(rt; net.wait(None), Waited::Over { now: 0 });
     let mut source = net.into_retired().into_input();

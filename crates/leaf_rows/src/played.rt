@@ -1,8 +1,8 @@
-//! What no contract says: runs with ample memory, and that a net may move to another thread.
+//! The net and the end that play what was laid down: runs with ample memory, and that a net may move to another thread.
 ghost use Rattle.std.specs.Prelude.{◌≡◌, ◌≤◌, ◌∷◌, [], IfOk};
 ghost use Rattle.demux.specs.PlayNet.{play_net_facts};
 
-use super::*;
+use demux::{PlayEnd, PlayNet};
 use ev_base::{Got, Net, PeerEnd, Report, Sent, Taken, Waited};
 use ev_types::{Handle, Kind, Mask};
 use std::alloc::Global;
