@@ -20,7 +20,7 @@ new_is_new : (moments : List ℕ) (reports : List (ℕ × Report)) → IsNew (pl
 new_is_new moments reports = record { failed_waits = refl; failed_attaches = refl; attached = refl; now = refl; calls = refl; masks = refl; retired = refl; turned_away = refl }
 
 pub begins : (net : PlayContent) (timers : List Timer) (volumes : VolumesFacts ℕ) (moments : List ℕ) (reports : List (ℕ × Report)) (most : ℕ)
-    → net ≡ new_play moments reports → timers ≡ [] → volumes ≡ record { faults = 0; taken = Some [] }
+    → net ≡ new_play moments reports → timers ≡ [] → volumes ≡ record { faults = 0; taken = Some []; next = Some 0; size = 65536 }
     → CanBegin (play_net_facts net) (play_net_keeps (open_terms most) net) timers (Unit {0}) volumes (open_terms most) most
 begins net timers volumes moments reports most new none facts = record {
   terms = refl;

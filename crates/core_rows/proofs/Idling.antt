@@ -24,7 +24,8 @@ use Rattle.reactor_core.specs.declared.registering.RegisterRefused.{RegisterRefu
 use Rattle.reactor_core.specs.declared.registering.RegisterRefused.TheVariants.{Stopped, Full, NoMemory, NetFailed}
 use Rattle.core_rows.specs.declared.handler.Steady.{Steady}
 use Rattle.core_rows.specs.Idle.{RowsOf, IsIdle, WasStopped}
-use Rattle.core_rows.proofs.Keeping.{sum, sum_more, Keeps, keeps_one, keeps_removed, keeps_closing, keeps_removals, none_live, keeps_polled, keeps_registered}
+use Rattle.core_rows.proofs.Keeping.{sum, sum_more, Keeps, keeps_one, keeps_removed, keeps_closing, keeps_removals, keeps_polled, keeps_registered}
+use Rattle.reactor_core.proofs.Over.{none_live}
 
 -- what the parts of a reactor of steady handlers mean
 abbrev pub MeaningOf : Type 0 → Type 0 → Type 1

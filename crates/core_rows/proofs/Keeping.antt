@@ -1,7 +1,6 @@
 -- Entries that change neither which events are open nor that a reactor was stopped.
-use Rattle.std.proofs.Common.{map, ℕ, ◌≡◌, Bool, true, false, not, ◌&&◌, ◌||◌, ◌==◌, List, [], ◌∷◌, ◌++◌, refl, sym, ap, ◌∙◌, subst, Option, Some, None}
+use Rattle.std.proofs.Common.{map, ℕ, ◌≡◌, Bool, true, false, not, List, [], ◌∷◌, ◌++◌, refl, sym, ap, ◌∙◌, subst, Option, Some, None}
 use Rattle.std.proofs.lemmas.List.{append-nil, append_assoc}
-use Rattle.std.specs.List.{list_any}
 use Rattle.ev_types.specs.declared.upcall.Handle.{Handle}
 use Rattle.ev_types.specs.declared.upcall.Mask.{Mask}
 use Rattle.reactor_journal.specs.declared.entry.Entry.{Entry}
@@ -10,7 +9,6 @@ use Rattle.reactor_journal.specs.Past.{past_of}
 use Rattle.reactor_journal.proofs.Turning.{past_of-more}
 use Rattle.reactor_summary.specs.Summary.{Summary, summary, step}
 use Rattle.reactor_summary.specs.declared.parts.LiveHandle.{LiveHandle}
-use Rattle.reactor_summary.specs.declared.parts.OpenEvent.{OpenEvent}
 use Rattle.ev_base.specs.declared.net.Report.{Report}
 use Rattle.reactor_core.specs.Polling.{due_of, ready_of}
 use Rattle.reactor_core.specs.Settling.{IsClosing}
@@ -55,17 +53,6 @@ keeps_removals h busy (a ∷ hs) es r =
     (keeps_both (h ++ Removed a.handle ∷ []) r.0 r.1
     (keeps_closing (h ++ Removed a.handle ∷ []) (not (busy a.handle.0)) a.handle r.0 r.2)
     (keeps_removals ((h ++ Removed a.handle ∷ []) ++ r.0) busy hs r.1 r.3)))
-
--- where no event is open, no handle is alive and none waits for its close, none is live
-pub none_live : (hs : List LiveHandle) (opens : List OpenEvent) → opens ≡ [] → list_any (λ (h : LiveHandle). h.alive) hs ≡ false
-    → list_any (λ (h : LiveHandle). not h.alive && not (list_any (λ (o : OpenEvent). o.handle.0 == h.handle.0) opens)) hs ≡ false → hs ≡ []
-none_live [] opens none dead waits = refl
-none_live (a ∷ hs) [] none dead waits = by_cases _ _ a.alive dead waits
-  where
-    by_cases : (p q b : Bool) → (b || p) ≡ false → ((not b && not false) || q) ≡ false → a ∷ hs ≡ []
-    by_cases p q true dead waits = cc
-    by_cases p q false dead waits = cc
-none_live (a ∷ hs) (o ∷ opens) none dead waits = cc
 
 pub keeps_dues : (h : List (Entry ℕ)) (timers : List ℕ) → Keeps h (map due_of timers)
 keeps_dues h [] = keeps_nil h

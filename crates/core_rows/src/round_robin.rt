@@ -1,5 +1,5 @@
 //! A demultiplexer that reports its handles in turn.
-ghost use Rattle.std.specs.Prelude.{◌≡◌, [], ℕ};
+ghost use Rattle.std.specs.Prelude.{◌≡◌, []};
 ghost use Rattle.core_rows.specs.RoundRobin.{reported, round_robin_facts};
 
 use demux::PlayEnd;
@@ -128,4 +128,6 @@ impl Net for RoundRobinNet {
     fn turn_away(&mut self, _end: PlayEnd) {}
 
     ghost sound = { λ net steady. cc };
+
+    ghost keeps_groups = { λ t net keeps. tt };
 }

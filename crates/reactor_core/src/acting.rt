@@ -1,5 +1,5 @@
 //! What a turn asks for, once its upcall is settled.
-ghost use Rattle.std.specs.Prelude.{◌≡◌, ◌+◌, ◌++◌, ◌∷◌, [], ℕ, List, true, false};
+ghost use Rattle.std.specs.Prelude.{◌≡◌, ◌+◌, ◌++◌, ◌∷◌, [], true, false};
 ghost use Rattle.reactor_journal.specs.declared.entry.Entry.{Entry};
 ghost use Rattle.reactor_journal.specs.Past.{past_of};
 ghost use Rattle.reactor_summary.specs.Summary.{summary, is_alive};
@@ -54,7 +54,6 @@ impl<
     /// Settles an upcall that was made. The journal has `Returned`; where the handle is not alive any more its handler is closed, for
     /// itself where its own answer ended its life and else as it was removed, and `Closed` follows; else the handler goes home. Then
     /// the act of the turn is done. It takes no memory and cannot fail.
-    #[tactic(auto, using(crate::proofs::Frames::attaching_goes_on, crate::proofs::Frames::attaching_of))]
     pub fn settle(&mut self, done: Done<H>) -> Settled
         requires { StandsWith ⟦<Self as Means>⟧.m
             (λ t h. DoneFits H.means t (past_of h) done) self.old }
@@ -92,7 +91,6 @@ impl<
     }
 
     /// Does the act of a turn of the handle's handler.
-    #[tactic(auto, using(crate::proofs::Frames::attaching_goes_on, crate::proofs::Frames::attaching_of))]
     fn act(&mut self, handle: Handle, act: Option<Act<H>>)
         requires { RoomWith ⟦<Self as Means>⟧.m 4 act_places
             (λ t h. FitsAct H.means t (past_of h) act) self.old }
@@ -117,7 +115,6 @@ impl<
     }
 
     /// Registers a handler that an upcall offered, or refuses it.
-    #[tactic(auto, using(crate::proofs::Frames::attaching_goes_on, crate::proofs::Frames::attaching_of))]
     fn install(&mut self, handler: H, mask: Mask, timer: Option<(u64, u64)>)
         requires stands { RoomWith ⟦<Self as Means>⟧.m 4 act_places
             (λ t h. IsOffered H.means t (past_of h) handler) self.old }

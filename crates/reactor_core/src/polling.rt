@@ -110,9 +110,8 @@ impl<
     /// `over` tells from then on how many waits there were with this one, as many as the whole history has `Polled`.
     ///
     /// `Stopped` comes exactly where the reactor was stopped. `NoMemory` comes where there was no memory for the entries and
-    /// events that a wait may bring. `NetFailed` comes only where the net's count of failed waits rose. After an Err the journal,
-    /// the handlers and the timers are as before.
-    #[tactic(auto, using(crate::proofs::Frames::counts_go_on, crate::proofs::Frames::counts_of))]
+    /// events that a wait may bring, and leaves all as it was but the room. `NetFailed` comes only where the net's count of failed
+    /// waits rose: one wait was made, which failed. After each Err the journal, the handlers and the timers are as before.
     pub fn poll(&mut self, most_ms: Option<u64>) -> Result<Polled, PollRefused>
         requires stands { StandsWith ⟦<Self as Means>⟧.m (λ t h. FitsLimit t most_ms) self.old }
         ensures ok { IfOk result (λ polled. From ⟦<Self as Means>⟧.m self.old
@@ -171,7 +170,6 @@ impl<
     }
 
     /// Makes one wait, with so many armed timers, and appends its entries. None comes exactly where the wait failed.
-    #[tactic(auto, using(crate::proofs::Frames::counts_go_on, crate::proofs::Frames::counts_of))]
     fn take_events(&mut self, limit: Option<u64>, armed: usize) -> Option<Polled>
         requires { Somewhere (MayWait ⟦<Self as Means>⟧.m armed limit) self.old }
         ensures waits { IfSome result (λ polled.

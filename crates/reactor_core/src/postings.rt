@@ -46,7 +46,7 @@ impl<
 > Core<H, M, Q, W, V> {
     /// Posts a notification to the handler of a handle (ACE's `notify`). `from` is the poster's number, and `seq` its own number
     /// for the notification, from 0. The journal has one more entry: `Posted` where the handle is alive, and else `Stale`.
-    /// `Stopped` comes exactly where the reactor was stopped; after a refusal nothing has changed.
+    /// `Stopped` comes exactly where the reactor was stopped; after a refusal nothing has changed but, with `NoMemory`, the room.
     pub fn post(
         &mut self,
         handle: Handle,
@@ -86,7 +86,7 @@ impl<
     }
 
     /// Posts a notification for which there is room, while the reactor was not stopped. It appends what `post` appends, uses that
-    /// room and takes no memory.
+    /// room, takes no memory and leaves the net alone.
     pub fn post_reserved(&mut self, handle: Handle, kind: Kind, from: u64, seq: u64)
         requires stands { StandsWith ⟦<Self as Means>⟧.m (λ t h.
             HasRoom ⟦<Self as Means>⟧.m 1 post_places self.old (summary (past_of h))

@@ -1,6 +1,5 @@
 //! The registration of handlers.
-ghost use Rattle.std.specs.Prelude.{nat_lt, ◌&&◌, ◌≡◌, ◌≤◌, ◌+◌, ◌-◌, ◌++◌, ◌∷◌, [], ℕ, List, true, false, None, IfOk, IfErr};
-ghost use Rattle.ev_base.specs.Terms.{Terms};
+ghost use Rattle.std.specs.Prelude.{nat_lt, ◌&&◌, ◌≡◌, ◌≤◌, ◌+◌, ◌-◌, ◌++◌, ◌∷◌, [], true, false, None, IfOk, IfErr};
 ghost use Rattle.reactor_journal.specs.declared.entry.Entry.{Entry};
 ghost use Rattle.reactor_journal.specs.Past.{past_of};
 ghost use Rattle.reactor_summary.specs.Summary.{summary, is_alive};
@@ -11,9 +10,8 @@ ghost use Rattle.reactor_core.specs.Rest.{LeavesButAttaches, LeavesRest};
 ghost use Rattle.reactor_core.specs.Refusals.{LeavesAdmission, LeavesOffer};
 ghost use Rattle.reactor_core.specs.Steps.{MayAdmit, MayOpen};
 ghost use Rattle.reactor_core.specs.Stands.{From, FromTracks, Somewhere, Each, Tracks, TracksWith, StandsWith};
-ghost use Rattle.reactor_core.specs.Registering.{HasPlaceFor, IsOffered, registered};
+ghost use Rattle.reactor_core.specs.Registering.{IsOffered, registered};
 ghost use Rattle.reactor_core.specs.Offering.{TakesHandle, ComesBack, RegisterGives, AdmitGives};
-ghost use Rattle.reactor_core.specs.Settling.{act_places};
 
 use crate::Core;
 use crate::append::append;
@@ -73,10 +71,10 @@ impl<
 > Core<H, M, Q, W, V> {
     /// Registers a handler (ACE's `register_handler`), with the reports that it wants and, where one is given, a timer: its first
     /// delay, from 1 to 4,294,967,295 milliseconds, and its period, 0 for once. The journal has `Opened`, and `Scheduled` for the
-    /// timer. With each refusal the handler comes back, and all is as it was: `Stopped` comes exactly where the reactor was
-    /// stopped; `Full` exactly where it was not, and as many handlers are live as may be or 4,294,967,295 were registered;
-    /// `NetFailed` only where the net's count of failed attaches rose.
-    #[tactic(auto, using(crate::proofs::Frames::attaching_goes_on, crate::proofs::Frames::attaching_of))]
+    /// timer. With each refusal the handler that was offered comes back, and all is as it was, but that after `NoMemory` there may be
+    /// more room. `Stopped` comes exactly where the reactor was stopped; `Full` exactly where it was not, and as many handlers are
+    /// live as may be or 4,294,967,295 were registered; `NetFailed` only where the net failed to attach its end. That was tried
+    /// once: the net's count of failed attaches rose, and the handler fits what it fitted before.
     pub fn register(
         &mut self,
         handler: H,
@@ -111,7 +109,6 @@ impl<
     }
 
     /// Registers a handler for which there is room, and its timer.
-    #[tactic(auto, using(crate::proofs::Frames::attaching_goes_on, crate::proofs::Frames::attaching_of))]
     pub(crate) fn admit(
         &mut self,
         handler: H,
@@ -139,7 +136,6 @@ impl<
 
     /// Registers a handler for which there is room: its end is attached, and the journal has `Opened`. Where the net cannot take
     /// the end the handler comes back.
-    #[tactic(auto, using(crate::proofs::Frames::attaching_goes_on, crate::proofs::Frames::attaching_of))]
     fn open_handler(&mut self, handler: H, mask: Mask) -> Result<Handle, H>
         requires may { Somewhere (MayOpen ⟦<Self as Means>⟧.m handler) self.old }
         requires journal { 1 ≤ self.old.journal.spare }

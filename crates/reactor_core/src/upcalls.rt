@@ -45,7 +45,8 @@ impl<
     V: Volumes<H::Note>,
 > Core<H, M, Q, W, V> {
     /// Starts the upcall of the event that is to be dispatched next, and gives its job, or None exactly where there is no such
-    /// event. The journal has one more entry, `Started`. After `NoMemory` nothing has changed.
+    /// event, and then nothing has changed. The journal has one more entry, `Started`. The net may have more places, and is else as
+    /// it was. After `NoMemory` nothing has changed but the room.
     pub fn start(&mut self) -> Result<Option<Job<H>>, StartRefused>
         requires stands { IsStanding ⟦<Self as Means>⟧.m self.old }
         ensures ok { IfOk result (λ job. From ⟦<Self as Means>⟧.m self.old

@@ -61,9 +61,9 @@ opens_are most (Returned event answer note ∷ past) i legal =
     let rec : times i (open_events past) ≡ cond (is_open past i) 1 0 = opens_are most past i (and_parts _ _ legal).1 in
     times_filter i event (open_events past)
     ∙ ⊎_elim
-        (λ (q : (event == i) ≡ true). rw (eqb_turned i event, q) (none (was_started past i)))
-        (λ (q : (event == i) ≡ false). rw (eqb_turned i event, q) rec)
-        (cases_Bool (event == i))
+    (λ (q : (event == i) ≡ true). rw (eqb_turned i event, q) (none (was_started past i)))
+    (λ (q : (event == i) ≡ false). rw (eqb_turned i event, q) rec)
+    (cases_Bool (event == i))
   where
     none : (b : Bool) → ◌≡◌ {A = ℕ} 0 (cond (b && false) 1 0)
     none true = refl

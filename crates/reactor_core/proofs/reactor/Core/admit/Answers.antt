@@ -10,6 +10,7 @@ use Rattle.reactor_core.specs.Stands.{places_for}
 use Rattle.reactor_core.specs.Settling.{act_places}
 use Rattle.reactor_core.proofs.Opened.{opened_alive}
 use Rattle.reactor_core.proofs.Registered.{opens_by, admitted, admitted_armed, stands_at, back_with_room}
+use Rattle.reactor_core.proofs.Frames.{attaching_of, attaching_goes_on}
 use Rattle.reactor_core.proofs.reactor.Core.admit.Goals as goal
 
 pub open_handler-requires-clause-may : goal.open_handler-requires-clause-may
@@ -60,3 +61,12 @@ returns-in-Err-clause-stands g c t F h o =
 
 pub returns-in-Some-clause-leaves : goal.returns-in-Some-clause-leaves
 returns-in-Some-clause-leaves g c = ap (λ net. (g.M.Net.facts net).failed_attaches) c.arm.ensures.net ∙ c.in-Ok.ensures.leaves
+
+pub returns-in-Some-clause-rest : goal.returns-in-Some-clause-rest
+returns-in-Some-clause-rest g c = attaching_goes_on c.in-Ok.ensures.rest (attaching_of c.arm.ensures.rest)
+
+pub returns-in-None-clause-rest : goal.returns-in-None-clause-rest
+returns-in-None-clause-rest g c = c.in-Ok.ensures.rest
+
+pub returns-in-Err-clause-rest : goal.returns-in-Err-clause-rest
+returns-in-Err-clause-rest g c = c.in-Err.ensures.rest

@@ -3,6 +3,7 @@ use Rattle.reactor_journal.specs.Past.{past_of}
 use Rattle.reactor_summary.specs.Summary.{summary}
 use Rattle.reactor_core.proofs.Registered.{full_now, place_by}
 use Rattle.reactor_core.proofs.Refused.{may_after, installs_refused, installs_registered, rose_to}
+use Rattle.reactor_core.proofs.Frames.{attaching_of, attaching_goes_on}
 use Rattle.reactor_core.proofs.reactor.Core.install.Goals as goal
 
 pub refuse-requires : goal.refuse-requires
@@ -59,3 +60,15 @@ returns-in-Err-clause-stands g c t F h st offered =
     let rose = c.in-Err.ensures.leaves.1.0.rose in
     let r = c.refuse-in-Err.ensures.stands t F h (record { stands = gives.0; offered = gives.1; may = may_after _ t c.args.self.now c.args.self.now F h c.admit.new.self rose st }) in
     installs_refused _ t c.args.self.now _ F h c.args.mask c.args.timer true r.0 (place, rose_to _ _ _ c.refuse-in-Err.ensures.rest.attach_faults rose) (λ q. absurd cc) r.1
+
+pub returns-then-is_ended-clause-rest : goal.returns-then-is_ended-clause-rest
+returns-then-is_ended-clause-rest g c = attaching_of c.refuse.ensures.rest
+
+pub returns-then-not-has_place-clause-rest : goal.returns-then-not-has_place-clause-rest
+returns-then-not-has_place-clause-rest g c = attaching_of c.refuse-then-not-has_place.ensures.rest
+
+pub returns-in-Ok-clause-rest : goal.returns-in-Ok-clause-rest
+returns-in-Ok-clause-rest g c = c.in-Ok.ensures.rest
+
+pub returns-in-Err-clause-rest : goal.returns-in-Err-clause-rest
+returns-in-Err-clause-rest g c = attaching_goes_on c.in-Err.ensures.rest (attaching_of c.refuse-in-Err.ensures.rest)

@@ -6,6 +6,7 @@ use Rattle.reactor_core.specs.declared.marks.WaitMarks.{WaitMarks}
 use Rattle.reactor_core.proofs.Kept.{stands_kept}
 use Rattle.reactor_core.proofs.WaitNumbers.{polled_later, polled_number}
 use Rattle.reactor_core.proofs.Polls.{limit_is, may_wait, rose_reserved, polls}
+use Rattle.reactor_core.proofs.Frames.{rest_begins, counts_of, counts_go_on}
 use Rattle.reactor_core.proofs.reactor.Core.poll.Goals as goal
 
 pub take_events-requires : goal.take_events-requires
@@ -50,3 +51,15 @@ returns-in-Some-clause-over g c =
 pub returns-in-Some-clause-number : goal.returns-in-Some-clause-number
 returns-in-Some-clause-number g c t F h o is =
     polled_number c.in-Some.polled c.args.self.now.marks c.take_events.new.self.marks (past_of h) _ (c.in-Some.ensures.marks ∙ ap (marks_found (Some c.in-Some.polled)) c.in-Ok.ensures.rest.marks) is o.tracks.marks
+
+pub returns-then-is_ended-clause-counts : goal.returns-then-is_ended-clause-counts
+returns-then-is_ended-clause-counts g c = counts_of (rest_begins _ _)
+
+pub returns-in-Err-clause-counts : goal.returns-in-Err-clause-counts
+returns-in-Err-clause-counts g c = counts_of c.in-Err.ensures.rest
+
+pub returns-in-Some-clause-counts : goal.returns-in-Some-clause-counts
+returns-in-Some-clause-counts g c = counts_go_on (counts_of c.in-Ok.ensures.rest) c.in-Some.ensures.counts
+
+pub returns-in-None-clause-counts : goal.returns-in-None-clause-counts
+returns-in-None-clause-counts g c = counts_go_on (counts_of c.in-Ok.ensures.rest) c.in-None.ensures.counts

@@ -4,6 +4,7 @@ use Rattle.reactor_summary.specs.Summary.{summary}
 use Rattle.reactor_state.proofs.Fewer.{has_fewer}
 use Rattle.reactor_core.proofs.Kept.{stands_kept}
 use Rattle.reactor_core.proofs.Registered.{full_now, place_by, room_of, back_plain, rose_from}
+use Rattle.reactor_core.proofs.Frames.{rest_begins, attaching_of, attaching_goes_on}
 use Rattle.reactor_core.proofs.reactor.Core.register.Goals as goal
 
 pub returns-then-not-has_place-clause-stands : goal.returns-then-not-has_place-clause-stands
@@ -61,3 +62,18 @@ returns-in-Err-admit-clause-refused g c = (
   λ t origin had keeps fits. c.in-Err-admit.ensures.leaves.0 t origin had (c.in-Ok.ensures.kept.net_keeps t keeps) fits,
   record { between = c.make_room.new.self; kept = c.in-Ok.ensures.kept; fails = c.in-Err-admit.ensures.leaves.1 },
 )
+
+pub returns-then-is_ended-clause-rest : goal.returns-then-is_ended-clause-rest
+returns-then-is_ended-clause-rest g c = attaching_of (rest_begins _ _)
+
+pub returns-then-not-has_place-clause-rest : goal.returns-then-not-has_place-clause-rest
+returns-then-not-has_place-clause-rest g c = attaching_of (rest_begins _ _)
+
+pub returns-in-Err-clause-rest : goal.returns-in-Err-clause-rest
+returns-in-Err-clause-rest g c = attaching_of c.in-Err.ensures.rest
+
+pub returns-in-Ok-admit-clause-rest : goal.returns-in-Ok-admit-clause-rest
+returns-in-Ok-admit-clause-rest g c = attaching_goes_on (attaching_of c.in-Ok.ensures.rest) c.in-Ok-admit.ensures.rest
+
+pub returns-in-Err-admit-clause-rest : goal.returns-in-Err-admit-clause-rest
+returns-in-Err-admit-clause-rest g c = attaching_goes_on (attaching_of c.in-Ok.ensures.rest) c.in-Err-admit.ensures.rest

@@ -1,5 +1,6 @@
 use Rattle.reactor_journal.specs.Past.{past_of}
 use Rattle.reactor_core.proofs.ActsOf.{settling_of, act_fits, settles}
+use Rattle.reactor_core.proofs.Frames.{attaching_of, attaching_goes_on}
 use Rattle.reactor_core.proofs.reactor.Core.settle.Goals as goal
 
 pub act-requires : goal.act-requires
@@ -14,3 +15,6 @@ returns-clause-stands g c t F h st d =
     let a = c.act.ensures.stands t F _ e.stands (act_fits _ t F h c.args.done _ st.tracks.legal d e) in
     settles _ t F h c.args.done c.args.self.now c.settle_event.new.self _ _ e c.settle_event.ensures.rest.attach_faults a
     (record { entries = c.entries.ensures _ a.stands.tracks.state; closed = c.finished.ensures _ a.stands.tracks.state; ended = c.is_ended.ensures _ a.stands.tracks.state })
+
+pub returns-clause-rest : goal.returns-clause-rest
+returns-clause-rest g c = attaching_goes_on (attaching_of c.settle_event.ensures.rest) c.act.ensures.rest

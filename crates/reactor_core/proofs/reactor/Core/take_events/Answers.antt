@@ -3,6 +3,7 @@ use Rattle.reactor_journal.specs.Past.{past_of}
 use Rattle.reactor_summary.specs.Summary.{Summary, summary}
 use Rattle.reactor_core.proofs.Polls.{named_none, is_waited, may_take_reports, counts_reports, waits_once}
 use Rattle.reactor_core.proofs.WaitNumbers.{found_of}
+use Rattle.reactor_core.proofs.Frames.{rest_goes_on, counts_of, counts_go_on}
 use Rattle.reactor_core.proofs.reactor.Core.take_events.Goals as goal
 
 pub returns-in_default-clause-stands : goal.returns-in_default-clause-stands
@@ -51,3 +52,9 @@ returns-clause-marks g c = c.take_reports.ensures.rest.marks ∙ (c.take_dues.en
 
 pub returns-in_default-clause-marks : goal.returns-in_default-clause-marks
 returns-in_default-clause-marks g c = c.wait_for-answer.ensures.marks ∙ found_of c.wait_for-answer.result _ _ (sym c.name_of.ensures ∙ c.in_default.is)
+
+pub returns-clause-counts : goal.returns-clause-counts
+returns-clause-counts g c = counts_go_on c.wait_for-answer.ensures.counts (counts_of (rest_goes_on c.take_dues.ensures.rest c.take_reports.ensures.rest))
+
+pub returns-in_default-clause-counts : goal.returns-in_default-clause-counts
+returns-in_default-clause-counts g c = c.wait_for-answer.ensures.counts
