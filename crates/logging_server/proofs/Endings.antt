@@ -57,12 +57,11 @@ grows old new bytes start told by = by_new new (subst (λ (old : Option (List �
 front-of : (before more : List (Entry ServerNote)) (whole : ℕ) (text : List ℕ) → length before ≤ whole → IsPrefixOf (journal_lines (take whole (before ++ more))) text → IsPrefixOf (journal_lines before) text
 front-of before more whole text seen p =
     let count : whole ≡ length before + (whole - length before) = omega (arith, seen) in
-    let first : take whole (before ++ more) ≡ before ++ take (whole - length before) more = ap (λ (n : ℕ). take n (before ++ more)) count ∙ take-append-add before more (whole - length before) in
-    (
+    let first : take whole (before ++ more) ≡ before ++ take (whole - length before) more = ap (λ (n : ℕ). take n (before ++ more)) count ∙ take-append-add before more (whole - length before) in (
       journal_lines (take (whole - length before) more) ++ p.0,
       p.1 ∙ (ap (λ (entries : List (Entry ServerNote)). journal_lines entries ++ p.0) first
-      ∙ (ap (λ (lines : List ℕ). lines ++ p.0) (flat_map-append entry_lines before (take (whole - length before) more))
-      ∙ append_assoc (journal_lines before) (journal_lines (take (whole - length before) more)) p.0)),
+          ∙ (ap (λ (lines : List ℕ). lines ++ p.0) (flat_map-append entry_lines before (take (whole - length before) more))
+          ∙ append_assoc (journal_lines before) (journal_lines (take (whole - length before) more)) p.0)),
     )
 
 module _ {K : Type 0} (facts : K → SinkFacts) (t : Terms) (o : SinkFacts) (opening : t.opening ≡ o.text) (faults : t.output_faults ≡ Some o.faults) (sink : LineSink K) (h : List (Entry ServerNote)) (puts : PutsLines facts t sink h) (late : IsWholeUntilLast (whole_of sink) h) where
@@ -79,19 +78,19 @@ module _ {K : Type 0} (facts : K → SinkFacts) (t : Terms) (o : SinkFacts) (ope
   wrote_front : is_broken sink ≡ true → BreaksLate o h (facts (sink_of sink))
   wrote_front broken =
       let b = puts.put.front broken in (
-      record {
-        front = b.front;
-        is_front = b.is_front;
-        text = λ start told. grows puts.start.text (facts (sink_of sink)).text b.front start (puts.opening start (opening ∙ told)) b.text;
-        one_failed = b.rose ∙ ap counted (puts.faults o.faults faults);
-      },
-      record {
-        before = late.before;
-        rest = late.grows.more;
-        is = late.grows.is;
-        few = late.grows.few;
-        written = front-of late.before late.grows.more (whole_of sink) b.front late.seen (subst (λ (entries : List (Entry ServerNote)). IsPrefixOf (journal_lines (take (whole_of sink) entries)) b.front) late.grows.is (puts.kept broken));
-      },
+        record {
+          front = b.front;
+          is_front = b.is_front;
+          text = λ start told. grows puts.start.text (facts (sink_of sink)).text b.front start (puts.opening start (opening ∙ told)) b.text;
+          one_failed = b.rose ∙ ap counted (puts.faults o.faults faults);
+        },
+        record {
+          before = late.before;
+          rest = late.grows.more;
+          is = late.grows.is;
+          few = late.grows.few;
+          written = front-of late.before late.grows.more (whole_of sink) b.front late.seen (subst (λ (entries : List (Entry ServerNote)). IsPrefixOf (journal_lines (take (whole_of sink) entries)) b.front) late.grows.is (puts.kept broken));
+        },
       )
 
   pub wrote : (broken : Bool) → broken ≡ is_broken sink → HasWritten broken o h (facts (sink_of sink))
@@ -281,7 +280,7 @@ module _ (i : SourceFacts) (o : SinkFacts) (j : SourceFacts) (p : SinkFacts) (h 
   at_zero false true too_long lost why k q = absurd (omega (arith, q))
   at_zero false false too_long lost why k q =
       elim (code_cases too_long lost why) [
-        WithoutMemory e ↦ absurd (omega (arith, q, e))
+        | WithoutMemory e ↦ absurd (omega (arith, q, e))
         | TooLong e long ↦ absurd (omega (arith, q, e))
         | Done e short kept none ↦ ends_as_read too_long lost why k short kept none
         | Halted e ↦ absurd (omega (arith, q, e))
@@ -293,7 +292,7 @@ module _ (i : SourceFacts) (o : SinkFacts) (j : SourceFacts) (p : SinkFacts) (h 
   at_eleven false true too_long lost why k q = absurd (omega (arith, q))
   at_eleven false false too_long lost why k q =
       elim (code_cases too_long lost why) [
-        WithoutMemory e ↦ absurd (omega (arith, q, e))
+        | WithoutMemory e ↦ absurd (omega (arith, q, e))
         | TooLong e long ↦ λ none. k.met long (sym k.extra_is ∙ none)
         | Done e short kept none ↦ absurd (omega (arith, q, e))
         | Halted e ↦ absurd (omega (arith, q, e))

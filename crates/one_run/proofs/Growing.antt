@@ -16,7 +16,6 @@ use Rattle.one_run.specs.Running.{IsWholeUntilLast}
 
 -- ---- returns in what is appended
 
-
 returns-append : {N : Type 0} (xs ys : List (Entry N)) → count_by is_return (xs ++ ys) ≡ count_by is_return xs + count_by is_return ys
 returns-append xs ys = sum_by-append (λ e. cond (is_return e) 1 0) xs ys
 
