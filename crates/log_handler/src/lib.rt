@@ -12,4 +12,3 @@ pub use connection::LogConnection;
 pub use line_sink::LineSink;
 pub use log_lines::EndKind;
 pub use note::ServerNote;
-

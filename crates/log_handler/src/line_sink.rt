@@ -13,6 +13,7 @@ use log_lines::{put_closing_line, put_record_lines};
 use reactor_journal::Entry;
 use reactor_model::Watch;
 use sink_buffer::{SinkBuffer, TextOut};
+use tally::Tally;
 
 /// A watch that writes the lines of the notes of a journal as its entries are appended. It gathers the lines of a note in a fixed
 /// buffer of 8,192 bytes: where they fit, they are written together, and else a full buffer at a time. It takes no memory, and
@@ -20,10 +21,12 @@ use sink_buffer::{SinkBuffer, TextOut};
 #[derive(Drop)]
 pub struct LineSink<K> {
     buffer: SinkBuffer<K>,
+    // How many entries it has seen, from the first on, without a failed write.
+    whole: Tally,
 }
 
 impl<K: Sink> LineSink<K> {
-    ghost use Rattle.log_handler.specs.LineSink.{PutsLines, is_broken, sink_of};
+    ghost use Rattle.log_handler.specs.LineSink.{PutsLines, is_broken, sink_of, whole_of};
 
     /// A watch that has seen nothing, over this sink.
     pub fn new(output: K) -> LineSink<K>
@@ -34,6 +37,7 @@ impl<K: Sink> LineSink<K> {
     {
         LineSink {
             buffer: SinkBuffer::new(output),
+            whole: Tally::none(),
         }
     }
 
@@ -44,11 +48,24 @@ impl<K: Sink> LineSink<K> {
         self.buffer.into_output()
     }
 
+    /// Writes the lines of an entry.
+    fn write_entry(&mut self, entry: &Entry<ServerNote>)
+        ensures text { (start : SinkFacts) (put : List ℕ) → Gathers K.facts start self.old.buffer put
+            → Gathers K.facts start self.new.buffer (put ++ entry_lines entry.now) }
+        ensures held { held_of self.old.buffer ≡ [] → held_of self.new.buffer ≡ [] }
+        ensures whole { whole_of self.new ≡ whole_of self.old }
+    {
+        if let Some(note) = note_of(entry) {
+            self.write_note(note);
+        }
+    }
+
     /// Puts the lines of a note, and writes what is held.
     fn write_note(&mut self, note: &ServerNote)
         ensures text { (start : SinkFacts) (put : List ℕ) → Gathers K.facts start self.old.buffer put
             → Gathers K.facts start self.new.buffer (put ++ note_lines note.now) }
         ensures held { held_of self.new.buffer ≡ [] }
+        ensures whole { whole_of self.new ≡ whole_of self.old }
     {
         self.hold_note(note);
         self.buffer.flush();
@@ -59,6 +76,7 @@ impl<K: Sink> LineSink<K> {
         ensures puts { Puts (HasPut K.facts) self.old.buffer (note_lines note.now) self.new.buffer }
         ensures together { length (held_of self.old.buffer) + length (note_lines note.now) ≤ 8192
             → (held_of self.new.buffer ≡ held_of self.old.buffer ++ note_lines note.now) × (sink_of self.new ≡ sink_of self.old) }
+        ensures whole { whole_of self.new ≡ whole_of self.old }
     {
         put_note(&mut self.buffer, note);
     }
@@ -89,7 +107,7 @@ fn put_note<T: TextOut>(out: &mut T, note: &ServerNote)
 impl<K: Sink> Watch<ServerNote> for LineSink<K> {
     ghost use Rattle.reactor_journal.specs.declared.entry.Entry.{Entry};
     ghost use Rattle.log_handler.specs.declared.note.ServerNote.{ServerNote};
-    ghost use Rattle.log_handler.specs.LineSink.{PutsLines, line_sink_faults, is_broken, sink_of};
+    ghost use Rattle.log_handler.specs.LineSink.{PutsLines, line_sink_faults, is_broken, sink_of, whole_of};
     ghost use Rattle.log_handler.specs.Faults.{breaks_above};
 
     ghost stands = { PutsLines K.facts };
@@ -98,19 +116,24 @@ impl<K: Sink> Watch<ServerNote> for LineSink<K> {
 
     ghost is_broken = { is_broken };
 
+    ghost whole = { whole_of };
+
     fn saw(&mut self, entry: &Entry<ServerNote>)
         ensures stands { (t : Terms) (h : List (Entry ServerNote)) → PutsLines K.facts t self.old h → PutsLines K.facts t self.new (h ++ entry.now ∷ []) }
         ensures later { line_sink_faults K.facts self.old ≤ line_sink_faults K.facts self.new }
         ensures stays { is_broken self.old ≡ true → is_broken self.new ≡ true }
         ensures breaks { is_broken self.old ≡ false → is_broken self.new ≡ true → Rose (line_sink_faults K.facts self.old) (line_sink_faults K.facts self.new) }
+        ensures whole { whole_of self.old ≤ whole_of self.new }
         ensures quiet { is_broken self.old ≡ true → sink_of self.new ≡ sink_of self.old }
     {
         if self.buffer.is_broken() {
             return;
         }
-        if let Some(note) = note_of(entry) {
-            self.write_note(note);
+        self.write_entry(entry);
+        if self.buffer.is_broken() {
+            return;
         }
+        self.whole.add(1);
     }
 
     fn broken(&self) -> bool {
