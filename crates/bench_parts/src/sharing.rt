@@ -1,25 +1,22 @@
-//! What a hold of the token and a posting cost. Without an argument it runs each case a few times and prints
-//! how often; with the argument `time` it runs each long enough to time it, and prints nanoseconds.
-#![tactic(auto)]
+//! What a hold of the token and a posting cost.
 
-mod holds;
-mod posts;
-
+use crate::{holds, posts};
 use std::alloc::Global;
+use std::io;
 use std::rt::Runtime;
 use std::sync::Wait;
 use std::thread::Threads;
 use std::time::Instant;
-use std::{env, io};
 
-fn main(rt: HostRuntime) -> io::Result<()> {
-    let mut timed = false;
-    for word in env::args(&rt)? {
-        timed = timed || word.as_str() == "time";
-    }
-    time_holds(&rt, rt.alloc(), timed)?;
-    time_large_holds(&rt, rt.alloc(), timed)?;
-    time_posts(&rt, rt.alloc(), timed)
+/// Makes a few holds and postings, or where it is timed many.
+pub fn run<R: Runtime + Threads + Wait + Sync>(
+    rt: &R,
+    alloc: Global,
+    timed: bool,
+) -> io::Result<()> {
+    time_holds(rt, alloc, timed)?;
+    time_large_holds(rt, alloc, timed)?;
+    time_posts(rt, alloc, timed)
 }
 
 // Holds of a value with no bytes, by one to eight threads.

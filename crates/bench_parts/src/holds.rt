@@ -1,6 +1,6 @@
 // Holds of a token by threads that do nothing else.
 ghost use Rattle.std.specs.Prelude.{IfOk};
-ghost use Rattle.bench_token.specs.Free.{IsFree, IsRoot};
+ghost use Rattle.bench_parts.specs.Free.{IsFree, IsRoot};
 
 use ev_types::NoMemory;
 use leader_token::{Kept, Pass, Token};
