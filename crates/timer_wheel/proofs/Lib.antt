@@ -4,3 +4,4 @@ pub mod Spokes
 pub mod Changes
 pub mod Steps
 pub mod Firsts
+pub mod Ticks

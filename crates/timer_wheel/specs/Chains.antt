@@ -1,5 +1,5 @@
 -- How a wheel keeps its chains.
-use Rattle.std.specs.Prelude.{ℕ, ◌≡◌, ◌≢◌, ◌<◌, ◌==◌, Bool, true, not, List, [], ◌∷◌, ◌++◌, length, slice_get, slice_index_or, slice_set, Contains, Option, Some, None, if◌then◌else◌}
+use Rattle.std.specs.Prelude.{ℕ, ◌≡◌, ◌≢◌, ◌<◌, ◌-◌, ◌/◌, ◌==◌, Bool, true, not, List, [], ◌∷◌, ◌++◌, length, slice_get, slice_index_or, slice_set, Contains, Option, Some, None, if◌then◌else◌}
 use Rattle.std.specs.List.{list_all}
 use Rattle.timer_queue.specs.declared.timer.Timer.{Timer}
 use Rattle.timer_queue.specs.Timers.{comes_before, in_order, AreApart}
@@ -89,6 +89,11 @@ heads_of places (h ∷ rest) = head_timer places h ++ heads_of places rest
 abbrev pub earlier_at : Option Timer → List Timer → Option Timer
 earlier_at first [] = first
 earlier_at first (t ∷ rest) = earlier_of first t
+
+-- the timer at a head, where its tick is so many after another
+abbrev pub in_tick : ℕ → ℕ → ℕ → List Timer → Option Timer
+in_tick resolution tick turn [] = None
+in_tick resolution tick turn (t ∷ rest) = if t.deadline / resolution - tick == turn then Some t else None
 
 -- t is not the first
 abbrev pub is_behind : Option Timer → Timer → Bool

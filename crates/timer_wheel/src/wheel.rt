@@ -7,7 +7,7 @@ ghost use Rattle.timer_wheel.specs.Spokes.{timers_of, of_spoke, Follows};
 
 use crate::Place;
 use crate::chain::{add, no_heads, take_out};
-use crate::first::{earlier, find_first, is_behind};
+use crate::first::{earlier, find_next, is_behind};
 use ev_types::{Handle, NoMemory};
 use std::alloc::Global;
 use std::marker::Model;
@@ -161,5 +161,5 @@ fn remove(
     if is_behind(first, &t) {
         return;
     }
-    *first = find_first(heads, places, resolution);
+    *first = find_next(heads, places, resolution, t.deadline);
 }
