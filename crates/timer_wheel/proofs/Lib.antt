@@ -5,3 +5,4 @@ pub mod Changes
 pub mod Steps
 pub mod Firsts
 pub mod Ticks
+pub mod Hints

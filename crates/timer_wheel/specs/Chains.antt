@@ -26,6 +26,10 @@ pub record Walked (places : List Place) (head : Option ℕ) (t : Timer) (timers 
   pub reaches : Reaches places head front at
   pub follows : Follows places at back
 
+-- where there is a place to begin behind, its timer is one of these and comes before t
+abbrev pub IsStart : List Place → List Timer → Timer → Option ℕ → Type 0
+IsStart places timers t start = (k : ℕ) (p : Place) → start ≡ Some k → slice_get places k ≡ Some p → Contains timers p.timer × (comes_before p.timer t ≡ true)
+
 -- the gap of t in a chain: all in front of it come before t, and none behind it does
 pub record IsGap (places : List Place) (head : Option ℕ) (t : Timer) (timers : List Timer) (last at : Option ℕ) : Type 0 where
   pub way : Walked places head t timers last at

@@ -8,6 +8,7 @@ ghost use Rattle.timer_wheel.specs.Spokes.{timers_of, of_spoke, Follows};
 use crate::Place;
 use crate::chain::{add, no_heads, take_out};
 use crate::first::{earlier, find_next, is_behind};
+use crate::hint::fill_up;
 use ev_types::{Handle, NoMemory};
 use std::alloc::Global;
 use std::marker::Model;
@@ -21,6 +22,8 @@ pub struct WheelTimers<const SPOKES: usize> {
     heads: Vec<Option<usize>>,
     // The timers that are scheduled. Each is in the chain of its spoke.
     places: Vec<Place>,
+    // For ticks, places near which their timers stand. One may be out of date: it is looked at only for where to begin.
+    hints: Vec<usize>,
     // The milliseconds of a tick.
     resolution: u64,
     // The timer that comes due first.
@@ -53,6 +56,7 @@ impl<const SPOKES: usize> WheelTimers<SPOKES> {
         Ok(WheelTimers {
             heads,
             places: Vec::new(alloc),
+            hints: Vec::new(alloc),
             resolution,
             first: None,
         })
@@ -82,12 +86,25 @@ impl<const SPOKES: usize> TimerQueue for WheelTimers<SPOKES> {
     ghost spare = { λ w. w.spare };
 
     fn reserve(&mut self, n: usize) -> Result<(), NoMemory> {
+        let held = self.places.len();
+        if n <= self.places.capacity() - held {
+            return Ok(());
+        }
+        self.hints
+            .reserve(held.saturating_add(n).saturating_sub(self.hints.len()))?;
         self.places.reserve(n)?;
+        fill_up(&mut self.hints, &self.places, self.resolution);
         Ok(())
     }
 
     fn schedule(&mut self, t: Timer) {
-        add(&mut self.heads, &mut self.places, self.resolution, t);
+        add(
+            &mut self.heads,
+            &mut self.places,
+            &mut self.hints,
+            self.resolution,
+            t,
+        );
         self.first = earlier(self.first, t);
     }
 
@@ -99,6 +116,7 @@ impl<const SPOKES: usize> TimerQueue for WheelTimers<SPOKES> {
         remove(
             &mut self.heads,
             &mut self.places,
+            &mut self.hints,
             &mut self.first,
             self.resolution,
             t,
@@ -116,6 +134,7 @@ impl<const SPOKES: usize> TimerQueue for WheelTimers<SPOKES> {
             remove(
                 &mut self.heads,
                 &mut self.places,
+                &mut self.hints,
                 &mut self.first,
                 self.resolution,
                 t,
@@ -135,6 +154,7 @@ impl<const SPOKES: usize> TimerQueue for WheelTimers<SPOKES> {
         remove(
             &mut self.heads,
             &mut self.places,
+            &mut self.hints,
             &mut self.first,
             self.resolution,
             t,
@@ -147,6 +167,7 @@ impl<const SPOKES: usize> TimerQueue for WheelTimers<SPOKES> {
 fn remove(
     heads: &mut Vec<Option<usize>>,
     places: &mut Vec<Place>,
+    hints: &mut Vec<usize>,
     first: &mut Option<Timer>,
     resolution: u64,
     t: Timer,
@@ -157,7 +178,7 @@ fn remove(
     ensures timers { IsPermutation (timers_of places.old.items) (t ∷ timers_of places.new.items) }
     ensures capacity { vec_capacity places.new ≡ vec_capacity places.old }
 {
-    take_out(heads, places, resolution, t);
+    take_out(heads, places, hints, resolution, t);
     if is_behind(first, &t) {
         return;
     }

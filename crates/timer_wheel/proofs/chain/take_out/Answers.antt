@@ -10,42 +10,47 @@ use Rattle.timer_wheel.specs.declared.place.Place.{Place}
 use Rattle.timer_wheel.specs.Spokes.{timers_of, of_spoke}
 use Rattle.timer_wheel.specs.Chains.{IsGap, linked_heads, linked_places, AreChains, HasAllBut}
 use Rattle.timer_wheel.proofs.Changes.{timers-linked, chains_removed}
-use Rattle.timer_wheel.proofs.Steps.{Found, found_by, same_place, never_ends, length-linked_heads, chains_same, all_but, length-linked, linked_before, short_rest}
+use Rattle.timer_wheel.proofs.Steps.{same_place, never_ends, length-linked_heads, chains_same, all_but, length-linked, linked_before, short_rest}
+use Rattle.timer_wheel.proofs.Hints.{Found, found_by}
 use Rattle.timer_wheel.proofs.chain.take_out.Goals as goal
 
 pub unreachable-requires : goal.unreachable-requires
 unreachable-requires c =
     let heads = c.args.heads.now.items in
     let n : c.len.result ≡ length heads = omega arith in
+    let n2 : c.len-2.result ≡ length heads = omega arith in
     let l : c.spoke-spoke.result < length heads = rw n at c.spoke-spoke.ensures.within in
     let f : Found (length heads) c.args.resolution heads c.args.places.now.items c.args.t c.spoke-spoke.result c.gap_of-gap.result.last c.gap_of-gap.result.at =
-    found_by (length heads) c.args.resolution heads c.args.places.now.items c.args.t c.spoke-spoke.result c.index.result.now _ _ c.requires.apart c.requires.there c.requires.chains refl (rw n at c.spoke-spoke.ensures.is) l
-    (get_or_read heads c.spoke-spoke.result _ l c.index.ensures None) (rw c.deref.ensures.value at c.gap_of-gap.ensures) in
+    found_by (length heads) c.args.resolution heads c.args.places.now.items c.args.t c.spoke-spoke.result c.len-3.result c.index.result.now c.start_for-start.result _ _ c.requires.apart c.requires.there c.requires.chains refl (rw n at c.spoke-spoke.ensures.is) l
+    (get_or_read heads c.spoke-spoke.result _ l c.index.ensures None) (rw c.deref-3.ensures.value at c.gap_of-gap.ensures) (rw n2 at (rw c.deref-2.ensures.value at c.start_for-start.ensures)) in
     never_ends f.place c.gap_of-gap.result.at f.at_place c.in_default.is
 
 found : (c : goal.In-Some) → Found (length c.args.heads.now.items) c.args.resolution c.args.heads.now.items c.args.places.now.items c.args.t c.spoke-spoke.result c.gap_of-gap.result.last c.gap_of-gap.result.at
 found c =
     let heads = c.args.heads.now.items in
     let n : c.len.result ≡ length heads = omega arith in
+    let n2 : c.len-2.result ≡ length heads = omega arith in
     let l : c.spoke-spoke.result < length heads = rw n at c.spoke-spoke.ensures.within in
-    found_by (length heads) c.args.resolution heads c.args.places.now.items c.args.t c.spoke-spoke.result c.index.result.now _ _ c.requires.apart c.requires.there c.requires.chains refl (rw n at c.spoke-spoke.ensures.is) l
-    (get_or_read heads c.spoke-spoke.result _ l c.index.ensures None) (rw c.deref.ensures.value at c.gap_of-gap.ensures)
+    found_by (length heads) c.args.resolution heads c.args.places.now.items c.args.t c.spoke-spoke.result c.len-3.result c.index.result.now c.start_for-start.result _ _ c.requires.apart c.requires.there c.requires.chains refl (rw n at c.spoke-spoke.ensures.is) l
+    (get_or_read heads c.spoke-spoke.result _ l c.index.ensures None) (rw c.deref-3.ensures.value at c.gap_of-gap.ensures) (rw n2 at (rw c.deref-2.ensures.value at c.start_for-start.ensures))
 
-found_linked : (c : goal.After-fill-arg-2-1) → Found (length c.args.heads.now.items) c.args.resolution c.args.heads.now.items c.args.places.now.items c.args.t c.spoke-spoke.result c.gap_of-gap.result.last c.gap_of-gap.result.at
+found_linked : (c : goal.After-fill-arg-3-1) → Found (length c.args.heads.now.items) c.args.resolution c.args.heads.now.items c.args.places.now.items c.args.t c.spoke-spoke.result c.gap_of-gap.result.last c.gap_of-gap.result.at
 found_linked c =
     let heads = c.args.heads.now.items in
     let n : c.len.result ≡ length heads = omega arith in
+    let n2 : c.len-2.result ≡ length heads = omega arith in
     let l : c.spoke-spoke.result < length heads = rw n at c.spoke-spoke.ensures.within in
-    found_by (length heads) c.args.resolution heads c.args.places.now.items c.args.t c.spoke-spoke.result c.index.result.now _ _ c.requires.apart c.requires.there c.requires.chains refl (rw n at c.spoke-spoke.ensures.is) l
-    (get_or_read heads c.spoke-spoke.result _ l c.index.ensures None) (rw c.deref.ensures.value at c.gap_of-gap.ensures)
+    found_by (length heads) c.args.resolution heads c.args.places.now.items c.args.t c.spoke-spoke.result c.len-3.result c.index.result.now c.start_for-start.result _ _ c.requires.apart c.requires.there c.requires.chains refl (rw n at c.spoke-spoke.ensures.is) l
+    (get_or_read heads c.spoke-spoke.result _ l c.index.ensures None) (rw c.deref-3.ensures.value at c.gap_of-gap.ensures) (rw n2 at (rw c.deref-2.ensures.value at c.start_for-start.ensures))
 
 found_filled : (c : goal.After-fill) → Found (length c.args.heads.now.items) c.args.resolution c.args.heads.now.items c.args.places.now.items c.args.t c.spoke-spoke.result c.gap_of-gap.result.last c.gap_of-gap.result.at
 found_filled c =
     let heads = c.args.heads.now.items in
     let n : c.len.result ≡ length heads = omega arith in
+    let n2 : c.len-2.result ≡ length heads = omega arith in
     let l : c.spoke-spoke.result < length heads = rw n at c.spoke-spoke.ensures.within in
-    found_by (length heads) c.args.resolution heads c.args.places.now.items c.args.t c.spoke-spoke.result c.index.result.now _ _ c.requires.apart c.requires.there c.requires.chains refl (rw n at c.spoke-spoke.ensures.is) l
-    (get_or_read heads c.spoke-spoke.result _ l c.index.ensures None) (rw c.deref.ensures.value at c.gap_of-gap.ensures)
+    found_by (length heads) c.args.resolution heads c.args.places.now.items c.args.t c.spoke-spoke.result c.len-3.result c.index.result.now c.start_for-start.result _ _ c.requires.apart c.requires.there c.requires.chains refl (rw n at c.spoke-spoke.ensures.is) l
+    (get_or_read heads c.spoke-spoke.result _ l c.index.ensures None) (rw c.deref-3.ensures.value at c.gap_of-gap.ensures) (rw n2 at (rw c.deref-2.ensures.value at c.start_for-start.ensures))
 
 -- the place that the way ends at
 place_there : (places : List Place) (place k : ℕ) (at : Option ℕ) (p : Place) → at ≡ Some place → at ≡ Some k → slice_get places k ≡ Some p → slice_get places place ≡ Some p
