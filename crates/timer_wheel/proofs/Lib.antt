@@ -6,3 +6,4 @@ pub mod Steps
 pub mod Firsts
 pub mod Ticks
 pub mod Hints
+pub mod Forward

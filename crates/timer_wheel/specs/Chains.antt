@@ -1,5 +1,5 @@
 -- How a wheel keeps its chains.
-use Rattle.std.specs.Prelude.{ℕ, ◌≡◌, ◌≢◌, ◌<◌, ◌-◌, ◌/◌, ◌==◌, Bool, true, not, List, [], ◌∷◌, ◌++◌, length, slice_get, slice_index_or, slice_set, Contains, Option, Some, None, if◌then◌else◌}
+use Rattle.std.specs.Prelude.{ℕ, ◌≡◌, ◌≢◌, ◌<◌, ◌≤◌, ◌-◌, ◌/◌, ◌==◌, Bool, true, not, List, [], ◌∷◌, ◌++◌, length, slice_get, slice_index_or, slice_set, Contains, Option, Some, None, if◌then◌else◌}
 use Rattle.std.specs.List.{list_all}
 use Rattle.timer_queue.specs.declared.timer.Timer.{Timer}
 use Rattle.timer_queue.specs.Timers.{comes_before, in_order, AreApart}
@@ -70,6 +70,14 @@ pub record IsWheel (spokes resolution : ℕ) (heads : List (Option ℕ)) (places
 pub record HasAllBut (hole : ℕ) (places : List Place) (timers : List Timer) : Type 0 where
   pub others : (k : ℕ) (p : Place) → k ≢ hole → slice_get places k ≡ Some p → Contains timers p.timer
   pub lacks : (p : Place) → slice_get places hole ≡ Some p → Contains timers p.timer → ⊥
+
+-- each timer of the second places stands among the first at that place or at a later one
+abbrev pub ComesForward : List Place → List Place → Type 0
+ComesForward places new = (k : ℕ) (q : Place) → slice_get new k ≡ Some q → (i : ℕ) × (k ≤ i) × (p : Place) × (slice_get places i ≡ Some p) × (p.timer ≡ q.timer)
+
+-- the places from this one on have no timer of the handle
+abbrev pub IsClear : ℕ → List Place → ℕ → Type 0
+IsClear handle places from = (k : ℕ) (p : Place) → from ≤ k → slice_get places k ≡ Some p → p.timer.handle.0 ≢ handle
 
 -- the one of the two that comes first
 abbrev pub earlier_of : Option Timer → Timer → Option Timer

@@ -5,7 +5,7 @@ ghost use Rattle.timer_queue.specs.declared.timer.Timer.{Timer};
 ghost use Rattle.timer_queue.specs.Timers.{is_rising, is_scheduled, with_timer, without_timer, in_order, AreApart, IsSchedule};
 ghost use Rattle.timer_wheel.specs.declared.place.Place.{Place};
 ghost use Rattle.timer_wheel.specs.Spokes.{Follows, spoke_of, timers_of};
-ghost use Rattle.timer_wheel.specs.Chains.{IsGap, IsStart, Walked, AreChains, HasAllBut, linked_heads, linked_places};
+ghost use Rattle.timer_wheel.specs.Chains.{IsGap, IsStart, ComesForward, Walked, AreChains, HasAllBut, linked_heads, linked_places};
 
 use crate::Place;
 use crate::hint::{follow, name_place, start_for};
@@ -128,9 +128,10 @@ pub fn add(
     ensures capacity { vec_capacity places.new ≡ vec_capacity places.old }
 {
     let spoke = spoke(heads.len(), resolution, t.deadline);
+    let head = heads[spoke];
     let place = places.len();
-    let start = start_for(hints, places, heads.len(), resolution, &t, place);
-    let gap = gap_of(places, heads[spoke], start, &t);
+    let start = start_for(hints, places, head, heads.len(), resolution, &t, place);
+    let gap = gap_of(places, head, start, &t);
     places.push_reserved(Place {
         timer: t,
         next: gap.at,
@@ -155,6 +156,7 @@ fn fill(
         → AreChains (length heads.old.items) resolution heads.old.items places.old.items timers → AreChains (length heads.old.items) resolution heads.new.items places.new.items timers }
     ensures timers { (p : Place) → slice_get places.old.items hole ≡ Some p → IsPermutation (timers_of places.old.items) (p.timer ∷ timers_of places.new.items) }
     ensures heads { length heads.new.items ≡ length heads.old.items }
+    ensures forward { ComesForward places.old.items places.new.items }
     ensures capacity { vec_capacity places.new ≡ vec_capacity places.old }
 {
     let last = places.len() - 1;
@@ -164,8 +166,9 @@ fn fill(
     }
     let moved = places[last].timer;
     let spoke = spoke(heads.len(), resolution, moved.deadline);
-    let start = start_for(hints, places, heads.len(), resolution, &moved, hole);
-    let gap = gap_of(places, heads[spoke], start, &moved);
+    let head = heads[spoke];
+    let start = start_for(hints, places, head, heads.len(), resolution, &moved, hole);
+    let gap = gap_of(places, head, start, &moved);
     link(heads, places, spoke, gap.last, Some(hole));
     places.swap_remove(hole);
     follow(hints, resolution, &moved, last, hole);
@@ -187,11 +190,21 @@ pub fn take_out(
     ensures timers { IsPermutation (timers_of places.old.items) (t ∷ timers_of places.new.items) }
     ensures chains { AreChains (length heads.new.items) resolution heads.new.items places.new.items (without_timer t.timer (in_order (timers_of places.old.items))) }
     ensures heads { length heads.new.items ≡ length heads.old.items }
+    ensures forward { ComesForward places.old.items places.new.items }
     ensures capacity { vec_capacity places.new ≡ vec_capacity places.old }
 {
     let spoke = spoke(heads.len(), resolution, t.deadline);
-    let start = start_for(hints, places, heads.len(), resolution, &t, places.len());
-    let gap = gap_of(places, heads[spoke], start, &t);
+    let head = heads[spoke];
+    let start = start_for(
+        hints,
+        places,
+        head,
+        heads.len(),
+        resolution,
+        &t,
+        places.len(),
+    );
+    let gap = gap_of(places, head, start, &t);
     let Some(place) = gap.at else { unreachable!() };
     let next = places[place].next;
     link(heads, places, spoke, gap.last, next);

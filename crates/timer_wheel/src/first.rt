@@ -103,8 +103,8 @@ fn head_of_tick(
     }
 }
 
-// The first of the timers, where none comes due before `from`. It is sought tick by tick from that moment on, and only behind as many
-// ticks as there are spokes or timers among all.
+// The first of the timers, where none comes due before `from`. It is sought tick by tick from that moment on, and behind a turn of the
+// wheel, or sooner where there are few timers, among all.
 pub fn find_next(
     heads: &[Option<usize>],
     places: &[Place],
@@ -120,7 +120,7 @@ pub fn find_next(
 {
     let tick = from / resolution;
     let mut at = spoke(heads.len(), resolution, from);
-    for turn in 0..heads.len().min(places.len()) {
+    for turn in 0..heads.len().min(places.len() / 4) {
         let found = head_of_tick(places, heads[at], resolution, tick, turn);
         if found.is_some() {
             return found;

@@ -11,10 +11,29 @@ use timer_queue::Timer;
 // The turns of the wheel before a timer's own of which the hints are tried.
 const TURNS: usize = 8;
 
-// A place but `hole` whose timer stands in the spoke of this one and comes before it, where a hint names one.
+// The places of a chain that are looked at before the hints.
+const NEAR: usize = 3;
+
+// Whether a timer stands, or would stand, among the first places of a chain.
+fn is_near(places: &[Place], head: Option<usize>, t: &Timer) -> bool {
+    let mut at = head;
+    for _ in 0..NEAR {
+        let Some(k) = at else {
+            return true;
+        };
+        match places.get(k) {
+            Some(place) if place.timer.comes_before(t) => at = place.next,
+            _ => return true,
+        }
+    }
+    false
+}
+
+// A place but `hole` whose timer stands in the spoke of this one and comes before it, where a hint names one and the head is not near.
 pub fn start_for(
     hints: &[usize],
     places: &[Place],
+    head: Option<usize>,
     spokes: usize,
     resolution: u64,
     t: &Timer,
@@ -24,6 +43,9 @@ pub fn start_for(
     requires ticks { 0 < resolution }
     ensures { (k : ℕ) (p : Place) → result ≡ Some k → slice_get places.now k ≡ Some p → (k ≢ hole) × (spoke_of spokes resolution p.timer.deadline ≡ spoke_of spokes resolution t.now.deadline) × (comes_before p.timer t.now ≡ true) }
 {
+    if is_near(places, head, t) {
+        return None;
+    }
     let own = spoke(spokes, resolution, t.deadline);
     let mut tick = t.deadline / resolution;
     for _ in 0..TURNS {

@@ -2,7 +2,7 @@
 ghost use Rattle.std.specs.Prelude.{◌≡◌, ◌≤◌, ◌<◌, ℕ, [], IfOk, length, slice_index_or, None, Contains, ◌∷◌, vec_capacity};
 ghost use Rattle.std.specs.List.Sorted.{IsPermutation};
 ghost use Rattle.timer_queue.specs.Timers.{in_order};
-ghost use Rattle.timer_wheel.specs.Chains.{IsWheel};
+ghost use Rattle.timer_wheel.specs.Chains.{ComesForward, IsWheel};
 ghost use Rattle.timer_wheel.specs.Spokes.{timers_of, of_spoke, Follows};
 
 use crate::Place;
@@ -125,20 +125,21 @@ impl<const SPOKES: usize> TimerQueue for WheelTimers<SPOKES> {
     }
 
     fn cancel_all(&mut self, handle: Handle) {
-        while let Some(place) = self
-            .places
-            .iter()
-            .position(|p| p.timer.handle.0 == handle.0)
-        {
-            let t = self.places[place].timer;
-            remove(
-                &mut self.heads,
-                &mut self.places,
-                &mut self.hints,
-                &mut self.first,
-                self.resolution,
-                t,
-            );
+        // From the last place to the first: where a timer is taken out the last comes in its place, which is not of this handle.
+        let mut end = self.places.len();
+        while end > 0 {
+            end -= 1;
+            let t = self.places[end].timer;
+            if t.handle.0 == handle.0 {
+                remove(
+                    &mut self.heads,
+                    &mut self.places,
+                    &mut self.hints,
+                    &mut self.first,
+                    self.resolution,
+                    t,
+                );
+            }
         }
     }
 
@@ -176,6 +177,7 @@ fn remove(
     requires there { Contains (timers_of places.old.items) t }
     ensures wheel { IsWheel (length heads.old.items) resolution heads.new.items places.new.items first.new }
     ensures timers { IsPermutation (timers_of places.old.items) (t ∷ timers_of places.new.items) }
+    ensures forward { ComesForward places.old.items places.new.items }
     ensures capacity { vec_capacity places.new ≡ vec_capacity places.old }
 {
     take_out(heads, places, hints, resolution, t);
