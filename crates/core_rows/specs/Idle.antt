@@ -24,7 +24,7 @@ RowsOf M V = Core Steady M Content NoWatch V ℕ PlayEnd
 
 -- what its parts mean, by what its net tells and keeps and what its volumes tell
 abbrev pub rows : {M V : Type 0} → (M → NetFacts PlayEnd) → (Terms → M → Type 0) → (V → VolumesFacts ℕ) → Meaning Steady M Content NoWatch V ℕ PlayEnd
-rows facts keeps volumes = meaning steady facts keeps (Shows (λ q. q.timers)) (HasPlaces (λ q. q.spare)) IsPlaced (λ t watch h. Unit {0}) (λ watch. 0) (λ watch. false) volumes
+rows facts keeps volumes = meaning steady facts keeps (Shows (λ q. q.timers)) (HasPlaces (λ q. q.spare)) IsPlaced (λ t watch h. Unit {0}) (λ watch. 0) (λ watch. false) (λ watch. 0) volumes
 
 -- it stands for a history, on terms that leave the limit of waits open, and no event is open
 pub record IsIdle {M V : Type 0} (m : Meaning Steady M Content NoWatch V ℕ PlayEnd) (core : RowsOf M V) : Type 0 where
