@@ -1,0 +1,10 @@
+//! The reader of the text of a script of network events: it gives the groups of steps that a demultiplexer plays, and what the
+//! listener and each end of a connection have to tell.
+#![tactic(auto)]
+
+mod line;
+mod reading;
+mod script;
+mod words;
+
+pub use script::{Connection, End, Group, Offer, Part, Script};
