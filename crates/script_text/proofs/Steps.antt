@@ -1,5 +1,5 @@
 -- One more step of the group that may go on.
-use Rattle.std.proofs.Common.{◌≡◌, ◌∙◌, ℕ, Bool, true, not, cond, List, [], ◌∷◌, ◌++◌, map, refl, sym, ap}
+use Rattle.std.proofs.Common.{◌≡◌, ◌∙◌, ℕ, Bool, true, not, cond, List, [], ◌∷◌, ◌++◌, refl, sym, ap}
 use Rattle.std.proofs.lemmas.List.{append-nil, map-append}
 use Rattle.ev_base.specs.Terms.{Step, Group}
 use Rattle.event_script.specs.Script.{ScriptStep, report_step}

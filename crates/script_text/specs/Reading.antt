@@ -5,7 +5,6 @@ use Rattle.ev_base.specs.Terms.{Step, Group}
 use Rattle.event_script.specs.Script.{ScriptStep, opened, is_done, report_step}
 use Rattle.event_script.specs.Stories.{parts_of, offers_of}
 use Rattle.event_script.specs.Grammar.{Line, At, Quiet, Stepping, moment_of, steps_in, is_step, may_stand}
-use Rattle.script_text.specs.declared.script.End.{End}
 use Rattle.script_text.specs.declared.script.Connection.{Connection}
 use Rattle.script_text.specs.declared.reading.Reading.{Reading}
 use Rattle.script_text.specs.Scripts.{steps_at, group_views, offer_views, Tells, HasRoom, part_views}

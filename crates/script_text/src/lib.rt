@@ -3,8 +3,12 @@
 #![tactic(auto)]
 
 mod line;
+mod parse;
 mod reading;
+mod refusal;
 mod script;
 mod words;
 
+pub use parse::parse_script;
+pub use refusal::ScriptRefused;
 pub use script::{Connection, End, Group, Offer, Part, Script};

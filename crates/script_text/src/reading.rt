@@ -1,14 +1,15 @@
 //! What was read of a script, line by line.
 ghost use Rattle.std.specs.Prelude.{◌≡◌, ◌++◌, ◌∷◌, [], ◌<◌, length, get_or, set, true, false, OnOk, IfOk, List, ℕ};
-ghost use Rattle.event_script.specs.Grammar.{Line as GrammarLine, may_stand, steps_in, At, Quiet, Stepping};
+ghost use Rattle.event_script.specs.Grammar.{Line as GrammarLine, groups_of, may_stand, steps_in, At, Quiet, Stepping};
 ghost use Rattle.event_script.specs.Script.{goes_on, Opens};
 ghost use Rattle.event_script.specs.Stories.{offers_of};
 ghost use Rattle.script_text.specs.Lines.{step_view, line_view};
 ghost use Rattle.script_text.specs.Scripts.{group_views, steps_at, offer_views, part_view, Tells, HasRoom};
 ghost use Rattle.script_text.specs.Reading.{Reads, Takes, HasDone, HasTold, IsTold, Comes, open_group};
+ghost use Rattle.script_text.specs.Parsing.{Judges, HasGroups};
 
-use crate::line::{Line, Step};
-use crate::script::{Connection, End, Group, Offer, Part};
+use crate::line::{Line, Step, read_line};
+use crate::script::{Connection, End, Group, Offer, Part, Script};
 use ev_types::NoMemory;
 use std::alloc::Global;
 
@@ -199,5 +200,30 @@ impl Reading {
             Line::Quiet => self.quiet(),
             Line::Step(step) => self.step(step),
         }
+    }
+
+    /// Reads the text of a line, and says whether it may stand here. After `NoMemory` nothing more is to be read.
+    pub(crate) fn take(&mut self, bytes: &[u8]) -> Result<bool, NoMemory>
+        requires { (past : List GrammarLine) × Reads self.old past }
+        ensures taken { (past : List GrammarLine) → Reads self.old past → IfOk result (λ good. Judges self.new past bytes.now good) }
+        ensures room { self.new.room ≡ self.old.room }
+    {
+        match read_line(self.alloc, bytes)? {
+            Some(line) => self.line(line),
+            None => Ok(false),
+        }
+    }
+
+    /// The script of all that was read.
+    pub(crate) fn finish(mut self) -> Result<Script, NoMemory>
+        ensures { (past : List GrammarLine) → Reads self past → IfOk result (λ script. HasGroups script self.room (groups_of past)) }
+    {
+        self.flush()?;
+        Ok(Script {
+            groups: self.groups,
+            offers: self.offers,
+            connections: self.connections,
+            held: Vec::with_capacity(self.alloc, self.steps as usize)?,
+        })
     }
 }

@@ -87,4 +87,6 @@ pub struct Script {
     pub offers: Vec<Offer>,
     /// The connections by number.
     pub connections: Vec<Connection>,
+    /// The steps that are held back: none, with room for all of the script.
+    pub held: Vec<End>,
 }

@@ -1,7 +1,7 @@
 //! The words of a line.
 ghost use Rattle.std.specs.Prelude.{◌≡◌, ◌∷◌, ◌<◌, ◌≤◌, ◌^◌, ℕ, length, IfSome, None, Some};
 ghost use Rattle.std.specs.Str.{bytes_eq};
-ghost use Rattle.event_script.specs.Grammar.{parts, number, digits_from};
+ghost use Rattle.event_script.specs.Grammar.{parts, raw_lines, number, digits_from};
 ghost use Rattle.script_text.specs.Words.{parts_behind};
 
 /// What stands before the first separator, and what stands behind it, if there is one.
@@ -51,4 +51,17 @@ fn digits(word: &[u8]) -> Option<u64>
             .checked_add(u64::from(*byte - b'0'))?;
     }
     Some(number)
+}
+
+/// The first line of a text that is not empty, and the text behind it.
+pub(crate) fn next_line(text: &[u8]) -> (&[u8], &[u8])
+    requires { 0 < length text.now }
+    ensures are { raw_lines text.now ≡ result.0.now ∷ raw_lines result.1.now }
+    ensures shorter { length result.1.now < length text.now }
+{
+    let (line, behind) = cut(text, b'\n');
+    match behind {
+        Some(rest) => (line, rest),
+        None => (line, &text[text.len()..]),
+    }
 }

@@ -1,9 +1,7 @@
-use Rattle.std.proofs.Common.{◌≡◌, ◌==◌, length, drop, cond, ltb, Some, None, rules, tests, sym, subst, ◌∙◌, take, take_all, ap, ◌∷◌}
-use Rattle.std.specs.List.{position_or_len}
+use Rattle.std.proofs.Common.{◌==◌, Some, rules, tests, sym, subst, ◌∙◌}
 use Rattle.std.proofs.lemmas.List.{take_rest}
 use Rattle.std.proofs.lemmas.Iterator.{YieldsList-from_slice}
 use Rattle.std.proofs.lemmas.Iterator.Search.{position_from_yields_List}
-use Rattle.event_script.specs.Grammar.{parts}
 use Rattle.script_text.proofs.Parts.{are_cut, AreCut}
 use Rattle.script_text.proofs.words.cut.Goals as goal
 
