@@ -2,6 +2,7 @@
 //! listener and each end of a connection have to tell.
 #![tactic(auto)]
 
+mod laws;
 mod line;
 mod parse;
 mod reading;
@@ -9,6 +10,7 @@ mod refusal;
 mod script;
 mod words;
 
+pub use laws::texts_have_one_reading;
 pub use parse::parse_script;
 pub use refusal::ScriptRefused;
 pub use script::{Connection, End, Group, Offer, Part, Script};
