@@ -6,7 +6,8 @@ use std::test::Fail;
 
 /// A script with each kind of line: connection 0 comes and brings two pieces at moments 0 and 5; a moment passes; it is shut, and the
 /// listener fails; connection 1 comes, brings a byte and fails.
-const EACH_LINE: &str = "open 0\ndata 0 00fF\nat 5\ndata 0 68\nquiet\nshut 0\nat 5\nfail listener\nopen 1\ndata 1 Aa\nat 4294967295\nfail 1\n";
+const EACH_LINE: &str =
+    "open 0\ndata 0 00fF\nat 5\ndata 0 68\nquiet\nshut 0\nat 5\nfail listener\nopen 1\ndata 1 Aa\nat 4294967295\nfail 1\n";
 
 /// Texts, each with the number of its first bad line, or 0 where it is a script.
 const TEXTS: [(&str, u64); 64] = [
@@ -137,13 +138,11 @@ fn stories_text(alloc: Global, script: &Script) -> Result<String, Fail> {
 #[test]
 fn groups_and_stories_are_those_of_the_lines(rt: HostRuntime) -> Result<(), Fail> {
     let script = parse_script(rt.alloc(), EACH_LINE.as_bytes(), 10)?;
-    assert_eq!(
-        rt;
+    assert_eq!(rt;
         groups_text(rt.alloc(), &script)?.as_str(),
         "0: listener 0; 5: 0; 5:; 5: 0; 5: listener listener 1; 4294967295: 1; "
     );
-    assert_eq!(
-        rt;
+    assert_eq!(rt;
         stories_text(rt.alloc(), &script)?.as_str(),
         "0 pause failure 1 pause | [0, 255] pause [104] pause over | [170] pause failure "
     );

@@ -1,6 +1,6 @@
 -- The lines of a text are read in one way.
-use Rattle.std.proofs.Common.{◌≡◌, ◌≢◌, ◌∙◌, ℕ, ◌+◌, ◌<◌, ◌≤◌, Bool, true, false, List, [], ◌∷◌, ◌++◌, length, reverse, Option, Some, None, refl, sym, ap, ap₂, subst, append_assoc, arith}
-use Rattle.std.proofs.lemmas.List.{append-nil, reverse-append}
+use Rattle.std.proofs.Common.{◌≡◌, ◌∙◌, ℕ, ◌<◌, true, List, [], ◌∷◌, ◌++◌, length, reverse, Option, Some, None, refl, sym, ap, ap₂, subst, append_assoc, arith}
+use Rattle.std.proofs.lemmas.List.{reverse-append}
 use Rattle.std.proofs.lemmas.Grind.{reverse_onto}
 use Rattle.std.proofs.lemmas.Bool.{false≢true}
 use Rattle.event_script.specs.Script.{ScriptGroup}
@@ -39,7 +39,7 @@ bad_first raw raws past (line ∷ front) s bad t =
 among : (good : List (List ℕ)) (raw : List ℕ) (rest : List (List ℕ)) (past all : List Line) → Spells (reverse good) past → IsBadBehind past (line_of raw) → Spells (reverse (good ++ raw ∷ rest)) all → ⊥
 among good raw rest past all s bad t =
     let apart : reverse (good ++ raw ∷ rest) ≡ reverse rest ++ raw ∷ reverse good =
-        reverse-append good (raw ∷ rest) ∙ ap (λ (ls : List (List ℕ)). ls ++ reverse good) (reverse_onto rest raw []) ∙ append_assoc (reverse rest) (raw ∷ []) (reverse good) in
+    reverse-append good (raw ∷ rest) ∙ ap (λ (ls : List (List ℕ)). ls ++ reverse good) (reverse_onto rest raw []) ∙ append_assoc (reverse rest) (raw ∷ []) (reverse good) in
     let f = before (reverse rest) (raw ∷ reverse good) all (subst (λ (ls : List (List ℕ)). Spells ls all) apart t) in
     bad_first raw (reverse good) past f.0 s bad f.1
 

@@ -3,3 +3,4 @@ pub mod Lines
 pub mod Scripts
 pub mod Reading
 pub mod Parsing
+pub mod Playable
