@@ -1,6 +1,7 @@
 -- The text of a script, line by line (this project's own). Numbers are decimal digits, bytes are pairs of hexadecimal digits.
 use Rattle.std.specs.Prelude.{◌≡◌, ℕ, ◌+◌, ◌-◌, ◌*◌, ◌==◌, nat_lt, nat_le, Bool, true, false, ◌&&◌, if◌then◌else◌, List, [], ◌∷◌, ◌++◌, length, reverse, Option, Some, None, option_map, option_and_then, codes, Result, Ok, Err}
 use Rattle.std.specs.List.{slice_split}
+use Rattle.std.specs.Str.{bytes_eq}
 use Rattle.hex.specs.Hex.{decode_of}
 use Rattle.event_script.specs.Script.{ScriptStep, Opens, Brings, Shuts, Fails, ListenerFails, ScriptGroup, most_steps, may_follow as step_may_follow}
 
@@ -37,8 +38,7 @@ digits_from n (byte ∷ bytes) = option_and_then (λ d. digits_from (n * 10 + d)
 -- decimal digits without a leading zero, `0` alone excepted
 abbrev pub number : List ℕ → Option ℕ
 number [] = None
-number (byte ∷ []) = digit byte
-number (byte ∷ more ∷ bytes) = if byte == 48 then None else digits_from 0 (byte ∷ more ∷ bytes)
+number (byte ∷ bytes) = if byte == 48 && nat_lt 0 (length bytes) then None else digits_from 0 (byte ∷ bytes)
 
 -- the value of an answer that is no refusal
 abbrev pub value_of : {T E : Type 0} → Result T E → Option T
@@ -57,32 +57,26 @@ pub data Line : Type 0 where
   Quiet : Line
   Stepping : (step : ScriptStep) → Line
 
--- whether a word is this keyword
-abbrev pub is_word : List ℕ → List ℕ → Bool
-is_word [] [] = true
-is_word (a ∷ as_) (b ∷ bs) = a == b && is_word as_ bs
-is_word _ _ = false
-
 -- the lines of one, two and three words
 abbrev pub quiet_line : List ℕ → Option Line
-quiet_line word = if is_word word (codes "quiet") then Some Quiet else None
+quiet_line word = if bytes_eq word (codes "quiet") then Some Quiet else None
 
 abbrev pub fail_line : List ℕ → Option Line
-fail_line word = if is_word word (codes "listener") then Some (Stepping ListenerFails) else option_map (λ c. Stepping (Fails c)) (number word)
+fail_line word = if bytes_eq word (codes "listener") then Some (Stepping ListenerFails) else option_map (λ c. Stepping (Fails c)) (number word)
 
 abbrev pub two_words : List ℕ → List ℕ → Option Line
 two_words word value =
-    if is_word word (codes "at") then option_map At (number value)
-    else if is_word word (codes "open") then option_map (λ c. Stepping (Opens c)) (number value)
-    else if is_word word (codes "shut") then option_map (λ c. Stepping (Shuts c)) (number value)
-    else if is_word word (codes "fail") then fail_line value
+    if bytes_eq word (codes "at") then option_map At (number value)
+    else if bytes_eq word (codes "open") then option_map (λ c. Stepping (Opens c)) (number value)
+    else if bytes_eq word (codes "shut") then option_map (λ c. Stepping (Shuts c)) (number value)
+    else if bytes_eq word (codes "fail") then fail_line value
     else None
 
 abbrev pub data_line : List ℕ → List ℕ → Option Line
 data_line conn bytes = option_and_then (λ c. option_map (λ bs. Stepping (Brings c bs)) (hex_bytes bytes)) (number conn)
 
 abbrev pub three_words : List ℕ → List ℕ → List ℕ → Option Line
-three_words word conn bytes = if is_word word (codes "data") then data_line conn bytes else None
+three_words word conn bytes = if bytes_eq word (codes "data") then data_line conn bytes else None
 
 -- the line that some words spell, if they spell one
 abbrev pub line_of_words : List (List ℕ) → Option Line

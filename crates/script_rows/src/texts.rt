@@ -1,0 +1,150 @@
+//! Texts in the grammar of scripts, and texts out of it with their first bad line.
+use script_text::{End, Offer, Part, Script, ScriptRefused, parse_script};
+use std::alloc::Global;
+use std::fmt::Write;
+use std::test::Fail;
+
+/// A script with each kind of line: connection 0 comes and brings two pieces at moments 0 and 5; a moment passes; it is shut, and the
+/// listener fails; connection 1 comes, brings a byte and fails.
+const EACH_LINE: &str =
+    "open 0\ndata 0 00fF\nat 5\ndata 0 68\nquiet\nshut 0\nat 5\nfail listener\nopen 1\ndata 1 Aa\nat 4294967295\nfail 1\n";
+
+/// Texts, each with the number of its first bad line, or 0 where it is a script.
+const TEXTS: [(&str, u64); 64] = [
+    ("", 0),
+    (EACH_LINE, 0),
+    ("quiet", 0),
+    ("quiet\n", 0),
+    ("at 0", 0),
+    ("at 7\nat 7\nat 8", 0),
+    ("fail listener\nfail listener", 0),
+    ("open 0\nopen 1\nopen 2\nshut 1\nfail 0\ndata 2 00", 0),
+    ("open 0\ndata 0 0123456789abcdefABCDEF", 0),
+    // empty lines
+    ("\n", 1),
+    ("quiet\n\n", 2),
+    ("\nquiet", 1),
+    ("quiet\n\nquiet", 2),
+    // words
+    ("quiet ", 1),
+    (" quiet", 1),
+    ("quiet 0", 1),
+    ("Quiet", 1),
+    ("quie", 1),
+    ("quiets", 1),
+    ("quiet\r\n", 1),
+    ("at", 1),
+    ("at ", 1),
+    ("at  5", 1),
+    ("at 5 ", 1),
+    ("at\t5", 1),
+    ("at 5 5", 1),
+    ("open", 1),
+    ("open 0 ", 1),
+    ("pause 0", 1),
+    ("fail Listener", 1),
+    ("shut listener", 1),
+    ("open listener", 1),
+    ("open 0\ndata 0", 2),
+    ("open 0\ndata 0 00 00", 2),
+    ("open 0\ndata 0 00 ", 2),
+    ("open 0\nclose 0 00", 2),
+    // numbers
+    ("at 05", 1),
+    ("at 00", 1),
+    ("at +5", 1),
+    ("at -5", 1),
+    ("at 5a", 1),
+    ("at 1.5", 1),
+    ("at 4294967295", 0),
+    ("at 4294967296", 1),
+    ("at 18446744073709551616", 1),
+    ("at 18446744073709551617", 1),
+    ("open 00", 1),
+    ("open 18446744073709551616", 1),
+    // moments
+    ("at 5\nat 4", 2),
+    ("at 5\nquiet\nat 6\nat 5", 4),
+    // bytes
+    ("open 0\ndata 0 ", 2),
+    ("open 0\ndata 0 0", 2),
+    ("open 0\ndata 0 000", 2),
+    ("open 0\ndata 0 0g", 2),
+    ("open 0\ndata 0 0x00", 2),
+    // connections
+    ("open 1", 1),
+    ("open 0\nopen 0", 2),
+    ("open 0\nopen 2", 2),
+    ("data 0 00", 1),
+    ("open 0\nshut 1", 2),
+    ("open 0\nshut 0\ndata 0 00", 3),
+    ("open 0\nshut 0\nfail 0", 3),
+    ("open 0\nfail 0\nshut 0\nat x", 3),
+    ("open 0\nshut 0\nopen 0", 3),
+];
+
+#[test]
+fn names_the_first_bad_line(rt: HostRuntime) {
+    for (text, bad) in TEXTS {
+        let found = match parse_script(rt.alloc(), text.as_bytes(), 0) {
+            Ok(_) => Some(0),
+            Err(ScriptRefused::BadScript { line }) => Some(line),
+            Err(ScriptRefused::NoMemory) => None,
+        };
+        assert_eq!(rt; found, Some(bad), "{text}");
+    }
+}
+
+/// The groups of a script, each as its moment and its ends.
+fn groups_text(alloc: Global, script: &Script) -> Result<String, Fail> {
+    let mut text = String::new(alloc);
+    for group in &script.groups {
+        write!(text, "{}:", group.moment)?;
+        for end in &group.steps {
+            match end {
+                End::Listener => write!(text, " listener")?,
+                End::Connection(conn) => write!(text, " {conn}")?,
+            }
+        }
+        write!(text, "; ")?;
+    }
+    Ok(text)
+}
+
+/// What the listener has to tell, and then each connection.
+fn stories_text(alloc: Global, script: &Script) -> Result<String, Fail> {
+    let mut text = String::new(alloc);
+    for offer in &script.offers {
+        match offer {
+            Offer::Connection(conn) => write!(text, "{conn} ")?,
+            Offer::Pause => write!(text, "pause ")?,
+            Offer::Failure => write!(text, "failure ")?,
+        }
+    }
+    for connection in &script.connections {
+        write!(text, "| ")?;
+        for part in &connection.parts {
+            match part {
+                Part::Piece(bytes) => write!(text, "{:?} ", bytes.as_slice())?,
+                Part::Pause => write!(text, "pause ")?,
+                Part::Over => write!(text, "over ")?,
+                Part::Failure => write!(text, "failure ")?,
+            }
+        }
+    }
+    Ok(text)
+}
+
+#[test]
+fn groups_and_stories_are_those_of_the_lines(rt: HostRuntime) -> Result<(), Fail> {
+    let script = parse_script(rt.alloc(), EACH_LINE.as_bytes(), 10)?;
+    assert_eq!(rt;
+        groups_text(rt.alloc(), &script)?.as_str(),
+        "0: listener 0; 5: 0; 5:; 5: 0; 5: listener listener 1; 4294967295: 1; "
+    );
+    assert_eq!(rt;
+        stories_text(rt.alloc(), &script)?.as_str(),
+        "0 pause failure 1 pause | [0, 255] pause [104] pause over | [170] pause failure "
+    );
+    Ok(())
+}

@@ -1,0 +1,6 @@
+pub mod Parts
+pub mod Numbers
+pub mod Steps
+pub mod Groups
+pub mod Readings
+pub mod Playable

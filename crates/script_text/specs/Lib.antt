@@ -1,0 +1,6 @@
+pub mod Words
+pub mod Lines
+pub mod Scripts
+pub mod Reading
+pub mod Parsing
+pub mod Playable
