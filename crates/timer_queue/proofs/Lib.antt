@@ -3,3 +3,4 @@ pub mod Places
 pub mod Members
 pub mod Swaps
 pub mod Contents
+pub mod Rows

@@ -1,28 +1,34 @@
 //! A timer queue over a sorted `Vec`.
-ghost use Rattle.std.specs.Prelude.{◌≡◌, []};
+ghost use Rattle.std.specs.Prelude.{◌≡◌, ◌+◌, ◌-◌, ◌<◌, ◌≤◌, [], true, length, drop, insert, remove, vec_len, vec_capacity};
+ghost use Rattle.timer_queue.specs.Timers.{is_rising, with_timer};
+ghost use Rattle.timer_queue.specs.Sorted.{Found};
 
 use crate::{Timer, TimerQueue};
 use ev_types::{Handle, NoMemory};
 use std::alloc::Global;
 use std::marker::Model;
 
-/// A timer queue that is a sorted list: a place is found by bisection, and what stands behind it moves.
+/// A timer queue that is a sorted list: a place is found by bisection, and what stands behind it moves. A timer that comes due last is
+/// put in, and the first taken out, without moving any other.
 #[derive(Drop)]
 pub struct SortedTimers {
-    // In falling order of (deadline, timer), so that the first to come due leaves from the end.
+    // From `head` on in rising order of (deadline, timer). Those before it have been taken out.
     timers: Vec<Timer>,
+    head: usize,
+    // How many timers fit. There are places for twice as many, so that those of timers taken out are seldom closed up.
+    room: usize,
 }
 
 impl Model for SortedTimers {
-    ghost use Rattle.std.specs.Prelude.{◌≡◌, ◌-◌, reverse, vec_len, vec_capacity};
-    ghost use Rattle.timer_queue.specs.Timers.{IsSchedule};
+    ghost use Rattle.std.specs.Prelude.{◌≡◌, ◌-◌, drop, length, vec_capacity};
+    ghost use Rattle.timer_queue.specs.Sorted.{IsSorted};
     ghost use Rattle.timer_queue.specs.Content.{Content};
 
     ghost Value = { Content };
 
-    ghost view = { λ q. record { timers = reverse q.timers.items; spare = vec_capacity q.timers - vec_len q.timers } };
+    ghost view = { λ q. record { timers = drop q.head q.timers.items; spare = q.room - (length q.timers.items - q.head) } };
 
-    ghost invariant = { λ q. IsSchedule (reverse q.timers.items) };
+    ghost invariant = { λ q. IsSorted q.timers.items q.head q.room (vec_capacity q.timers) };
 }
 
 impl SortedTimers {
@@ -32,6 +38,8 @@ impl SortedTimers {
     {
         SortedTimers {
             timers: Vec::new(alloc),
+            head: 0,
+            room: 0,
         }
     }
 }
@@ -42,41 +50,129 @@ impl TimerQueue for SortedTimers {
     ghost spare = { λ q. q.spare };
 
     fn reserve(&mut self, n: usize) -> Result<(), NoMemory> {
-        self.timers.reserve(n)?;
+        let held = self.timers.len() - self.head;
+        if n <= self.room - held {
+            return Ok(());
+        }
+        let Some(end) = held.checked_add(n) else {
+            return Err(NoMemory);
+        };
+        let Some(places) = end.checked_mul(2) else {
+            return Err(NoMemory);
+        };
+        close_up(&mut self.timers, self.head);
+        self.head = 0;
+        self.timers.reserve(places - held)?;
+        self.room = self.timers.capacity() / 2;
         Ok(())
     }
 
     fn schedule(&mut self, t: Timer) {
-        let place = self.timers.partition_point(|u| t.comes_before(u));
-        match self.timers.insert(place, t) {
-            Ok(()) => {}
-            Err(_) => unreachable!(),
+        if self.timers.len() >= self.timers.capacity() {
+            close_up(&mut self.timers, self.head);
+            self.head = 0;
         }
+        put_in(&mut self.timers, self.head, t);
     }
 
     fn cancel(&mut self, timer: u64) -> bool {
-        match self.timers.iter().position(|t| t.timer == timer) {
-            Some(place) => {
-                self.timers.remove(place);
-                true
-            }
-            None => false,
-        }
+        let Some(place) = position_of(&self.timers[self.head..], timer) else {
+            return false;
+        };
+        self.head = take_at(&mut self.timers, self.head, place);
+        true
     }
 
     fn cancel_all(&mut self, handle: Handle) {
+        close_up(&mut self.timers, self.head);
+        self.head = 0;
         self.timers.retain(|t| t.handle.0 != handle.0);
     }
 
     fn earliest(&self) -> Option<u64> {
-        self.timers.last().map(|t| t.deadline)
+        self.timers.get(self.head).map(|t| t.deadline)
     }
 
     fn pop_due(&mut self, now: u64) -> Option<Timer> {
-        let t = *self.timers.last()?;
+        let t = *self.timers.get(self.head)?;
         if now < t.deadline {
             return None;
         }
-        self.timers.pop()
+        self.head += 1;
+        Some(t)
     }
+}
+
+// Takes the first places away.
+fn close_up(timers: &mut Vec<Timer>, head: usize)
+    requires { head ≤ length timers.old.items }
+    ensures items { timers.new.items ≡ drop head timers.old.items }
+    ensures capacity { vec_capacity timers.new ≡ vec_capacity timers.old }
+{
+    let held = timers.len() - head;
+    timers.rotate_left(head);
+    timers.truncate(held);
+}
+
+// Where a timer stands among these.
+fn place_for(timers: &[Timer], t: &Timer) -> usize
+    requires { is_rising timers.now ≡ true }
+    ensures within { result ≤ length timers.now }
+    ensures place { insert timers.now result t.now ≡ with_timer t.now timers.now }
+{
+    let Some(last) = timers.last() else {
+        return 0;
+    };
+    if t.comes_before(last) {
+        return timers.partition_point(|u| !t.comes_before(u));
+    }
+    timers.len()
+}
+
+// Puts a timer in among those from `head` on.
+fn put_in(timers: &mut Vec<Timer>, head: usize, t: Timer)
+    requires room { vec_len timers.old < vec_capacity timers.old }
+    requires within { head ≤ length timers.old.items }
+    requires rising { is_rising (drop head timers.old.items) ≡ true }
+    ensures items { drop head timers.new.items ≡ with_timer t (drop head timers.old.items) }
+    ensures len { length timers.new.items ≡ length timers.old.items + 1 }
+    ensures capacity { vec_capacity timers.new ≡ vec_capacity timers.old }
+{
+    let place = place_for(&timers[head..], &t);
+    match timers.insert(head + place, t) {
+        Ok(()) => {}
+        Err(_) => unreachable!(),
+    }
+}
+
+// The place of the timer of this number.
+fn position_of(timers: &[Timer], timer: u64) -> Option<usize>
+    ensures { Found timer timers.now result }
+{
+    timers.iter().position(|t| t.timer == timer)
+}
+
+// Moves those before a place back by one, over the timer that stands there.
+fn pull_back(timers: &mut [Timer], head: usize, place: usize)
+    requires { head + place < length timers.old }
+    ensures { drop (head + 1) timers.new ≡ remove (drop head timers.old) place }
+{
+    timers[head..head + place + 1].rotate_right(1);
+}
+
+// Takes the timer at a place from `head` on out, and moves the fewer of those before it and those behind it. The answer is where the
+// rest begins.
+fn take_at(timers: &mut Vec<Timer>, head: usize, place: usize) -> usize
+    requires { head + place < length timers.old.items }
+    ensures items { drop result timers.new.items ≡ remove (drop head timers.old.items) place }
+    ensures within { result ≤ length timers.new.items }
+    ensures len { length timers.new.items - result + 1 ≡ length timers.old.items - head }
+    ensures capacity { vec_capacity timers.new ≡ vec_capacity timers.old }
+{
+    if place < (timers.len() - head) / 2 {
+        pull_back(timers, head, place);
+        return head + 1;
+    }
+    timers.remove(head + place);
+    head
 }

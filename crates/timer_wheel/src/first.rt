@@ -103,6 +103,14 @@ fn head_of_tick(
     }
 }
 
+// How many ticks are tried before all timers are looked at: none where there are few timers, and no more than a turn of the wheel.
+fn ticks_to_try(spokes: usize, timers: usize) -> usize {
+    if timers < spokes / 2 {
+        return 0;
+    }
+    spokes.min(timers / 4)
+}
+
 // The first of the timers, where none comes due before `from`. It is sought tick by tick from that moment on, and behind a turn of the
 // wheel, or sooner where there are few timers, among all.
 pub fn find_next(
@@ -120,7 +128,7 @@ pub fn find_next(
 {
     let tick = from / resolution;
     let mut at = spoke(heads.len(), resolution, from);
-    for turn in 0..heads.len().min(places.len() / 4) {
+    for turn in 0..ticks_to_try(heads.len(), places.len()) {
         let found = head_of_tick(places, heads[at], resolution, tick, turn);
         if found.is_some() {
             return found;
