@@ -33,7 +33,7 @@ assert same(plain) == same(logd), "the outputs differ"
 a, b = best(plain), best(logd)
 print(f"plain decoder {a:.3f} s, logd one {b:.3f} s, ratio {b / a:.2f}")
 P
-# The memory of logd at its most: it holds up to 65,536 entries of its journal, with the records of 32,768 reads, and hands them over.
+# The memory of logd at its most: it holds up to 512 entries of its journal, with the records of 256 reads, and lets them go.
 for part in 1 100 200 400 800; do
     for _ in $(seq 1 $(((part + 99) / 100))); do cat "$work/records"; done | head -c "$((part * 1000000))" >"$work/pipe" &
     "$root/crates/logd/out/logd" one <"$work/pipe" >/dev/null &

@@ -13,6 +13,7 @@ use log_lines::{EndKind, put_closing_line, put_record_line};
 use reactor_journal::Entry;
 use reactor_model::Watch;
 use sink_buffer::{DirectSink, ShortText, TextOut};
+use tally::Tally;
 
 /// A watch that writes the lines of the notes of a journal as its entries are appended. The text of a piece's lines is written in one
 /// call where its note has it, and a closing line in one too. Lines without a text are made here, a record at a time. It holds nothing
@@ -20,6 +21,8 @@ use sink_buffer::{DirectSink, ShortText, TextOut};
 #[derive(Drop)]
 pub struct LineSink<K> {
     output: DirectSink<K>,
+    // How many entries it has seen, from the first on, without a failed write.
+    whole: Tally,
 }
 
 impl<K: Sink> LineSink<K> {
@@ -34,6 +37,7 @@ impl<K: Sink> LineSink<K> {
     {
         LineSink {
             output: DirectSink::new(output),
+            whole: Tally::none(),
         }
     }
 
@@ -53,6 +57,15 @@ fn note_of(entry: &Entry<ServerNote>) -> Option<&ServerNote>
         Entry::Returned { note, .. } | Entry::Refused { note, .. } | Entry::Closed { note, .. } =>
             Some(note),
         _ => None,
+    }
+}
+
+/// Puts the lines of an entry.
+fn put_entry<T: TextOut>(out: &mut T, entry: &Entry<ServerNote>)
+    ensures { Puts T.stands out.old (entry_lines entry.now) out.new }
+{
+    if let Some(note) = note_of(entry) {
+        put_note(out, note);
     }
 }
 
@@ -113,7 +126,7 @@ fn put_closing<T: TextOut>(out: &mut T, conn: u64, end: EndKind)
 impl<K: Sink> Watch<ServerNote> for LineSink<K> {
     ghost use Rattle.reactor_journal.specs.declared.entry.Entry.{Entry};
     ghost use Rattle.log_handler.specs.declared.note.ServerNote.{ServerNote};
-    ghost use Rattle.log_handler.specs.LineSink.{PutsLines, line_sink_faults, is_broken, sink_of};
+    ghost use Rattle.log_handler.specs.LineSink.{PutsLines, line_sink_faults, is_broken, sink_of, whole_of};
     ghost use Rattle.log_handler.specs.Faults.{breaks_above};
 
     ghost stands = { PutsLines K.facts };
@@ -122,19 +135,24 @@ impl<K: Sink> Watch<ServerNote> for LineSink<K> {
 
     ghost is_broken = { is_broken };
 
+    ghost whole = { whole_of };
+
     fn saw(&mut self, entry: &Entry<ServerNote>)
         ensures stands { (t : Terms) (h : List (Entry ServerNote)) → PutsLines K.facts t self.old h → PutsLines K.facts t self.new (h ++ entry.now ∷ []) }
         ensures later { line_sink_faults K.facts self.old ≤ line_sink_faults K.facts self.new }
         ensures stays { is_broken self.old ≡ true → is_broken self.new ≡ true }
         ensures breaks { is_broken self.old ≡ false → is_broken self.new ≡ true → Rose (line_sink_faults K.facts self.old) (line_sink_faults K.facts self.new) }
+        ensures whole { whole_of self.old ≤ whole_of self.new }
         ensures quiet { is_broken self.old ≡ true → sink_of self.new ≡ sink_of self.old }
     {
         if self.output.is_broken() {
             return;
         }
-        if let Some(note) = note_of(entry) {
-            put_note(&mut self.output, note);
+        put_entry(&mut self.output, entry);
+        if self.output.is_broken() {
+            return;
         }
+        self.whole.add(1);
     }
 
     fn broken(&self) -> bool {

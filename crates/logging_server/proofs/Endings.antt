@@ -1,9 +1,11 @@
 -- How a run ends: what was written, and what its status says.
-use Rattle.std.proofs.Common.{ℕ, ◌≡◌, ◌≢◌, ◌⊎◌, inl, inr, Bool, true, false, List, [], ◌∷◌, ◌++◌, refl, sym, ap, ◌∙◌, subst, arith, Option, Some, None}
+use Rattle.std.proofs.Common.{ℕ, ◌≤◌, ◌+◌, ◌-◌, length, take, append_assoc, ◌≡◌, ◌≢◌, ◌⊎◌, inl, inr, Bool, true, false, List, [], ◌∷◌, ◌++◌, refl, sym, ap, ◌∙◌, subst, arith, Option, Some, None}
 use Rattle.std.specs.Option.{option_to_list}
 use Rattle.std.proofs.lemmas.Bool.{false≢true}
+use Rattle.std.specs.List.{count_by}
 use Rattle.std.proofs.lemmas.List.{append-nil}
-use Rattle.std.proofs.Math.Seq.{drop-length}
+use Rattle.std.proofs.lemmas.Grind.{flat_map-append}
+use Rattle.std.proofs.Math.Seq.{drop-length, take-append-add}
 use Rattle.ev_base.specs.Counts.{counted}
 use Rattle.ev_base.specs.Bytes.{ReaderBytes, MovesOn, NothingLeft}
 use Rattle.ev_base.specs.Source.{SourceFacts}
@@ -22,19 +24,20 @@ use Rattle.reactor_model.specs.Volumes.{VolumesFacts}
 use Rattle.log_handler.specs.declared.note.ServerNote.{ServerNote}
 use Rattle.log_handler.specs.declared.note.ServerNote.TheVariants as note
 use Rattle.log_handler.specs.declared.line_sink.LineSink.{LineSink}
-use Rattle.log_handler.specs.Notes.{journal_lines}
+use Rattle.log_handler.specs.Notes.{entry_lines, journal_lines}
 use Rattle.log_handler.specs.Connection.{end_of}
-use Rattle.log_handler.specs.LineSink.{PutsLines, is_broken, sink_of}
+use Rattle.log_handler.specs.LineSink.{PutsLines, is_broken, sink_of, whole_of}
 use Rattle.one_net.specs.OneKeeps.{most_input}
-use Rattle.one_run.specs.Phases.{first_entry, IsFinished}
-use Rattle.one_run.specs.Running.{VolumesSince, is_lost}
+use Rattle.sink_buffer.specs.Written.{IsPrefixOf}
+use Rattle.one_run.specs.Phases.{first_entry, IsFinished, is_return}
+use Rattle.one_run.specs.Running.{VolumesSince, IsWholeUntilLast, is_lost}
 use Rattle.one_run.specs.Opening.{CountsWrite, LeavesUnopened}
 use Rattle.one_run.specs.declared.opening.Unopened.{Unopened}
 use Rattle.one_run.specs.declared.serving.Halt.{Halt}
 use Rattle.one_run.specs.declared.serving.Halt.TheVariants as halt
 use Rattle.logging_server.specs.Written.{TookAll, TookFront, IsWritten}
 use Rattle.logging_server.specs.Outcome.{lines_of, IsReadToEnd, IsClosedWith, TakesInput, ComesTo, IsMalformed, EndsAsRead}
-use Rattle.logging_server.specs.Journals.{IsTold, IsTakenAndHeld, IsOver, StandsFor, SomeJournal}
+use Rattle.logging_server.specs.Journals.{IsTold, IsTakenAndHeld, IsOver, WroteUntilLast, BreaksLate, HasWritten, StandsFor, SomeJournal}
 use Rattle.logging_server.specs.Statuses.{DecodesLeft, HasLines, IsDone, IsReadFault, IsNoMemory, IsTooLong, IsVolumeFault, HasStatus, code_of}
 use Rattle.logging_server.specs.Ran.{RunsOne, status_without_fault, status_of}
 use Rattle.logging_server.specs.declared.status.Status.{Status}
@@ -50,28 +53,45 @@ grows old new bytes start told by = by_new new (subst (λ (old : Option (List �
     by_new None by = absurd by
     by_new (Some text) by = ap Some by
 
-module _ {K : Type 0} (facts : K → SinkFacts) (t : Terms) (o : SinkFacts) (opening : t.opening ≡ o.text) (faults : t.output_faults ≡ Some o.faults) (sink : LineSink K) (h : List (Entry ServerNote)) (puts : PutsLines facts t sink h) where
+-- the lines of the first entries, where those of as many or more are in a text
+front-of : (before more : List (Entry ServerNote)) (whole : ℕ) (text : List ℕ) → length before ≤ whole → IsPrefixOf (journal_lines (take whole (before ++ more))) text → IsPrefixOf (journal_lines before) text
+front-of before more whole text seen p =
+    let count : whole ≡ length before + (whole - length before) = omega (arith, seen) in
+    let first : take whole (before ++ more) ≡ before ++ take (whole - length before) more = ap (λ (n : ℕ). take n (before ++ more)) count ∙ take-append-add before more (whole - length before) in (
+      journal_lines (take (whole - length before) more) ++ p.0,
+      p.1 ∙ (ap (λ (entries : List (Entry ServerNote)). journal_lines entries ++ p.0) first
+          ∙ (ap (λ (lines : List ℕ). lines ++ p.0) (flat_map-append entry_lines before (take (whole - length before) more))
+          ∙ append_assoc (journal_lines before) (journal_lines (take (whole - length before) more)) p.0)),
+    )
+
+module _ {K : Type 0} (facts : K → SinkFacts) (t : Terms) (o : SinkFacts) (opening : t.opening ≡ o.text) (faults : t.output_faults ≡ Some o.faults) (sink : LineSink K) (h : List (Entry ServerNote)) (puts : PutsLines facts t sink h) (late : IsWholeUntilLast (whole_of sink) h) where
   wrote_all : is_broken sink ≡ false → TookAll o (journal_lines h) (facts (sink_of sink))
   wrote_all whole =
       let w = puts.put.whole whole in
-      let all : w.written ≡ journal_lines h = sym (append-nil w.written) ∙ (ap (λ (held : List ℕ). w.written ++ held) (sym puts.none_held) ∙ w.all) in
       record {
-        text = λ start told. grows puts.start.text (facts (sink_of sink)).text (journal_lines h) start (puts.opening start (opening ∙ told))
-            (subst (λ (bytes : List ℕ). GrowsBy puts.start.text bytes (facts (sink_of sink)).text) all w.takes.text);
-        faults = w.takes.faults ∙ puts.faults o.faults faults;
+        text = λ start told. grows puts.start.text (facts (sink_of sink)).text (journal_lines h) start (puts.opening start (opening ∙ told)) w.text;
+        faults = w.faults ∙ puts.faults o.faults faults;
       }
 
-  wrote_front : is_broken sink ≡ true → TookFront o (journal_lines h) (facts (sink_of sink))
+  wrote_front : is_broken sink ≡ true → BreaksLate o h (facts (sink_of sink))
   wrote_front broken =
-      let b = puts.put.front broken in
-      record {
-        front = b.front;
-        is_front = b.is_front;
-        text = λ start told. grows puts.start.text (facts (sink_of sink)).text b.front start (puts.opening start (opening ∙ told)) b.text;
-        one_failed = b.rose ∙ ap counted (puts.faults o.faults faults);
-      }
+      let b = puts.put.front broken in (
+        record {
+          front = b.front;
+          is_front = b.is_front;
+          text = λ start told. grows puts.start.text (facts (sink_of sink)).text b.front start (puts.opening start (opening ∙ told)) b.text;
+          one_failed = b.rose ∙ ap counted (puts.faults o.faults faults);
+        },
+        record {
+          before = late.before;
+          rest = late.grows.more;
+          is = late.grows.is;
+          few = late.grows.few;
+          written = front-of late.before late.grows.more (whole_of sink) b.front late.seen (subst (λ (entries : List (Entry ServerNote)). IsPrefixOf (journal_lines (take (whole_of sink) entries)) b.front) late.grows.is (puts.kept broken));
+        },
+      )
 
-  pub wrote : (broken : Bool) → broken ≡ is_broken sink → IsWritten broken o (journal_lines h) (facts (sink_of sink))
+  pub wrote : (broken : Bool) → broken ≡ is_broken sink → HasWritten broken o h (facts (sink_of sink))
   wrote true is = wrote_front (sym is)
   wrote false is = wrote_all (sym is)
 
@@ -145,7 +165,7 @@ pub record ClosesItself {failed : Bool} {i j : SourceFacts} {h : List (Entry Ser
 pub record Known (i : SourceFacts) (o : SinkFacts) (j : SourceFacts) (p : SinkFacts) (h : List (Entry ServerNote)) (before now : ℕ) (extra : Option ℕ) (failed broken too_long lost : Bool) (why : Option Halt) : Type 0 where
   pub run : ComesTo most_input failed i j h
   pub extra_is : run.extra ≡ option_to_list extra
-  pub written : IsWritten broken o (journal_lines h) p
+  pub written : HasWritten broken o h p
   pub closed : why ≡ None → ClosesItself run lost
   pub volumes : VolumesSince why before now
   pub halted : why ≡ Some halt.Broken → broken ≡ true
@@ -185,9 +205,9 @@ module _ (i : SourceFacts) (o : SinkFacts) (j : SourceFacts) (p : SinkFacts) (h 
       text : journal_lines h ≡ lines_of k.run.taken kind.Failed
       text = k.run.lines ∙ (ap (λ (word : EndKind). lines_of k.run.decoded word) failing.0 ∙ ap (λ (bytes : List ℕ). lines_of bytes kind.Failed) failing.1)
 
-      by : (broken : Bool) → IsWritten broken o (journal_lines h) p → TookAll o (lines_of k.run.taken kind.Failed) p ⊎ TookFront o (lines_of k.run.taken kind.Failed) p
+      by : (broken : Bool) → HasWritten broken o h p → TookAll o (lines_of k.run.taken kind.Failed) p ⊎ TookFront o (lines_of k.run.taken kind.Failed) p
       by false w = inl (subst (λ (text : List ℕ). TookAll o text p) text w)
-      by true w = inr (subst (λ (text : List ℕ). TookFront o text p) text w)
+      by true w = inr (subst (λ (text : List ℕ). TookFront o text p) text w.0)
 
   no_memory : (too_long lost : Bool) (why : Option Halt) → Knows false false too_long lost why → IsNoMemory most_input i o j p
   no_memory too_long lost why k = record { text = journal_lines h; due = inl (due false too_long lost why k); written = k.written }
@@ -241,7 +261,7 @@ module _ (i : SourceFacts) (o : SinkFacts) (j : SourceFacts) (p : SinkFacts) (h 
 
   pub has_status : (failed broken too_long lost : Bool) (why : Option Halt) → Knows failed broken too_long lost why → HasStatus most_input i o j p before now (status_of failed broken too_long lost why)
   has_status true broken too_long lost why k = read_fault broken too_long lost why k
-  has_status false true too_long lost why k = record { text = journal_lines h; due = inl (due true too_long lost why k); written = k.written }
+  has_status false true too_long lost why k = record { text = journal_lines h; due = inl (due true too_long lost why k); written = k.written.0 }
   has_status false false too_long lost why k = without_fault too_long lost why k
 
   -- ---- what the journal says
@@ -258,7 +278,7 @@ module _ (i : SourceFacts) (o : SinkFacts) (j : SourceFacts) (p : SinkFacts) (h 
   at_zero false true too_long lost why k q = absurd (omega (arith, q))
   at_zero false false too_long lost why k q =
       elim (code_cases too_long lost why) [
-        WithoutMemory e ↦ absurd (omega (arith, q, e))
+        | WithoutMemory e ↦ absurd (omega (arith, q, e))
         | TooLong e long ↦ absurd (omega (arith, q, e))
         | Done e short kept none ↦ ends_as_read too_long lost why k short kept none
         | Halted e ↦ absurd (omega (arith, q, e))
@@ -270,7 +290,7 @@ module _ (i : SourceFacts) (o : SinkFacts) (j : SourceFacts) (p : SinkFacts) (h 
   at_eleven false true too_long lost why k q = absurd (omega (arith, q))
   at_eleven false false too_long lost why k q =
       elim (code_cases too_long lost why) [
-        WithoutMemory e ↦ absurd (omega (arith, q, e))
+        | WithoutMemory e ↦ absurd (omega (arith, q, e))
         | TooLong e long ↦ λ none. k.met long (sym k.extra_is ∙ none)
         | Done e short kept none ↦ absurd (omega (arith, q, e))
         | Halted e ↦ absurd (omega (arith, q, e))
@@ -308,16 +328,16 @@ module _ (i : SourceFacts) (o : SinkFacts) (j : SourceFacts) (p : SinkFacts) (h 
     broken = λ code. front failed broken k.written code;
   }
     where
-      either : (broken : Bool) → IsWritten broken o (journal_lines h) p → TookAll o (journal_lines h) p ⊎ TookFront o (journal_lines h) p
+      either : (broken : Bool) → HasWritten broken o h p → HasWritten false o h p ⊎ HasWritten true o h p
       either true w = inr w
       either false w = inl w
 
-      all : (failed broken : Bool) → IsWritten broken o (journal_lines h) p → code_of (status_of failed broken too_long lost why) ≢ 3 → code_of (status_of failed broken too_long lost why) ≢ 4 → TookAll o (journal_lines h) p
+      all : (failed broken : Bool) → HasWritten broken o h p → code_of (status_of failed broken too_long lost why) ≢ 3 → code_of (status_of failed broken too_long lost why) ≢ 4 → TookAll o (journal_lines h) p
       all failed false w a b = w
       all true true w a b = absurd (a refl)
       all false true w a b = absurd (b refl)
 
-      front : (failed broken : Bool) → IsWritten broken o (journal_lines h) p → code_of (status_of failed broken too_long lost why) ≡ 4 → TookFront o (journal_lines h) p
+      front : (failed broken : Bool) → HasWritten broken o h p → code_of (status_of failed broken too_long lost why) ≡ 4 → BreaksLate o h p
       front failed true w code = w
       front true false w code = absurd (omega (arith, code))
       front false false w code = absurd (not_four too_long lost why code)
@@ -355,6 +375,10 @@ over_at_once : (journal : List (Entry ServerNote)) → (journal ≡ []) ⊎ (jou
 over_at_once journal (inl none) = inl none
 over_at_once journal (inr ended) = inr (subst IsOver (sym ended) end_is_over)
 
+none_returned : (journal : List (Entry ServerNote)) → (journal ≡ []) ⊎ (journal ≡ Ended ∷ []) → (text : List ℕ) → WroteUntilLast journal text
+none_returned journal (inl none) text = let count : count_by is_return journal ≡ 0 = ap (count_by is_return) none in record { before = []; rest = journal; is = refl; few = omega (arith, count); written = (text, refl) }
+none_returned journal (inr ended) text = let count : count_by is_return journal ≡ 0 = ap (count_by is_return) ended in record { before = []; rest = journal; is = refl; few = omega (arith, count); written = (text, refl) }
+
 unbegun_stands : (i : SourceFacts) (o : SinkFacts) (j : SourceFacts) (p : SinkFacts) (journal : List (Entry ServerNote)) (broken : Bool) → j.bytes ≡ i.bytes → j.gave ≡ i.gave → j.faults ≡ i.faults → IsWritten broken o [] p
     → (journal ≡ []) ⊎ (journal ≡ Ended ∷ []) → StandsFor most_input i o j p (code_of (status_unbegun broken)) journal
 unbegun_stands i o j p journal broken bytes gave faults written entries = by broken (subst (λ (text : List ℕ). IsWritten broken o text p) (sym (no_lines journal entries)) written)
@@ -364,9 +388,9 @@ unbegun_stands i o j p journal broken bytes gave faults written entries = by bro
       over = over_at_once journal entries;
       some = λ code. absurd (omega (arith, code));
       run = inl (record { entries = entries; bytes = bytes; gave = gave; faults = faults; code_is = inr (inl refl) });
-      written = inr w;
+      written = inr (w, none_returned journal entries w.front);
       whole = λ not_three not_four. absurd (not_four refl);
-      broken = λ code. w;
+      broken = λ code. (w, none_returned journal entries w.front);
     }
     by false w = record {
       over = over_at_once journal entries;

@@ -1,5 +1,5 @@
 -- What is left of the reactor of a run says what became of the run.
-use Rattle.std.proofs.Common.{ℕ, ◌≡◌, ◌≢◌, ◌⊎◌, Bool, true, false, List, [], ◌∷◌, refl, sym, ap, ◌∙◌, subst, arith, drop, Option, Some, None}
+use Rattle.std.proofs.Common.{ℕ, ◌≤◌, ◌≡◌, ◌≢◌, ◌⊎◌, Bool, true, false, List, [], ◌∷◌, refl, sym, ap, ◌∙◌, subst, arith, drop, Option, Some, None}
 use Rattle.timer_queue.specs.Content.{Content}
 use Rattle.ev_types.specs.declared.upcall.Why.TheVariants.{Own}
 use Rattle.ev_base.specs.Source.{SourceFacts}
@@ -16,7 +16,7 @@ use Rattle.reactor_core.specs.declared.reactor.Parts.{Parts}
 use Rattle.log_handler.specs.declared.note.ServerNote.{ServerNote}
 use Rattle.log_handler.specs.declared.connection.LogConnection.{LogConnection}
 use Rattle.log_handler.specs.declared.line_sink.LineSink.{LineSink}
-use Rattle.log_handler.specs.LineSink.{is_broken, sink_of}
+use Rattle.log_handler.specs.LineSink.{is_broken, sink_of, whole_of}
 use Rattle.log_handler.specs.Connections.{ConnectionGone}
 use Rattle.log_handler.specs.Laws.{CoursesAccount}
 use Rattle.one_net.specs.declared.one_end.OneEnd.{OneEnd}
@@ -24,11 +24,12 @@ use Rattle.one_net.specs.declared.one_net.OneNet.{OneNet}
 use Rattle.one_net.specs.OneEnd.{one_end_facts, extra_of, failed_of, input_of}
 use Rattle.one_net.specs.OneKeeps.{OneEndKeeps, most_input}
 use Rattle.one_net.specs.OneNet.{one_net_facts}
-use Rattle.one_run.specs.Phases.{IsOpened, IsFinished, CanEnd, turns_in}
-use Rattle.one_run.specs.Running.{one_meaning, VolumesSince, is_lost, LeavesParts, ClosedItself, IsShutAs, HasEnded}
+use Rattle.one_run.specs.Phases.{IsOpened, IsFinished, CanEnd, GrowsFrom, turns_in}
+use Rattle.one_run.specs.Running.{one_meaning, VolumesSince, is_lost, LeavesParts, ClosedItself, IsShutAs, IsWholeUntilLast, HasEnded}
 use Rattle.one_run.specs.Opening.{TakesNothing, terms_of_run}
 use Rattle.one_run.specs.declared.serving.Halt.{Halt}
 use Rattle.one_run.specs.declared.serving.Halt.TheVariants as halt
+use Rattle.one_run.proofs.Growing.{whole-more}
 use Rattle.one_run.proofs.Begins.{starts}
 use Rattle.one_run.proofs.Leaves.{RetiresOne, retires_one}
 use Rattle.logging_server.specs.Journals.{IsTakenAndHeld, AreHandedOver, StandsFor}
@@ -55,6 +56,7 @@ pub record IsLeft {S K V : Type 0} (G : Ghosts (OneEnd S)) (source : S → Sourc
   pub closed : why ≡ None → ClosedItself lost journal finished
   pub taken : VolumesSince why v.faults (volumes parts.volumes).faults
   pub broken : why ≡ Some halt.Broken → is_broken parts.watch ≡ true
+  pub late : IsWholeUntilLast (whole_of parts.watch) journal
 
 not_none : {A P : Type 0} {a : A} → ◌≡◌ {A = Option A} (Some a) None → P
 not_none q = cc
@@ -62,15 +64,16 @@ not_none q = cc
 -- by how the run ended
 pub left_of : {S K V : Type 0} (G : Ghosts (OneEnd S)) (source : S → SourceFacts) (sink : K → SinkFacts) (volumes : V → VolumesFacts ServerNote) (i : SourceFacts) (o : SinkFacts) (v : VolumesFacts ServerNote)
     (core : Core (LogConnection (OneEnd S) G) (OneNet S) Content (LineSink K) V ServerNote (OneEnd S)) (parts : Parts ServerNote (OneNet S) Content (LineSink K) V) (why : Option Halt) (lost : Bool) (h : List (Entry ServerNote))
-    → HasEnded why lost h → (CanEnd h → LeavesParts (one_meaning {G = G} source sink volumes) (terms_of_run i o v) core (λ h over. Unit {0}) parts)
-    → ((now : ℕ) (lost : Bool) → IsShutAs (now ∷ []) lost h → LeavesParts (one_meaning {G = G} source sink volumes) (terms_of_run i o v) core (ClosedItself lost) parts)
+    → HasEnded why lost h → (whole : ℕ) → IsWholeUntilLast whole h → whole ≤ whole_of parts.watch
+    → (CanEnd h → LeavesParts (one_meaning {G = G} source sink volumes) (terms_of_run i o v) core (λ journal over. GrowsFrom 0 h journal) parts)
+    → ((now : ℕ) (lost : Bool) → IsShutAs (now ∷ []) lost h → LeavesParts (one_meaning {G = G} source sink volumes) (terms_of_run i o v) core (λ journal over. ClosedItself lost journal over × GrowsFrom 0 h journal) parts)
     → VolumesSince why v.faults (volumes parts.volumes).faults → (why ≡ Some halt.Broken → is_broken parts.watch ≡ true) → IsLeft G source sink volumes i o v parts why lost
-left_of G source sink volumes i o v core parts None lost h ended ends closes taken broken =
+left_of G source sink volumes i o v core parts None lost h ended whole late later ends closes taken broken =
     let l = closes ended.0 lost ended.1 in
-    record { first = l.first; journal = l.journal; legal = l.legal; finished = l.finished; stand = l.stand; closed = λ none. l.so; taken = taken; broken = broken }
-left_of G source sink volumes i o v core parts (Some halt) lost h ended ends closes taken broken =
+    record { first = l.first; journal = l.journal; legal = l.legal; finished = l.finished; stand = l.stand; closed = λ none. l.so.0; taken = taken; broken = broken; late = whole-more whole (whole_of parts.watch) h l.journal later late l.so.1 }
+left_of G source sink volumes i o v core parts (Some halt) lost h ended whole late later ends closes taken broken =
     let l = ends ended in
-    record { first = l.first; journal = l.journal; legal = l.legal; finished = l.finished; stand = l.stand; closed = λ none. not_none none; taken = taken; broken = broken }
+    record { first = l.first; journal = l.journal; legal = l.legal; finished = l.finished; stand = l.stand; closed = λ none. not_none none; taken = taken; broken = broken; late = whole-more whole (whole_of parts.watch) h l.journal later late l.so }
 
 module _ {S K V : Type 0} (G : Ghosts (OneEnd S)) (source : S → SourceFacts) (sink : K → SinkFacts) (volumes : V → VolumesFacts ServerNote) (account : CoursesAccount) (i : SourceFacts) (o : SinkFacts) (v : VolumesFacts ServerNote)
     (parts : Parts ServerNote (OneNet S) Content (LineSink K) V) (why : Option Halt) (lost : Bool) (left : IsLeft G source sink volumes i o v parts why lost)
@@ -90,7 +93,7 @@ module _ {S K V : Type 0} (G : Ghosts (OneEnd S)) (source : S → SourceFacts) (
     known = record {
       run = outcome.run;
       extra_is = outcome.extra;
-      written = wrote sink (terms_of_run i o v) o refl refl parts.watch left.journal left.stand.watch broken is_broken_so;
+      written = wrote sink (terms_of_run i o v) o refl refl parts.watch left.journal left.stand.watch left.late broken is_broken_so;
       closed = λ none. record {
         own = ap (λ (before : List (Entry ServerNote)). reason_of (past_of before) 0) outcome.before ∙ (left.finished.closed.closed_for ∙ (left.closed none).own);
         not_stopped = outcome.own (left.closed none).own;

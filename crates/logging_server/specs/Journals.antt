@@ -1,5 +1,6 @@
 -- The journal of a run of the command `one`.
 use Rattle.std.specs.Prelude.{◌≡◌, ◌≢◌, ◌≤◌, ◌⊎◌, ◌+◌, ℕ, Bool, true, false, List, [], ◌∷◌, ◌++◌, length, drop, Option, Some, None}
+use Rattle.std.specs.List.{count_by}
 use Rattle.ev_base.specs.Source.{SourceFacts}
 use Rattle.ev_base.specs.Sink.{SinkFacts}
 use Rattle.reactor_journal.specs.declared.entry.Entry.{Entry}
@@ -10,7 +11,8 @@ use Rattle.reactor_summary.specs.Tells.{is_refused}
 use Rattle.reactor_model.specs.Volumes.{VolumesFacts}
 use Rattle.log_handler.specs.declared.note.ServerNote.{ServerNote}
 use Rattle.log_handler.specs.Notes.{journal_lines}
-use Rattle.one_run.specs.Phases.{first_entry, served_until_end}
+use Rattle.sink_buffer.specs.Written.{IsPrefixOf}
+use Rattle.one_run.specs.Phases.{first_entry, served_until_end, is_return}
 use Rattle.logging_server.specs.Written.{TookAll, TookFront}
 use Rattle.logging_server.specs.Outcome.{ComesTo, EndsAsRead}
 
@@ -64,15 +66,32 @@ pub record ServesConnection (limit : ℕ) (i j : SourceFacts) (code : ℕ) (jour
   pub no_read_fault : code ≢ 3 → failed ≡ false
   pub too_long : code ≡ 11 → run.extra ≢ []
 
+-- All lines of the entries before the return of the last upcall, or before what follows that, are in the text that was written.
+pub record WroteUntilLast (journal : List (Entry ServerNote)) (text : List ℕ) : Type 0 where
+  pub before : List (Entry ServerNote)
+  pub rest : List (Entry ServerNote)
+  pub is : journal ≡ before ++ rest
+  pub few : count_by is_return rest ≤ 1
+  pub written : IsPrefixOf (journal_lines before) text
+
+-- A front of the journal's lines was written, and the run made no upcall more once a write had failed.
+abbrev pub BreaksLate : SinkFacts → List (Entry ServerNote) → SinkFacts → Type 0
+BreaksLate o journal p = (took : TookFront o (journal_lines journal) p) × WroteUntilLast journal took.front
+
+-- all lines of the journal were written or, where a write failed, a front of them
+abbrev pub HasWritten : Bool → SinkFacts → List (Entry ServerNote) → SinkFacts → Type 0
+HasWritten false o journal p = TookAll o (journal_lines journal) p
+HasWritten true o journal p = BreaksLate o journal p
+
 -- What the journal of a run says, by the status with which it ended: the output has its lines, or a front of them where a write
 -- failed.
 pub record StandsFor (limit : ℕ) (i : SourceFacts) (o : SinkFacts) (j : SourceFacts) (p : SinkFacts) (code : ℕ) (journal : List (Entry ServerNote)) : Type 0 where
   pub over : (journal ≡ []) ⊎ IsOver journal
   pub some : code ≡ 0 → journal ≢ []
   pub run : OpensNothing i j code journal ⊎ ServesConnection limit i j code journal
-  pub written : TookAll o (journal_lines journal) p ⊎ TookFront o (journal_lines journal) p
+  pub written : HasWritten false o journal p ⊎ HasWritten true o journal p
   pub whole : code ≢ 3 → code ≢ 4 → TookAll o (journal_lines journal) p
-  pub broken : code ≡ 4 → TookFront o (journal_lines journal) p
+  pub broken : code ≡ 4 → BreaksLate o journal p
 
 -- There is a journal that stands for the run, whether the volumes tell its first entries or not: from number `first` on its entries are
 -- those that are held.

@@ -26,7 +26,6 @@ use Rattle.reactor_core.specs.Polling.{AreDue, due_of, ready_of}
 use Rattle.reactor_core.specs.Settling.{IsClosing}
 use Rattle.reactor_core.specs.Removing.{AreRemovals, alive_handles}
 use Rattle.one_run.specs.Phases.{one_handle, one_live, closed_summary, notes_in, note_of, turns_in, AllReadOn, is_served, first_entry, served_until_end, IsServedSo, IsOpened, IsRead, IsShut, IsFinished, ClosesAs, WasShut, CanEnd}
-use Rattle.one_run.specs.Running.{TurnsOnce}
 use Rattle.one_run.proofs.Phases.{so_more, notes_more, none_closed}
 
 -- ---- waits
@@ -256,7 +255,3 @@ can_end h may = ⊎_elim (λ r. inr (inl r)) (λ s. inr (inr (was_shut h s))) ma
 
 pub can_end_unserved : {N : Type 0} (h : List (Entry N)) → IsOpened h ⊎ IsShut [] h → CanEnd h
 can_end_unserved h may = ⊎_elim (λ opened. inl opened) (λ s. inr (inr (was_shut h s))) may
-
--- one turn more at most was made
-pub turned_end : {N : Type 0} (before h : List (Entry N)) → TurnsOnce before h → IsRead h ⊎ IsShut [] h
-turned_end before h turns = ⊎_elim (λ r. inl r.0) (λ s. inr s.0) turns

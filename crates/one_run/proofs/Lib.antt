@@ -8,3 +8,4 @@ pub mod Turning
 pub mod Finishing
 pub mod Unserved
 pub mod Begins
+pub mod Growing

@@ -203,14 +203,3 @@ pub shuts_note : {N : Type 0} (most : ℕ) (h : List (Entry N)) (e : ℕ) (note 
     → (shuts most h e note said legal r is).closed.note ≡ said
 unfolding shuts
 shuts_note most h e note said legal r is = refl
-
-pub shuts_turns : {N : Type 0} (most : ℕ) (h : List (Entry N)) (e : ℕ) (note said : N) (legal : is_legal most (Returned e Close note ∷ Started e ∷ past_of h) ≡ true) (r : IsRead h) (is : r.event ≡ e)
-    → length (turns_in (shuts most h e note said legal r is).closed.before) ≡ suc (length (turns_in h))
-unfolding shuts
-shuts_turns {N} most h e note said legal r is =
-    ap length (ap (λ past. had past 0) (past_two h (Started e) (Returned e Close note))
-    ∙ turns_returned most h e Close note (and_parts (may_follow most (Started e ∷ past_of h) (Returned e Close note)) (is_legal most (Started e ∷ past_of h)) legal).1 (r.sums ∙ ap waiting_summary is))
-    ∙ (length-append (turns_in h) (input_turn Close note ∷ []) ∙ one_more (length (turns_in h)))
-  where
-    one_more : (n : ℕ) → n + 1 ≡ suc n
-    one_more n = omega arith

@@ -47,9 +47,10 @@ use Rattle.one_net.specs.declared.one_end.OneEnd.{OneEnd}
 use Rattle.one_net.specs.declared.one_net.OneNet.{OneNet}
 use Rattle.one_net.specs.OneEnd.{one_end_facts}
 use Rattle.one_net.specs.OneKeeps.{OneEndKeeps}
-use Rattle.one_run.specs.Phases.{one_handle, waiting_summary, out_summary, turns_in, IsRead, IsShut}
+use Rattle.one_run.specs.Phases.{one_handle, waiting_summary, out_summary, turns_in, IsRead, IsShut, GrowsFrom}
 use Rattle.one_run.specs.Running.{one_meaning, StandsIn, ReadsOneMore, TurnsOnce, IsShutAs, is_lost, last_entry, closes_lost}
-use Rattle.one_run.proofs.Phases.{started_is, summary_started, reads_on, reads_on_more, shuts, shuts_note, shuts_turns, past_two, same}
+use Rattle.one_run.proofs.Phases.{started_is, summary_started, reads_on, reads_on_more, shuts, shuts_note, past_two, same}
+use Rattle.one_run.proofs.Growing.{grows-returned, grows-closed}
 use Rattle.one_run.proofs.Reading.{never_keeps}
 
 -- ---- the last entry
@@ -152,11 +153,11 @@ module _ {S K V : Type 0} (G : Ghosts (OneEnd S)) (source : S → SourceFacts) (
     pub stands : Stands (one_meaning {G = G} source sink volumes) t core F (before ++ Closed one_handle note ∷ [])
     pub shut : IsShut [] (before ++ Closed one_handle note ∷ [])
     pub noted : shut.closed.note ≡ note
-    pub turns : length (turns_in shut.closed.before) ≡ suc (length (turns_in h))
+    pub grows : GrowsFrom 1 h (before ++ Closed one_handle note ∷ [])
 
   abbrev pub TurnGives : Answer → ℕ → List (Entry ServerNote) → the_core → Type 0
   TurnGives Keep F h core = ⊥
-  TurnGives Again F h core = StandsIn (one_meaning {G = G} source sink volumes) t (ReadsOneMore h) core
+  TurnGives Again F h core = StandsIn (one_meaning {G = G} source sink volumes) t (λ now. ReadsOneMore h now × GrowsFrom 1 h now) core
   TurnGives Close F h core = ClosesAt F h core
 
   module _ (F : ℕ) (h : List (Entry ServerNote)) (r : IsRead h) (job : Job (LogConnection (OneEnd S) G) ServerNote (OneEnd S)) (done : Done (LogConnection (OneEnd S) G) ServerNote (OneEnd S)) (old new : the_core) (settled : Settled)
@@ -197,7 +198,7 @@ module _ {S K V : Type 0} (G : Ghosts (OneEnd S)) (source : S → SourceFacts) (
       F,
       (h ++ Started r.event ∷ []) ++ Returned r.event Again done.turn.note ∷ [],
       subst (λ l. Stands (one_meaning {G = G} source sink volumes) t new F l) all settles.stands,
-      (reads_on t.most h r.event done.turn.note legal_started r refl, reads_on_more t.most h r.event done.turn.note legal_started r refl),
+      ((reads_on t.most h r.event done.turn.note legal_started r refl, reads_on_more t.most h r.event done.turn.note legal_started r refl), grows-returned h r.event r.event Again done.turn.note),
     )
       where
         none : settles.closing ≡ []
@@ -214,7 +215,7 @@ module _ {S K V : Type 0} (G : Ghosts (OneEnd S)) (source : S → SourceFacts) (
       stands = stands_new;
       shut = shuts t.most h r.event done.turn.note said.0 legal_before r refl;
       noted = shuts_note t.most h r.event done.turn.note said.0 legal_before r refl;
-      turns = shuts_turns t.most h r.event done.turn.note said.0 legal_before r refl;
+      grows = grows-closed h r.event r.event Close done.turn.note said.0;
     }
       where
         before : List (Entry ServerNote)
@@ -235,18 +236,15 @@ module _ {S K V : Type 0} (G : Ghosts (OneEnd S)) (source : S → SourceFacts) (
         legal_before = subst (λ past. is_legal t.most past ≡ true) (past_two h (Started r.event) (Returned r.event Close done.turn.note))
             (and_parts (may_follow t.most (past_of before) (Closed one_handle said.0)) _ (subst (λ past. is_legal t.most past ≡ true) (past_of-more before (Closed one_handle said.0)) stands_new.tracks.legal)).1
 
-  le_of : {a b : ℕ} → a ≡ b → a ≤ b
-  le_of same = omega (arith, same)
-
   -- what holds of the history whatever was answered
   pub either : (a : Answer) (F : ℕ) (h : List (Entry ServerNote)) (core : the_core) → TurnGives a F h core → StandsIn (one_meaning {G = G} source sink volumes) t (TurnsOnce h) core
   either Keep F h core gives = absurd gives
-  either Again F h core gives = (gives.0, gives.1, gives.2, inl (gives.3.0, le_of gives.3.1))
-  either Close F h core gives = (F, gives.before ++ Closed one_handle gives.note ∷ [], gives.stands, inr (gives.shut, le_of gives.turns))
+  either Again F h core gives = (gives.0, gives.1, gives.2, (inl gives.3.0.0, gives.3.1))
+  either Close F h core gives = (F, gives.before ++ Closed one_handle gives.note ∷ [], gives.stands, (inr gives.shut, gives.grows))
 
   pub goes_on : (a : Answer) (F : ℕ) (h : List (Entry ServerNote)) (core : the_core) → (a ≡ Close → ⊥) → TurnGives a F h core → StandsIn (one_meaning {G = G} source sink volumes) t (ReadsOneMore h) core
   goes_on Keep F h core other gives = absurd gives
-  goes_on Again F h core other gives = gives
+  goes_on Again F h core other gives = (gives.0, gives.1, gives.2, gives.3.0)
   goes_on Close F h core other gives = absurd (other refl)
 
   pub closes_as : (F : ℕ) (core : the_core) (lost : Bool) (entries : (h : List (Entry ServerNote)) → Stands (one_meaning {G = G} source sink volumes) t core F h → lost ≡ closes_lost (last_entry (drop F h))) → (before : List (Entry ServerNote)) → ClosesAt F before core

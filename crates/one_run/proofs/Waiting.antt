@@ -33,8 +33,9 @@ use Rattle.one_net.specs.declared.one_end.OneEnd.{OneEnd}
 use Rattle.one_net.specs.declared.one_net.OneNet.{OneNet}
 use Rattle.one_net.specs.OneNet.{one_net_facts, last_answer, masks_of}
 use Rattle.one_net.specs.Watched.{first_report, answer_of}
-use Rattle.one_run.specs.Phases.{one_handle, read_mask, IsOpened, IsRead, IsShut, CanEnd}
+use Rattle.one_run.specs.Phases.{one_handle, read_mask, IsOpened, IsRead, IsShut, CanEnd, GrowsFrom}
 use Rattle.one_run.specs.Running.{one_meaning, StandsIn, IsShutAs, HasEnded, is_lost}
+use Rattle.one_run.proofs.Growing.{grows-waited}
 use Rattle.one_run.proofs.Ends.{waits_first, waits_last}
 
 -- what a wait that did not fail did
@@ -81,9 +82,9 @@ module _ {S K V : Type 0} (G : Ghosts (OneEnd S)) (source : S → SourceFacts) (
       )
 
   pub first_wait : (old new : the_core) (F : ℕ) (h : List (Entry ServerNote)) (polled : Found) → IsOpened h → Stands (one_meaning source sink volumes) t old F h
-      → Polls (one_meaning source sink volumes) t F h None polled old new → StandsIn (one_meaning source sink volumes) t IsRead new
+      → Polls (one_meaning source sink volumes) t F h None polled old new → StandsIn (one_meaning source sink volumes) t (λ now. IsRead now × GrowsFrom 0 h now) new
   first_wait old new F h polled opened stands p =
-      (F, h ++ Polled w.now ∷ (map due_of w.timers ++ map ready_of (filter (is_taken (summary (past_of h))) (one_net_facts new.net).reports)), w.stands, read)
+      (F, h ++ Polled w.now ∷ (map due_of w.timers ++ map ready_of (filter (is_taken (summary (past_of h))) (one_net_facts new.net).reports)), w.stands, (read, grows-waited h w.now w.timers (filter (is_taken (summary (past_of h))) (one_net_facts new.net).reports)))
     where
       w : WaitsOnce (one_meaning {G = G} source sink volumes) t F h (least_limit None (time_left (summary (past_of h)))) polled p.net new
       w = p.waits
@@ -120,12 +121,12 @@ module _ {S K V : Type 0} (G : Ghosts (OneEnd S)) (source : S → SourceFacts) (
 
   -- what holds of the history behind either of the two waits
   pub either_wait : (old new : the_core) (F : ℕ) (h : List (Entry ServerNote)) (polled : Found) → IsOpened h ⊎ IsShut [] h → Stands (one_meaning source sink volumes) t old F h
-      → Polls (one_meaning source sink volumes) t F h None polled old new → StandsIn (one_meaning source sink volumes) t CanEnd new
+      → Polls (one_meaning source sink volumes) t F h None polled old new → StandsIn (one_meaning source sink volumes) t (λ now. CanEnd now × GrowsFrom 0 h now) new
   either_wait old new F h polled may stands p =
-      ⊎_elim (λ opened. let w = first_wait old new F h polled opened stands p in (w.0, w.1, w.2, inr (inl w.3)))
+      ⊎_elim (λ opened. let w = first_wait old new F h polled opened stands p in (w.0, w.1, w.2, (inr (inl w.3.0), w.3.1)))
       (λ shut. let w = p.waits in (
         F,
         h ++ Polled w.now ∷ (map due_of w.timers ++ map ready_of (filter (is_taken (summary (past_of h))) (one_net_facts new.net).reports)),
         w.stands,
-        inr (inr (w.now ∷ [], omega arith, (waits_last h w.now w.timers (one_net_facts new.net).reports shut w.due).0)),
+        (inr (inr (w.now ∷ [], omega arith, (waits_last h w.now w.timers (one_net_facts new.net).reports shut w.due).0)), grows-waited h w.now w.timers (filter (is_taken (summary (past_of h))) (one_net_facts new.net).reports)),
       )) may

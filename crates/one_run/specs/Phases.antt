@@ -1,6 +1,6 @@
 -- The journal of a reactor whose one handler, on handle 0, is served from its first report on until it closes itself.
 use Rattle.std.specs.Prelude.{◌≡◌, ◌≤◌, ◌⊎◌, ◌+◌, ◌*◌, ℕ, suc, Bool, true, false, List, [], ◌∷◌, ◌++◌, length, map, flat_map, ◌&&◌, None}
-use Rattle.std.specs.List.{list_all}
+use Rattle.std.specs.List.{list_all, count_by}
 use Rattle.ev_types.specs.declared.upcall.Answer.{Answer}
 use Rattle.ev_types.specs.declared.upcall.Answer.TheVariants.{Again, Close}
 use Rattle.ev_types.specs.declared.upcall.Handle.{Handle}
@@ -86,6 +86,17 @@ is_served (entry.Started event) = true
 is_served (entry.Returned event answer note) = true
 is_served (entry.Closed handle note) = true
 is_served _ = false
+
+-- the return of an upcall
+abbrev pub is_return : {N : Type 0} → Entry N → Bool
+is_return (entry.Returned event answer note) = true
+is_return _ = false
+
+-- a history and what was appended to it, with so many returns of upcalls at most
+pub record GrowsFrom {N : Type 0} (returns : ℕ) (before h : List (Entry N)) : Type 0 where
+  pub more : List (Entry N)
+  pub is : h ≡ before ++ more
+  pub few : count_by is_return more ≤ returns
 
 abbrev pub first_entry : {N : Type 0} → Entry N
 first_entry = entry.Opened one_handle read_mask

@@ -23,13 +23,13 @@ use Rattle.log_handler.specs.declared.note.ServerNote.TheVariants as note
 use Rattle.log_handler.specs.declared.connection.LogConnection.{LogConnection}
 use Rattle.log_handler.specs.declared.line_sink.LineSink.{LineSink}
 use Rattle.log_handler.specs.Connections.{connections}
-use Rattle.log_handler.specs.LineSink.{PutsLines, line_sink_faults, is_broken}
+use Rattle.log_handler.specs.LineSink.{PutsLines, line_sink_faults, is_broken, whole_of}
 use Rattle.one_net.specs.declared.one_end.OneEnd.{OneEnd}
 use Rattle.one_net.specs.declared.one_net.OneNet.{OneNet}
 use Rattle.one_net.specs.OneEnd.{one_end_facts}
 use Rattle.one_net.specs.OneKeeps.{OneEndKeeps}
 use Rattle.one_net.specs.OneNet.{one_net_facts, one_net_keeps}
-use Rattle.one_run.specs.Phases.{IsRead, IsShut, IsFinished, CanEnd, turns_in}
+use Rattle.one_run.specs.Phases.{IsRead, IsShut, IsFinished, CanEnd, GrowsFrom, turns_in}
 use Rattle.one_run.specs.declared.serving.Halt.{Halt}
 use Rattle.one_run.specs.declared.serving.Halt.TheVariants as halt
 
@@ -37,7 +37,7 @@ use Rattle.one_run.specs.declared.serving.Halt.TheVariants as halt
 abbrev pub one_meaning : {S K V : Type 0} {G : Ghosts (OneEnd S)} → (S → SourceFacts) → (K → SinkFacts) → (V → VolumesFacts ServerNote)
     → Meaning (LogConnection (OneEnd S) G) (OneNet S) Content (LineSink K) V ServerNote (OneEnd S)
 one_meaning source sink volumes =
-    meaning (connections (one_end_facts source) (OneEndKeeps source)) one_net_facts one_net_keeps (Shows (λ q. q.timers)) (HasPlaces (λ q. q.spare)) IsPlaced (PutsLines sink) (line_sink_faults sink) is_broken volumes
+    meaning (connections (one_end_facts source) (OneEndKeeps source)) one_net_facts one_net_keeps (Shows (λ q. q.timers)) (HasPlaces (λ q. q.spare)) IsPlaced (PutsLines sink) (line_sink_faults sink) is_broken whole_of volumes
 
 -- the terms of a run of `one`: a wait has no limit, and a connection is never closed for being quiet
 pub record AreOfOne (t : Terms) : Type 0 where
@@ -68,11 +68,15 @@ KeepsHistory {N = N} m old new = (t : Terms) (F : ℕ) (h : List (Entry N)) → 
 abbrev pub ReadsOneMore : {N : Type 0} → List (Entry N) → List (Entry N) → Type 0
 ReadsOneMore before h = IsRead h × (length (turns_in h) ≡ suc (length (turns_in before)))
 
--- the handler had one turn more at most, and reads on or closed itself
+-- one upcall at most returned since, and the handler reads on or closed itself
 abbrev pub TurnsOnce : {N : Type 0} → List (Entry N) → List (Entry N) → Type 0
-TurnsOnce before h =
-    (IsRead h × (length (turns_in h) ≤ suc (length (turns_in before))))
-    ⊎ ((s : IsShut [] h) × (length (turns_in s.closed.before) ≤ suc (length (turns_in before))))
+TurnsOnce before h = (IsRead h ⊎ IsShut [] h) × GrowsFrom 1 before h
+
+-- The watch saw so many entries without a failure: at least all of those before the return of the last upcall.
+pub record IsWholeUntilLast {N : Type 0} (whole : ℕ) (h : List (Entry N)) : Type 0 where
+  pub before : List (Entry N)
+  pub seen : length before ≤ whole
+  pub grows : GrowsFrom 1 before h
 
 -- the handler had so many turns at least, and reads on
 abbrev pub HasRead : {N : Type 0} → ℕ → List (Entry N) → Type 0

@@ -5,9 +5,9 @@ ghost use Rattle.reactor_journal.specs.declared.entry.Entry.{Entry};
 ghost use Rattle.reactor_core.specs.Stands.{Stands, IsStanding};
 ghost use Rattle.reactor_core.specs.Views.{net_of, watch_of, volumes_of};
 ghost use Rattle.log_handler.specs.declared.note.ServerNote.{ServerNote};
-ghost use Rattle.log_handler.specs.LineSink.{is_broken};
-ghost use Rattle.one_run.specs.Phases.{IsOpened, IsRead, IsShut, CanEnd};
-ghost use Rattle.one_run.specs.Running.{one_meaning, AreOfOne, CanRun, LeavesParts, ClosedItself, Leads, LeadsBy, KeepsHistory, ReadsOneMore, TurnsOnce, VolumesSince, halted, last_entry, closes_lost, IsShutAs, HasEnded};
+ghost use Rattle.log_handler.specs.LineSink.{is_broken, whole_of};
+ghost use Rattle.one_run.specs.Phases.{IsOpened, IsRead, IsShut, CanEnd, GrowsFrom};
+ghost use Rattle.one_run.specs.Running.{one_meaning, AreOfOne, CanRun, LeavesParts, ClosedItself, Leads, LeadsBy, KeepsHistory, ReadsOneMore, TurnsOnce, IsWholeUntilLast, VolumesSince, halted, last_entry, closes_lost, IsShutAs, HasEnded};
 
 use ev_base::{Sink, Source};
 use ev_types::Answer;
@@ -47,7 +47,7 @@ pub struct Ending {
 /// behind it.
 pub fn run<S: Source, K: Sink, V: Volumes<ServerNote>>(core: &mut OneCore<S, K, V>) -> Ending
     requires { CanRun (one_meaning S.facts K.facts V.facts) IsOpened core.old }
-    ensures leads { Leads (one_meaning S.facts K.facts V.facts) IsOpened (HasEnded result.halt result.lost) core.old core.new }
+    ensures leads { Leads (one_meaning S.facts K.facts V.facts) IsOpened (λ h. HasEnded result.halt result.lost h × IsWholeUntilLast (whole_of (watch_of core.new)) h) core.old core.new }
     ensures volumes { VolumesSince result.halt (V.facts (volumes_of core.old)).faults (V.facts (volumes_of core.new)).faults }
     ensures broken { result.halt ≡ Some Halt.Broken → is_broken (watch_of core.new) ≡ true }
     ensures whole { result.halt ≡ None → is_broken (watch_of core.new) ≡ false }
@@ -81,11 +81,12 @@ pub fn finish<S: Source, K: Sink, V: Volumes<ServerNote>>(
 ) -> Parts<ServerNote, OneNet<S>, SortedTimers, LineSink<K>, V>
     requires { CanRun (one_meaning S.facts K.facts V.facts) CanEnd core }
     ensures ends { (t : Terms) (F : ℕ) (h : List (Entry ServerNote)) → Stands (one_meaning S.facts K.facts V.facts) t core F h → AreOfOne t → CanEnd h
-        → LeavesParts (one_meaning S.facts K.facts V.facts) t core (λ h over. Unit {0}) result }
+        → LeavesParts (one_meaning S.facts K.facts V.facts) t core (λ journal over. GrowsFrom 0 h journal) result }
     ensures closed { (t : Terms) (F : ℕ) (h : List (Entry ServerNote)) (now : ℕ) (lost : Bool) → Stands (one_meaning S.facts K.facts V.facts) t core F h → AreOfOne t → IsShutAs (now ∷ []) lost h
-        → LeavesParts (one_meaning S.facts K.facts V.facts) t core (ClosedItself lost) result }
+        → LeavesParts (one_meaning S.facts K.facts V.facts) t core (λ journal over. ClosedItself lost journal over × GrowsFrom 0 h journal) result }
     ensures volumes { result.volumes ≡ volumes_of core }
     ensures broken { is_broken (watch_of core) ≡ true → is_broken result.watch ≡ true }
+    ensures later { whole_of (watch_of core) ≤ whole_of result.watch }
 {
     let mut core = core;
     core.stop();
@@ -100,6 +101,7 @@ fn hand_over<S: Source, K: Sink, V: Volumes<ServerNote>>(
     ensures stands { KeepsHistory (one_meaning S.facts K.facts V.facts) core.old core.new }
     ensures volumes { VolumesSince (halted result) (V.facts (volumes_of core.old)).faults (V.facts (volumes_of core.new)).faults }
     ensures net { net_of core.new ≡ net_of core.old }
+    ensures watch { watch_of core.new ≡ watch_of core.old }
     ensures whole { result ≡ Err Halt.Broken → ⊥ }
 {
     match core.hand_over() {
@@ -115,7 +117,8 @@ fn wait<S: Source, K: Sink, V: Volumes<ServerNote>>(core: &mut OneCore<S, K, V>)
     requires { CanRun (one_meaning S.facts K.facts V.facts) (λ h. IsOpened h ⊎ IsShut [] h) core.old }
     ensures first { OnOk result (Leads (one_meaning S.facts K.facts V.facts) IsOpened IsRead core.old core.new) }
     ensures last { OnOk result (LeadsBy (one_meaning S.facts K.facts V.facts) (IsShut []) (λ before h. (lost : Bool) → IsShutAs [] lost before → HasEnded None lost h) core.old core.new) }
-    ensures err { OnErr result (Leads (one_meaning S.facts K.facts V.facts) (λ h. IsOpened h ⊎ IsShut [] h) CanEnd core.old core.new) }
+    ensures err { OnErr result (LeadsBy (one_meaning S.facts K.facts V.facts) (λ h. IsOpened h ⊎ IsShut [] h) (λ before h. CanEnd h × GrowsFrom 0 before h) core.old core.new) }
+    ensures later { whole_of (watch_of core.old) ≤ whole_of (watch_of core.new) }
     ensures volumes { VolumesSince (halted result) (V.facts (volumes_of core.old)).faults (V.facts (volumes_of core.new)).faults }
     ensures broken { result ≡ Err Halt.Broken → is_broken (watch_of core.new) ≡ true }
     ensures whole { OnOk result (is_broken (watch_of core.new) ≡ false) }
@@ -143,7 +146,7 @@ fn serve<S: Source, K: Sink, V: Volumes<ServerNote>>(
     requires served { CanRun (one_meaning S.facts K.facts V.facts) IsRead core.old }
     requires whole { is_broken (watch_of core.old) ≡ false }
     ensures ok { IfOk result (λ lost. Leads (one_meaning S.facts K.facts V.facts) IsRead (IsShutAs [] lost) core.old core.new) }
-    ensures err { OnErr result (Leads (one_meaning S.facts K.facts V.facts) IsRead (λ h. IsRead h ⊎ IsShut [] h) core.old core.new) }
+    ensures err { OnErr result (Leads (one_meaning S.facts K.facts V.facts) IsRead (λ h. (IsRead h ⊎ IsShut [] h) × IsWholeUntilLast (whole_of (watch_of core.new)) h) core.old core.new) }
     ensures volumes { VolumesSince (halted result) (V.facts (volumes_of core.old)).faults (V.facts (volumes_of core.new)).faults }
     ensures broken { result ≡ Err Halt.Broken → is_broken (watch_of core.new) ≡ true }
     ensures whole { OnOk result (is_broken (watch_of core.new) ≡ false) }
@@ -167,6 +170,7 @@ fn turn<S: Source, K: Sink, V: Volumes<ServerNote>>(
     ensures goes { result ≡ Ok None → LeadsBy (one_meaning S.facts K.facts V.facts) IsRead ReadsOneMore core.old core.new }
     ensures closes { (lost : Bool) → result ≡ Ok (Some lost) → Leads (one_meaning S.facts K.facts V.facts) IsRead (IsShutAs [] lost) core.old core.new }
     ensures err { OnErr result (LeadsBy (one_meaning S.facts K.facts V.facts) IsRead TurnsOnce core.old core.new) }
+    ensures later { whole_of (watch_of core.old) ≤ whole_of (watch_of core.new) }
     ensures volumes { VolumesSince (halted result) (V.facts (volumes_of core.old)).faults (V.facts (volumes_of core.new)).faults }
     ensures broken { result ≡ Err Halt.Broken → is_broken (watch_of core.new) ≡ true }
     ensures whole { OnOk result (is_broken (watch_of core.new) ≡ false) }

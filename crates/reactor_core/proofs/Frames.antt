@@ -6,15 +6,16 @@ use Rattle.reactor_core.specs.Rest.{WatchGoesOn, CountsHold, LeavesButAttaches, 
 use Rattle.reactor_core.specs.declared.reactor.Core.{Core}
 use Rattle.reactor_core.proofs.Watched.{breaks_none, breaks_over}
 
-pub watch_goes_on : {W : Type 0} {faults : W → ℕ} {is_broken : W → Bool} {a b c : W} → WatchGoesOn faults is_broken a b → WatchGoesOn faults is_broken b c → WatchGoesOn faults is_broken a c
+pub watch_goes_on : {W : Type 0} {faults : W → ℕ} {is_broken : W → Bool} {whole : W → ℕ} {a b c : W} → WatchGoesOn faults is_broken whole a b → WatchGoesOn faults is_broken whole b c → WatchGoesOn faults is_broken whole a c
 watch_goes_on p q = record {
   later = let x = p.later in let y = q.later in omega (arith, x, y);
   stays = λ k. q.stays (p.stays k);
   breaks = breaks_over _ _ _ _ _ _ p.later q.later p.breaks q.breaks;
+  whole_later = let x = p.whole_later in let y = q.whole_later in omega (arith, x, y);
 }
 
-watch_begins : {W : Type 0} (faults : W → ℕ) (is_broken : W → Bool) (a : W) → WatchGoesOn faults is_broken a a
-watch_begins faults is_broken a = record { later = omega arith; stays = λ k. k; breaks = breaks_none _ _ }
+watch_begins : {W : Type 0} (faults : W → ℕ) (is_broken : W → Bool) (whole : W → ℕ) (a : W) → WatchGoesOn faults is_broken whole a a
+watch_begins faults is_broken whole a = record { later = omega arith; stays = λ k. k; breaks = breaks_none _ _; whole_later = omega arith }
 
 -- a count that stands has not fallen
 stood : (old new : ℕ) → new ≡ old → HasNotFallen old new
@@ -33,7 +34,7 @@ rest_goes_on p q = record {
 }
 
 pub rest_begins : {H M Q W V N E : Type 0} (m : Meaning H M Q W V N E) (a : Core H M Q W V N E) → LeavesRest m a a
-rest_begins m a = record { volume = refl; marks = refl; volumes = refl; wait_faults = refl; attach_faults = refl; watch = watch_begins m.faults m.is_broken a.watch }
+rest_begins m a = record { volume = refl; marks = refl; volumes = refl; wait_faults = refl; attach_faults = refl; watch = watch_begins m.faults m.is_broken m.whole a.watch }
 
 -- ---- those that may attach an end
 

@@ -33,10 +33,11 @@ pub record Meaning (H M Q W V N E : Type 0) : Type 1 where
   pub watched : Terms → W → List (Entry N) → Type 0
   pub faults : W → ℕ
   pub is_broken : W → Bool
+  pub whole : W → ℕ
   pub volumes : V → VolumesFacts N
 
-abbrev pub meaning : {H M Q W V N E : Type 0} → Handling H E N → (M → NetFacts E) → (Terms → M → Type 0) → (ReactorState Q → Summary → Type 0) → (Places → ReactorState Q → Type 0) → (ReactorState Q → Pick → Type 0) → (Terms → W → List (Entry N) → Type 0) → (W → ℕ) → (W → Bool) → (V → VolumesFacts N) → Meaning H M Q W V N E
-meaning means facts keeps shows places placed watched faults is_broken volumes = record { means = means; facts = facts; keeps = keeps; shows = shows; places = places; placed = placed; watched = watched; faults = faults; is_broken = is_broken; volumes = volumes }
+abbrev pub meaning : {H M Q W V N E : Type 0} → Handling H E N → (M → NetFacts E) → (Terms → M → Type 0) → (ReactorState Q → Summary → Type 0) → (Places → ReactorState Q → Type 0) → (ReactorState Q → Pick → Type 0) → (Terms → W → List (Entry N) → Type 0) → (W → ℕ) → (W → Bool) → (W → ℕ) → (V → VolumesFacts N) → Meaning H M Q W V N E
+meaning means facts keeps shows places placed watched faults is_broken whole volumes = record { means = means; facts = facts; keeps = keeps; shows = shows; places = places; placed = placed; watched = watched; faults = faults; is_broken = is_broken; whole = whole; volumes = volumes }
 
 -- the entries held are those of the history from number F on
 pub record JournalStands {H M Q W V N E : Type 0} (core : Core H M Q W V N E) (F : ℕ) (h : List (Entry N)) : Type 0 where

@@ -14,7 +14,7 @@ pub(crate) fn append<N, W: Watch<N>>(journal: &mut Journal<N>, watch: &mut W, en
     ensures spare { journal.new.spare + 1 ≡ journal.old.spare }
     ensures watch { (t : Terms) (h : List (Entry N)) → W.stands t watch.old h
         → W.stands t watch.new (h ++ entry ∷ []) }
-    ensures goes_on { WatchGoesOn W.faults W.is_broken watch.old watch.new }
+    ensures goes_on { WatchGoesOn W.faults W.is_broken W.whole watch.old watch.new }
 {
     watch.saw(&entry);
     journal.append(entry);

@@ -57,5 +57,5 @@ impl<
     type End = H::End;
 
     ghost m = { meaning H.means M.facts M.keeps (Shows Q.timers) (HasPlaces Q.spare) IsPlaced
-        W.stands W.faults W.is_broken V.facts };
+        W.stands W.faults W.is_broken W.whole V.facts };
 }

@@ -17,12 +17,16 @@ pub trait Watch<N> {
     /// Whether it failed.
     ghost is_broken: { Self → Bool };
 
-    /// Sees one more entry. Its count of faults never falls, and it breaks only where that rose.
+    /// How many entries it has seen, from the first on, without a failure.
+    ghost whole: { Self → ℕ };
+
+    /// Sees one more entry. No count falls, and it breaks only where that of its faults rose.
     fn saw(&mut self, entry: &Entry<N>)
         ensures stands { (t : Terms) (h : List (Entry N)) → stands t self.old h → stands t self.new (h ++ entry.now ∷ []) }
         ensures later { faults self.old ≤ faults self.new }
         ensures stays { is_broken self.old ≡ true → is_broken self.new ≡ true }
-        ensures breaks { is_broken self.old ≡ false → is_broken self.new ≡ true → Rose (faults self.old) (faults self.new) };
+        ensures breaks { is_broken self.old ≡ false → is_broken self.new ≡ true → Rose (faults self.old) (faults self.new) }
+        ensures whole { whole self.old ≤ whole self.new };
 
     /// Whether it failed.
     fn broken(&self) -> bool
@@ -43,6 +47,8 @@ impl<N> Watch<N> for NoWatch {
     ghost faults = { λ _. 0 };
 
     ghost is_broken = { λ _. false };
+
+    ghost whole = { λ _. 0 };
 
     fn saw(&mut self, _entry: &Entry<N>) {}
 

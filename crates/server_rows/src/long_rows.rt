@@ -94,7 +94,10 @@ fn faults_halt_a_long_run(rt: HostRuntime) -> Result<(), Fail> {
     // nothing is read behind the record whose line could not be written
     let input = bytes(1 << 40);
     let broken = serve(&rt, alloc, input, room(alloc, Some(10))?, DropVolumes)?;
-    assert_eq!(rt; (broken.status, broken.output.bytes()), (4, b"0 1,2 7 LM".as_slice()));
+    assert_eq!(rt;
+        (broken.status, broken.output.bytes()),
+        (4, b"0 1,2 7 LM".as_slice())
+    );
     assert_eq!(rt; broken.input.left, (1 << 40) - 30);
     Ok(())
 }

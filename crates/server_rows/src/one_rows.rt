@@ -79,8 +79,20 @@ fn inputs_give_their_lines(rt: HostRuntime) -> Result<(), Fail> {
         ),
         (&[b"\x04"], &[], None, b"0 closed: malformed 0\n", 0),
         // lengths out of their range, and a message longer than its payload
-        (&[b"\0\0\0\0\0\x01\0\x15"], &[], None, b"0 closed: malformed 0\n", 0),
-        (&[b"\0\0\0\0\0\0\0\x13"], &[], None, b"0 closed: malformed 0\n", 0),
+        (
+            &[b"\0\0\0\0\0\x01\0\x15"],
+            &[],
+            None,
+            b"0 closed: malformed 0\n",
+            0,
+        ),
+        (
+            &[b"\0\0\0\0\0\0\0\x13"],
+            &[],
+            None,
+            b"0 closed: malformed 0\n",
+            0,
+        ),
         (
             &[b"\0\0\0\0\0\0\0\x16\0\0\0\x04\0\0\0\x07\0\0\0\x01\0\0\0\x02\0\0\0\x03hi"],
             &[],

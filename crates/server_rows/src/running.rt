@@ -24,9 +24,9 @@ pub(crate) fn room(alloc: Global, fail_after: Option<u64>) -> Result<MemSink, Fa
 /// Runs `one` on a source, with a sink and with volumes.
 pub(crate) fn serve<
     R: Threads + Wait + Copy + Send + Sync + 'static,
-    S: Source,
-    K: Sink,
-    V: Volumes<ServerNote>,
+    S: Source + Drop,
+    K: Sink + Drop,
+    V: Volumes<ServerNote> + Drop,
 >(
     rt: &R,
     alloc: Global,

@@ -9,3 +9,6 @@ returns-in-Ok-clause-volumes g c = (c.in-Ok.ensures.ok c.requires.0 c.requires.1
 
 pub returns-in-Ok-clause-net : goal.returns-in-Ok-clause-net
 returns-in-Ok-clause-net g c = (c.in-Ok.ensures.ok c.requires.0 c.requires.1 c.requires.2 c.requires.3).others.net
+
+pub returns-in-Ok-clause-watch : goal.returns-in-Ok-clause-watch
+returns-in-Ok-clause-watch g c = (c.in-Ok.ensures.ok c.requires.0 c.requires.1 c.requires.2 c.requires.3).others.watch

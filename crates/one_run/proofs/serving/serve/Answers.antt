@@ -1,6 +1,6 @@
 use Rattle.std.proofs.Common.{refl, ap, subst, arith, ◌∙◌, Ok, Some}
 use Rattle.one_run.specs.Running.{VolumesSince}
-use Rattle.one_run.proofs.Ends.{turned_end}
+use Rattle.one_run.proofs.Growing.{whole-turned}
 use Rattle.one_run.proofs.Turning.{too_many}
 use Rattle.one_run.proofs.serving.serve.Goals as goal
 
@@ -25,7 +25,8 @@ pub returns-in-Err-clause-err : goal.returns-in-Err-clause-err
 returns-in-Err-clause-err g c t F h stands terms r =
     let i = c.loop-turn.invariant.leads t F h stands terms r in
     let turns = c.in-Err.ensures.err t i.0 i.1 i.2 terms i.3.0 in
-    (turns.0, turns.1, turns.2, turned_end i.1 turns.1 turns.3)
+    let all = i.2.tracks.watch.all_whole c.loop-turn.invariant.whole in
+    (turns.0, turns.1, turns.2, (turns.3.0, whole-turned _ i.1 turns.1 (omega (arith, all, c.turn.ensures.later)) turns.3.1))
 
 pub returns-in-Err-clause-volumes : goal.returns-in-Err-clause-volumes
 returns-in-Err-clause-volumes g c = subst (λ n. VolumesSince (Some c.in-Err.why) n (g.V.Volumes.facts c.turn.new.core.volumes).faults) c.loop-turn.invariant.volumes c.in-Err.ensures.volumes

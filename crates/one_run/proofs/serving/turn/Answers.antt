@@ -5,12 +5,14 @@ use Rattle.reactor_journal.specs.declared.entry.Entry.TheVariants.{Started}
 use Rattle.reactor_journal.specs.Past.{past_of}
 use Rattle.one_run.specs.Running.{closes_lost, last_entry}
 use Rattle.one_run.proofs.Turning.{turned, either, goes_on, closes_as, always_picks, gave_job, gave_none, fits_behind, lost_is}
+use Rattle.log_handler.specs.LineSink.{whole_of}
+use Rattle.one_run.proofs.Growing.{grows-none}
 use Rattle.one_run.proofs.serving.turn.Goals as goal
 
 pub returns-in-Err-clause-err : goal.returns-in-Err-clause-err
 returns-in-Err-clause-err g c t F h stands terms r =
     let over = c.hand_over.ensures.stands t F h stands in
-    (over.0, h, over.1, inl (r, omega arith))
+    (over.0, h, over.1, (inl r, grows-none 1 h))
 
 pub unreachable-requires : goal.unreachable-requires
 unreachable-requires g c =
@@ -21,7 +23,7 @@ unreachable-requires g c =
 pub returns-in-Err-start-clause-err : goal.returns-in-Err-start-clause-err
 returns-in-Err-start-clause-err g c t F h stands terms r =
     let over = c.in-Ok.ensures.stands t F h stands in
-    (over.0, h, c.in-Err-start.ensures.err t over.0 h over.1, inl (r, omega arith))
+    (over.0, h, c.in-Err-start.ensures.err t over.0 h over.1, (inl r, grows-none 1 h))
 
 pub settle-requires : goal.settle-requires
 settle-requires g c =
@@ -62,6 +64,7 @@ returns-in_default g c = record {
   volumes = ap (λ v. (g.V.Volumes.facts v).faults) (c.settle.ensures.rest.volumes ∙ c.in-Ok-Some.ensures.rest.volumes) ∙ c.in-Ok.ensures.volumes;
   broken = λ told. not_err told;
   whole = sym c.is_broken.ensures.told ∙ c.if-is_broken.false;
+  later = omega (arith, ap whole_of c.in-Ok.ensures.watch, c.in-Ok-Some.ensures.rest.watch.whole_later, c.settle.ensures.rest.watch.whole_later);
 }
   where
     not_some : {A E P : Type 0} {a : A} → ◌≡◌ {A = Result (Option A) E} (Ok None) (Ok (Some a)) → P

@@ -10,7 +10,7 @@ use Rattle.reactor_core.proofs.reactor.Core.remove_all.Given as goal
 abbrev pub invariant-loop-removed : goal.invariant-loop-removed
 invariant-loop-removed g l =
     record {
-      stands : (t : Terms) (F : ℕ) (h : List (Entry _)) → StandsQuiet (meaning g.H.EventHandler.means g.M.Net.facts g.M.Net.keeps (Shows g.Q.TimerQueue.timers) (HasPlaces g.Q.TimerQueue.spare) IsPlaced g.W.Watch.stands g.W.Watch.faults g.W.Watch.is_broken g.V.Volumes.facts) t l.fn.self F h
-          → RemovesSome (meaning g.H.EventHandler.means g.M.Net.facts g.M.Net.keeps (Shows g.Q.TimerQueue.timers) (HasPlaces g.Q.TimerQueue.spare) IsPlaced g.W.Watch.stands g.W.Watch.faults g.W.Watch.is_broken g.V.Volumes.facts) l._removed t F h l.self;
-      rest : LeavesRest (meaning g.H.EventHandler.means g.M.Net.facts g.M.Net.keeps (Shows g.Q.TimerQueue.timers) (HasPlaces g.Q.TimerQueue.spare) IsPlaced g.W.Watch.stands g.W.Watch.faults g.W.Watch.is_broken g.V.Volumes.facts) l.fn.self l.self;
+      stands : (t : Terms) (F : ℕ) (h : List (Entry _)) → StandsQuiet (meaning g.H.EventHandler.means g.M.Net.facts g.M.Net.keeps (Shows g.Q.TimerQueue.timers) (HasPlaces g.Q.TimerQueue.spare) IsPlaced g.W.Watch.stands g.W.Watch.faults g.W.Watch.is_broken g.W.Watch.whole g.V.Volumes.facts) t l.fn.self F h
+          → RemovesSome (meaning g.H.EventHandler.means g.M.Net.facts g.M.Net.keeps (Shows g.Q.TimerQueue.timers) (HasPlaces g.Q.TimerQueue.spare) IsPlaced g.W.Watch.stands g.W.Watch.faults g.W.Watch.is_broken g.W.Watch.whole g.V.Volumes.facts) l._removed t F h l.self;
+      rest : LeavesRest (meaning g.H.EventHandler.means g.M.Net.facts g.M.Net.keeps (Shows g.Q.TimerQueue.timers) (HasPlaces g.Q.TimerQueue.spare) IsPlaced g.W.Watch.stands g.W.Watch.faults g.W.Watch.is_broken g.W.Watch.whole g.V.Volumes.facts) l.fn.self l.self;
     }
