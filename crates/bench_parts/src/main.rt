@@ -1,32 +1,85 @@
 //! What the parts of the framework cost, each beside others of its kind. Without an argument each part runs once, small, and prints
-//! what it did; with the argument `time` it runs large and prints nanoseconds for each timer, entry and so on. The names of parts
-//! (`timers`, `check`) pick those that run; with none, all do.
+//! what it did; with the argument `time` it runs large and prints nanoseconds for each timer, entry, message and so on. The names of
+//! parts (`timers`, `check`, `messages`, `sharing`) pick those that run; with none, all do.
 #![tactic(auto)]
 
+mod beside;
 mod check;
+mod holds;
 mod journals;
 mod map;
+mod message_queue;
+mod messages;
+mod passing;
+mod posts;
 mod queues;
+mod sharing;
+mod streams;
 mod timers;
 
+use std::alloc::Global;
+use std::rt::Runtime;
+use std::sync::Wait;
+use std::thread::Threads;
 use std::{env, io};
 
+/// The parts that were asked for.
+#[derive(Clone, Copy, PartialEq, Eq)]
+struct Picked {
+    timers: bool,
+    check: bool,
+    messages: bool,
+    sharing: bool,
+}
+
+const NONE: Picked = Picked {
+    timers: false,
+    check: false,
+    messages: false,
+    sharing: false,
+};
+
+const ALL: Picked = Picked {
+    timers: true,
+    check: true,
+    messages: true,
+    sharing: true,
+};
+
 fn main(rt: HostRuntime) -> io::Result<()> {
-    let words = env::args(&rt)?;
-    let (mut timed, mut picked, mut timers, mut check) = (false, false, false, false);
-    for word in words {
+    let (mut timed, mut picked) = (false, NONE);
+    for word in env::args(&rt)? {
         match word.as_str() {
             "time" => timed = true,
-            "timers" => (timers, picked) = (true, true),
-            "check" => (check, picked) = (true, true),
+            "timers" => picked.timers = true,
+            "check" => picked.check = true,
+            "messages" => picked.messages = true,
+            "sharing" => picked.sharing = true,
             _ => {}
         }
     }
-    if timers || !picked {
+    let picked = if picked == NONE { ALL } else { picked };
+    if picked.timers {
         timers::run(&rt, timed)?;
     }
-    if check || !picked {
+    if picked.check {
         check::run(&rt, timed)?;
+    }
+    run_threads(&rt, rt.alloc(), timed, picked)
+}
+
+/// Runs the parts that start threads.
+fn run_threads<R: Runtime + Threads + Wait + Copy + Send + Sync + 'static>(
+    rt: &R,
+    alloc: Global,
+    timed: bool,
+    picked: Picked,
+) -> io::Result<()> {
+    if picked.messages {
+        passing::run(rt, alloc, timed)?;
+    }
+    if picked.sharing {
+        sharing::run(rt, alloc, timed)?;
     }
     Ok(())
 }

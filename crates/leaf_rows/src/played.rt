@@ -44,12 +44,11 @@ fn moments_come_whatever_the_limit(rt: HostRuntime) -> Result<(), Fail> {
     Ok(())
 }
 
-// A wait, with its reports.
+// A wait, with its reports behind those that are there.
 fn waited<N: Net>(net: &mut N, reports: &mut Vec<Report>) -> Result<Waited, Fail>
     ensures attached { (N.facts net.new).attached ≡ (N.facts net.old).attached }
     ensures spare { (N.facts net.old).spare ≤ (N.facts net.new).spare }
 {
-    reports.clear();
     match net.wait(None) {
         Waited::Reports { now, count } => {
             for at in 0..count {
@@ -84,33 +83,31 @@ fn watching_two(alloc: Global) -> Result<PlayNet, Fail>
 
 #[test]
 fn reports_are_held_back_until_they_are_wanted(rt: HostRuntime) -> Result<(), Fail> {
-    let mut net = watching_two(rt.alloc())?;
-    let mut seen = Vec::new(rt.alloc());
-    assert_eq!(rt;
-        waited(&mut net, &mut seen)?,
-        Waited::Reports { now: 1, count: 2 }
-    );
-    assert_eq!(rt;
-        seen.as_slice(),
-        [report(0, Kind::Read), report(1, Kind::Read)].as_slice()
-    );
+    let alloc = rt.alloc();
+    let mut net = watching_two(alloc)?;
+    let mut answers = Vec::new(alloc);
+    let mut seen = Vec::new(alloc);
+    answers.push(waited(&mut net, &mut seen)?)?;
     net.set_mask(Handle(1), WRITE);
-    assert_eq!(rt;
-        waited(&mut net, &mut seen)?,
-        Waited::Reports { now: 2, count: 3 }
-    );
-    assert_eq!(rt;
-        seen.as_slice(),
-        [
-            report(1, Kind::Write),
-            report(0, Kind::Read),
-            report(0, Kind::Read)
-        ]
-        .as_slice()
-    );
-    assert_eq!(rt; waited(&mut net, &mut seen)?, Waited::Quiet { now: 3 });
-    assert_eq!(rt; waited(&mut net, &mut seen)?, Waited::Quiet { now: 4 });
-    assert_eq!(rt; waited(&mut net, &mut seen)?, Waited::Over { now: 4 });
+    for _ in 0..4 {
+        answers.push(waited(&mut net, &mut seen)?)?;
+    }
+    let want = [
+        Waited::Reports { now: 1, count: 2 },
+        Waited::Reports { now: 2, count: 3 },
+        Waited::Quiet { now: 3 },
+        Waited::Quiet { now: 4 },
+        Waited::Over { now: 4 },
+    ];
+    assert_eq!(rt; answers.as_slice(), want.as_slice());
+    let want = [
+        report(0, Kind::Read),
+        report(1, Kind::Read),
+        report(1, Kind::Write),
+        report(0, Kind::Read),
+        report(0, Kind::Read),
+    ];
+    assert_eq!(rt; seen.as_slice(), want.as_slice());
     Ok(())
 }
 

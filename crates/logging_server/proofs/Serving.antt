@@ -1,7 +1,6 @@
 -- What is left of the reactor of a run says what became of the run.
 use Rattle.std.proofs.Common.{ℕ, ◌≤◌, ◌≡◌, ◌≢◌, ◌⊎◌, Bool, true, false, List, [], ◌∷◌, refl, sym, ap, ◌∙◌, subst, arith, drop, Option, Some, None}
 use Rattle.timer_queue.specs.Content.{Content}
-use Rattle.ev_types.specs.declared.upcall.Why.TheVariants.{Own}
 use Rattle.ev_base.specs.Source.{SourceFacts}
 use Rattle.ev_base.specs.Sink.{SinkFacts}
 use Rattle.ev_base.specs.declared.end.PeerEnd.{Ghosts}
@@ -10,7 +9,6 @@ use Rattle.reactor_journal.specs.Past.{past_of, origin_of, reason_of}
 use Rattle.reactor_journal.specs.Follow.{Legal}
 use Rattle.reactor_model.specs.Volumes.{VolumesFacts}
 use Rattle.reactor_core.specs.Beginning.{PartsStand}
-use Rattle.reactor_core.specs.Stands.{Meaning}
 use Rattle.reactor_core.specs.declared.reactor.Core.{Core}
 use Rattle.reactor_core.specs.declared.reactor.Parts.{Parts}
 use Rattle.log_handler.specs.declared.note.ServerNote.{ServerNote}
@@ -24,7 +22,7 @@ use Rattle.one_net.specs.declared.one_net.OneNet.{OneNet}
 use Rattle.one_net.specs.OneEnd.{one_end_facts, extra_of, failed_of, input_of}
 use Rattle.one_net.specs.OneKeeps.{OneEndKeeps, most_input}
 use Rattle.one_net.specs.OneNet.{one_net_facts}
-use Rattle.one_run.specs.Phases.{IsOpened, IsFinished, CanEnd, GrowsFrom, turns_in}
+use Rattle.one_run.specs.Phases.{IsFinished, CanEnd, GrowsFrom, turns_in}
 use Rattle.one_run.specs.Running.{one_meaning, VolumesSince, is_lost, LeavesParts, ClosedItself, IsShutAs, IsWholeUntilLast, HasEnded}
 use Rattle.one_run.specs.Opening.{TakesNothing, terms_of_run}
 use Rattle.one_run.specs.declared.serving.Halt.{Halt}

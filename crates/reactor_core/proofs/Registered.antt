@@ -1,5 +1,5 @@
 -- What a registration leaves.
-use Rattle.std.proofs.Common.{ℕ, ◌≡◌, ◌≤◌, ◌<◌, ◌+◌, ◌-◌, ◌==◌, true, false, ◌&&◌, ◌⊎◌, inl, inr, List, [], ◌∷◌, ◌++◌, length, sym, ap, ◌∙◌, subst, arith, Option, Some, None, append_assoc, ⊎_elim}
+use Rattle.std.proofs.Common.{ℕ, ◌≡◌, ◌≤◌, ◌<◌, ◌+◌, ◌-◌, ◌==◌, Bool, true, false, ◌&&◌, ◌⊎◌, inl, inr, List, [], ◌∷◌, ◌++◌, length, sym, ap, ◌∙◌, subst, arith, Option, Some, None, append_assoc, ⊎_elim}
 use Rattle.std.proofs.lemmas.Bool.{and_parts, and_cases, ltb-true, ltb-false}
 use Rattle.std.specs.Prelude.{nat_lt}
 use Rattle.ev_types.specs.declared.upcall.Handle.{Handle}
@@ -22,6 +22,7 @@ use Rattle.reactor_core.specs.Stands.{Meaning, Tracks, HasRoom, IsSettled, Stand
 use Rattle.reactor_core.specs.Registering.{HasPlaceFor, IsFull, IsOffered, registered}
 use Rattle.reactor_core.specs.Offering.{TakesHandle, ComesBack, GivesBack}
 use Rattle.reactor_core.specs.Settling.{act_places}
+use Rattle.reactor_core.specs.Acting.{CanInstall}
 use Rattle.reactor_core.specs.Steps.{MayOpen, MayAdmit}
 use Rattle.reactor_core.specs.declared.reactor.Core.{Core}
 use Rattle.reactor_core.proofs.Owed.{owed_opened}
@@ -172,3 +173,9 @@ full_now most past core_most live_now opened_now legal few m l o h =
 
 pub rose_from : (old mid new : ℕ) → mid ≡ old → Rose mid new → Rose old new
 rose_from old mid new q r = subst (λ (n : ℕ). Rose n new) q r
+
+-- both, by what the test found
+pub can_by : {N : Type 0} (most : ℕ) (past : List (Entry N)) (core_most live_now opened_now : ℕ) → is_legal most past ≡ true → (summary past).opened ≤ 4294967295 → core_most ≡ most → live_now ≡ live (summary past) → opened_now ≡ (summary past).opened
+    → (summary past).ended ≡ false → (found : Bool) → found ≡ (nat_lt live_now core_most && nat_lt opened_now 4294967295) → CanInstall most (summary past) found
+can_by most past core_most live_now opened_now legal few m l o running true q = place_by most past core_most live_now opened_now m l o running (sym q)
+can_by most past core_most live_now opened_now legal few m l o running false q = inr (full_now most past core_most live_now opened_now legal few m l o (sym q))

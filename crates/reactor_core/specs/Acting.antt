@@ -48,6 +48,11 @@ abbrev pub IsCause : ℕ → Summary → ℕ → ℕ → Bool → Type 0
 IsCause most s before after true = HasPlaceFor most s × Rose before after
 IsCause most s before after false = (s.ended ≡ true) ⊎ IsFull most s
 
+-- whether an offered handler may be registered, for all that the reactor knows
+abbrev pub CanInstall : ℕ → Summary → Bool → Type 0
+CanInstall most s true = HasPlaceFor most s
+CanInstall most s false = (s.ended ≡ true) ⊎ IsFull most s
+
 pub record IsRefusal {N : Type 0} (most : ℕ) (s : Summary) (before after : ℕ) (entries : List (Entry N)) : Type 0 where
   pub fault : Bool
   pub note : N

@@ -1,5 +1,5 @@
 //! What a turn asks for, once its upcall is settled.
-ghost use Rattle.std.specs.Prelude.{◌≡◌, ◌+◌, ◌++◌, ◌∷◌, [], true, false};
+ghost use Rattle.std.specs.Prelude.{◌≡◌, ◌+◌, ◌++◌, ◌∷◌, [], None, true, false};
 ghost use Rattle.reactor_journal.specs.declared.entry.Entry.{Entry};
 ghost use Rattle.reactor_journal.specs.Past.{past_of};
 ghost use Rattle.reactor_summary.specs.Summary.{summary, is_alive};
@@ -7,11 +7,11 @@ ghost use Rattle.reactor_summary.specs.Rules.{live};
 ghost use Rattle.reactor_model.specs.Turns.{IsTimer};
 ghost use Rattle.reactor_core.specs.Rest.{LeavesButAttaches, LeavesRest};
 ghost use Rattle.reactor_core.specs.Steps.{MayTurnAway};
-ghost use Rattle.reactor_core.specs.Stands.{From, FromRoom, RoomWith, Somewhere, Each, Stands, StandsWith, StandsWithRoom};
+ghost use Rattle.reactor_core.specs.Stands.{From, FromRoom, FromTracks, RoomWith, Somewhere, Each, Stands, StandsWith, StandsWithRoom};
 ghost use Rattle.reactor_core.specs.Registering.{IsOffered};
 ghost use Rattle.reactor_core.specs.Settling.{act_places};
 ghost use Rattle.reactor_core.specs.Upcalls.{DoneFits};
-ghost use Rattle.reactor_core.specs.Acting.{FitsAct, Acts, Installs, Settles, is_mine, is_of, mask_mine, cancel_mine};
+ghost use Rattle.reactor_core.specs.Acting.{FitsAct, Acts, CanInstall, Installs, Settles, is_mine, is_of, mask_mine, cancel_mine};
 
 use crate::append::append;
 use crate::means::Means;
@@ -124,13 +124,7 @@ impl<
             → Installs ⟦<Self as Means>⟧.m t F h mask timer self.old self.new) }
         ensures rest { LeavesButAttaches ⟦<Self as Means>⟧.m self.old self.new }
     {
-        if self.state.is_ended() {
-            self.refuse(handler, false);
-            return;
-        }
-        let live = self.state.live();
-        let opened = self.state.opened();
-        if !has_place(live, self.most, opened) {
+        if !self.can_install() {
             self.refuse(handler, false);
             return;
         }
@@ -138,6 +132,17 @@ impl<
             Ok(_) => {}
             Err(back) => self.refuse(back, true),
         }
+    }
+
+    /// Whether a handler that an upcall offered may be registered: the reactor was not stopped, and is not full.
+    fn can_install(&self) -> bool
+        ensures { FromTracks ⟦<Self as Means>⟧.m None [] self.now
+            (λ t F h. CanInstall t.most (summary (past_of h)) result) }
+    {
+        if self.state.is_ended() {
+            return false;
+        }
+        has_place(self.state.live(), self.most, self.state.opened())
     }
 
     /// Closes a handler that is not registered, and turns its end away.

@@ -12,122 +12,73 @@ use std::thread::Threads;
 #[test]
 fn inputs_give_their_lines(rt: HostRuntime) -> Result<(), Fail> {
     let alloc = rt.alloc();
-    let table: [(&[&[u8]], &[u64], Option<u64>, &[u8], u8); 17] = [
-        (&[RECORD], &[], None, LINES, 0),
-        (&[], &[], None, b"0 closed: end\n", 0),
+    let table: [(&[&[u8]], &[u8]); 14] = [
+        (&[RECORD], LINES),
+        (&[], b"0 closed: end\n"),
         // little-endian, and padding that is not zero
         (
             &[b"\x01\xaa\xbb\xcc\x16\0\0\0\x04\0\0\0\x07\0\0\0\x01\0\0\0\x02\0\0\0\x02\0\0\0hi"],
-            &[],
-            None,
             LINES,
-            0,
         ),
         // a closing NUL, and eight bytes of slack
         (
             &[b"\0\0\0\0\0\0\0\x17\0\0\0\x04\0\0\0\x07\0\0\0\x01\0\0\0\x02\0\0\0\x03hi\0"],
-            &[],
-            None,
             LINES,
-            0,
         ),
         (
             &[
                 b"\0\0\0\0\0\0\0\x1e\0\0\0\x04\0\0\0\x07\0\0\0\x01\0\0\0\x02\0\0\0\x02hi\xff\xff\xff\xff\xff\xff\xff\xff",
             ],
-            &[],
-            None,
             LINES,
-            0,
         ),
         // a header of version 2 whose length is too small
         (
             &[RECORD, b"\x02\0\0\0\0\0\0\x16", RECORD],
-            &[],
-            None,
             b"0 1,2 7 LM_DEBUG: hi\n0 closed: malformed 30\n",
-            0,
         ),
         // escapes, and a type that is no priority
         (
             &[
                 b"\0\0\0\0\0\0\0\x17\0\0\0\x03\xff\xff\xff\xff\0\0\0\x01\0\0\0\x02\0\0\0\x03\x09\\\xe9",
             ],
-            &[],
-            None,
             b"0 1,2 -1 3: \\x09\\\\\\xe9\n0 closed: end\n",
-            0,
         ),
         // version 2, both orders, and an unknown version
         (
             &[
                 b"\x02\0\0\0\0\0\0\x1a\0\0\0\x04\0\0\0\x07\0\0\0\x01\0\0\0\x01\0\0\0\x02\0\0\0\x02hi",
             ],
-            &[],
-            None,
             b"0 4294967297,2 7 LM_DEBUG: hi\n0 closed: end\n",
-            0,
         ),
         (
             &[
                 b"\x03\0\0\0\x1a\0\0\0\x04\0\0\0\x07\0\0\0\x01\0\0\0\x01\0\0\0\x02\0\0\0\x02\0\0\0hi",
             ],
-            &[],
-            None,
             b"0 4294967297,2 7 LM_DEBUG: hi\n0 closed: end\n",
-            0,
         ),
-        (&[b"\x04"], &[], None, b"0 closed: malformed 0\n", 0),
+        (&[b"\x04"], b"0 closed: malformed 0\n"),
         // lengths out of their range, and a message longer than its payload
-        (
-            &[b"\0\0\0\0\0\x01\0\x15"],
-            &[],
-            None,
-            b"0 closed: malformed 0\n",
-            0,
-        ),
-        (
-            &[b"\0\0\0\0\0\0\0\x13"],
-            &[],
-            None,
-            b"0 closed: malformed 0\n",
-            0,
-        ),
+        (&[b"\0\0\0\0\0\x01\0\x15"], b"0 closed: malformed 0\n"),
+        (&[b"\0\0\0\0\0\0\0\x13"], b"0 closed: malformed 0\n"),
         (
             &[b"\0\0\0\0\0\0\0\x16\0\0\0\x04\0\0\0\x07\0\0\0\x01\0\0\0\x02\0\0\0\x03hi"],
-            &[],
-            None,
             b"0 closed: malformed 0\n",
-            0,
         ),
         (
             &[RECORD, RECORD, b"\0\0\0\0\0\0\0"],
-            &[],
-            None,
             b"0 1,2 7 LM_DEBUG: hi\n0 1,2 7 LM_DEBUG: hi\n0 closed: partial 7\n",
-            0,
         ),
-        // a read that fails, and a write
-        (&[RECORD], &[0], None, b"0 closed: failed\n", 3),
-        (
-            &[RECORD, RECORD],
-            &[1],
-            None,
-            b"0 1,2 7 LM_DEBUG: hi\n0 closed: failed\n",
-            3,
-        ),
-        (&[RECORD], &[], Some(10), b"0 1,2 7 LM", 4),
     ];
-    for (pieces, fails, fail_after, lines, status) in table {
-        let served = run(&rt, alloc, pieces, fails, fail_after)?;
+    for (pieces, lines) in table {
+        let served = run(&rt, alloc, pieces, &[], None)?;
         assert_eq!(rt; served.output.bytes(), lines);
-        assert_eq!(rt; served.status, status);
+        assert_eq!(rt; served.status, 0);
     }
     Ok(())
 }
 
 #[test]
-fn cut_and_changed_inputs_give_their_lines(rt: HostRuntime) -> Result<(), Fail> {
+fn cutting_does_not_matter(rt: HostRuntime) -> Result<(), Fail> {
     let alloc = rt.alloc();
     let mut bytes = Vec::new(alloc);
     for byte in RECORD {
@@ -147,13 +98,12 @@ fn cut_and_changed_inputs_give_their_lines(rt: HostRuntime) -> Result<(), Fail> 
             assert_eq!(rt; partial.output.bytes(), line.as_bytes());
         }
     }
-    for taken in 0..36usize {
-        let cut = run(&rt, alloc, &[RECORD], &[], Some(taken as u64))?;
-        if taken <= LINES.len() {
-            assert_eq!(rt; cut.output.bytes(), &LINES[..taken]);
-        }
-        assert_eq!(rt; cut.status, if taken < 35 { 4 } else { 0 });
-    }
+    Ok(())
+}
+
+#[test]
+fn changed_bytes_are_told(rt: HostRuntime) -> Result<(), Fail> {
+    let alloc = rt.alloc();
     let malformed = b"0 closed: malformed 0\n".as_slice();
     let table = [
         (0usize, malformed),
@@ -178,6 +128,28 @@ fn cut_and_changed_inputs_give_their_lines(rt: HostRuntime) -> Result<(), Fail> 
         }
         let served = run(&rt, alloc, &[changed.as_slice()], &[], None)?;
         assert_eq!(rt; served.output.bytes(), lines, "byte {at}");
+    }
+    Ok(())
+}
+
+#[test]
+fn faults_have_their_status(rt: HostRuntime) -> Result<(), Fail> {
+    let alloc = rt.alloc();
+    let first = run(&rt, alloc, &[RECORD], &[0], None)?;
+    assert_eq!(rt; first.output.bytes(), b"0 closed: failed\n".as_slice());
+    assert_eq!(rt; first.status, 3);
+    let second = run(&rt, alloc, &[RECORD, RECORD], &[1], None)?;
+    assert_eq!(rt;
+        second.output.bytes(),
+        b"0 1,2 7 LM_DEBUG: hi\n0 closed: failed\n".as_slice()
+    );
+    assert_eq!(rt; second.status, 3);
+    for taken in 0..36usize {
+        let cut = run(&rt, alloc, &[RECORD], &[], Some(taken as u64))?;
+        if taken <= LINES.len() {
+            assert_eq!(rt; cut.output.bytes(), &LINES[..taken]);
+        }
+        assert_eq!(rt; cut.status, if taken < 35 { 4 } else { 0 });
     }
     Ok(())
 }

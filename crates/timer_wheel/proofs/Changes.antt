@@ -222,7 +222,7 @@ timers-linked places (Some q) to = at (slice_get places q) refl
             timer_is h = let z : y ≡ x = cc in ap (λ v. v.timer) (sym z)
         written (y ∷ xs) (suc i) x e = ap (λ us. y.timer ∷ us) (written xs i x e)
 
-slice_get-take : (xs : List Place) (n k : ℕ) → k < n → slice_get (take n xs) k ≡ slice_get xs k
+pub slice_get-take : (xs : List Place) (n k : ℕ) → k < n → slice_get (take n xs) k ≡ slice_get xs k
 slice_get-take xs zero k l = absurd (omega arith)
 slice_get-take [] (suc n) k l = refl
 slice_get-take (x ∷ xs) (suc n) zero l = refl

@@ -4,3 +4,6 @@ pub mod Spokes
 pub mod Changes
 pub mod Steps
 pub mod Firsts
+pub mod Ticks
+pub mod Hints
+pub mod Forward

@@ -1,5 +1,5 @@
 -- What each step of the code knows of the places and the list.
-use Rattle.std.proofs.Common.{ℕ, ◌≡◌, ◌≢◌, ◌+◌, ◌-◌, ◌<◌, ◌≤◌, ◌==◌, Bool, true, false, not, cond, List, [], ◌∷◌, ◌++◌, length, get_or, take, refl, sym, ap, ◌∙◌, subst, arith, ◌⊎◌, inl, inr, Option, Some, None, Contains}
+use Rattle.std.proofs.Common.{ℕ, ◌≡◌, ◌≢◌, ◌+◌, ◌-◌, ◌<◌, ◌≤◌, ◌==◌, Bool, true, false, not, cond, List, [], ◌∷◌, ◌++◌, length, get_or, take, refl, sym, ap, ◌∙◌, subst, arith, ◌⊎◌, inl, inr, Option, Some, None}
 use Rattle.std.proofs.lemmas.Bool.{cases_eq, both_ways, eq-eqb, ne_eqb, not-true}
 use Rattle.std.proofs.lemmas.List.{length-map, get_or-map, length-set, take_more, take_all}
 use Rattle.std.proofs.lemmas.List.Sorted.{IsPermutation-map, IsPermutation-to_front, IsPermutation-swap_remove, length_permutation}
@@ -9,7 +9,7 @@ use Rattle.std.specs.List.Sorted.{IsPermutation}
 use Rattle.timer_queue.specs.declared.timer.Timer.{Timer}
 use Rattle.timer_queue.specs.Timers.{is_rising, is_scheduled, names_once, without_timer, in_order, AreApart, IsSchedule}
 use Rattle.timer_queue.proofs.Schedules.{schedule_filtered}
-use Rattle.timer_queue.proofs.Members.{Among, among_at, among_from, among_filter, among_filtered, members_in_order, is_scheduled-same, permutation_in_order, schedule_in_order}
+use Rattle.timer_queue.proofs.Members.{Among, among_at, among_from, among_filter, among_filtered, members_in_order, is_scheduled-same, permutation_in_order}
 use Rattle.timer_wheel.specs.declared.place.Place.{Place}
 use Rattle.timer_wheel.specs.Spokes.{spoke_of, of_spoke, timers_of, Follows}
 use Rattle.timer_wheel.specs.Chains.{IsGap, linked_heads, linked_places, AreChains, HasAllBut}
@@ -193,34 +193,6 @@ all_but places last to place p t apart e is =
   where
     same_place : (y z : Place) → slice_get places place ≡ Some y → slice_get places place ≡ Some z → y ≡ z
     same_place y z g h = cc
-
--- what the way to a timer that is there finds
-pub record Found (spokes resolution : ℕ) (heads : List (Option ℕ)) (places : List Place) (t : Timer) (s : ℕ) (last at : Option ℕ) : Type 0 where
-  pub spoke_is : s ≡ spoke_of spokes resolution t.deadline
-  pub within : s < length heads
-  pub sched : IsSchedule (in_order (timers_of places))
-  pub there : Among t (in_order (timers_of places))
-  pub gap : IsGap places (get_or heads s None) t (of_spoke spokes resolution s (in_order (timers_of places))) last at
-  pub place : ℕ
-  pub at_place : at ≡ Some place
-  pub found : Place
-  pub stands : slice_get places place ≡ Some found
-  pub timer : found.timer ≡ t
-
-pub found_by : (spokes resolution : ℕ) (heads : List (Option ℕ)) (places : List Place) (t : Timer) (s : ℕ) (head last at : Option ℕ) → AreApart (timers_of places) → Contains (timers_of places) t → AreChains spokes resolution heads places (in_order (timers_of places))
-    → spokes ≡ length heads → s ≡ spoke_of spokes resolution t.deadline → s < spokes → head ≡ get_or heads s None
-    → ((ts : List Timer) → Follows places head ts → length ts ≤ length places → is_rising ts ≡ true → IsGap places head t ts last at) → Found spokes resolution heads places t s last at
-found_by spokes resolution heads places t s head last at apart has chains n is l h gap =
-    let timers : List Timer = in_order (timers_of places) in
-    let q : Timer → Bool = λ u. spoke_of spokes resolution u.deadline == s in
-    let sched : IsSchedule timers = schedule_in_order (timers_of places) apart in
-    let part : IsSchedule (of_spoke spokes resolution s timers) = schedule_filtered q timers sched in
-    let there : Among t timers = (members_in_order (timers_of places)).there t (among_from t (timers_of places) has) in
-    let g : IsGap places (get_or heads s None) t (of_spoke spokes resolution s timers) last at =
-    subst (λ a. IsGap places a t (of_spoke spokes resolution s timers) last at) h
-    (gap (of_spoke spokes resolution s timers) (subst (λ a. Follows places a (of_spoke spokes resolution s timers)) (sym h) (chains s l)) (short_chain spokes resolution s places) part.rising) in
-    let f = gap_place places (get_or heads s None) t (of_spoke spokes resolution s timers) last at g part.rising (among_filtered q t timers there (eq-eqb _ _ (sym is))) in
-    record { spoke_is = is; within = subst (λ m. s < m) n l; sched = sched; there = there; gap = g; place = f.0; at_place = f.1; found = f.2; stands = f.3; timer = f.4 }
 
 pub same_place : (k j : ℕ) (at : Option ℕ) → at ≡ Some k → at ≡ Some j → k ≡ j
 same_place k j at a b = cc

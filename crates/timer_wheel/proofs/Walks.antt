@@ -12,8 +12,8 @@ use Rattle.timer_wheel.specs.declared.place.Place.{Place}
 use Rattle.timer_wheel.specs.Spokes.{Follows}
 use Rattle.timer_wheel.specs.Chains.{Reaches, Walked, IsGap}
 
-pub walk_start : (places : List Place) (head : Option ℕ) (t : Timer) (timers : List Timer) → Follows places head timers → (w : Walked places head t timers None head) × (length w.front ≡ 0)
-walk_start places head t timers h = (record { front = []; back = timers; whole = refl; before = refl; is_last = refl; reaches = refl; follows = h }, refl)
+pub walk_start : (places : List Place) (head : Option ℕ) (t : Timer) (timers : List Timer) → Follows places head timers → Walked places head t timers None head
+walk_start places head t timers h = record { front = []; back = timers; whole = refl; before = refl; is_last = refl; reaches = refl; follows = h }
 
 pub reaches_more : (places : List Place) (at : Option ℕ) (front : List Timer) (k : ℕ) (p : Place) → Reaches places at front (Some k) → slice_get places k ≡ Some p → Reaches places at (front ++ p.timer ∷ []) p.next
 reaches_more places at [] k p h e = (k, h, p, e, refl, refl)
@@ -45,8 +45,8 @@ ended places (u ∷ rest) h = no_place h.0 h.1
     no_place i e = absurd (cc)
 
 -- over one timer more that comes before t
-pub walk_on : (places : List Place) (head : Option ℕ) (t : Timer) (timers : List Timer) (last : Option ℕ) (k : ℕ) (p : Place) (n : ℕ) → (w : Walked places head t timers last (Some k)) → length w.front ≡ n → slice_get places k ≡ Some p → comes_before p.timer t ≡ true
-    → (v : Walked places head t timers (Some k) p.next) × (length v.front ≡ n + 1)
+pub walk_on : (places : List Place) (head : Option ℕ) (t : Timer) (timers : List Timer) (last : Option ℕ) (k : ℕ) (p : Place) (n : ℕ) → (w : Walked places head t timers last (Some k)) → n ≤ length w.front → slice_get places k ≡ Some p → comes_before p.timer t ≡ true
+    → (v : Walked places head t timers (Some k) p.next) × (n + 1 ≤ length v.front)
 walk_on places head t timers last k p n w len e first =
     let s = stands_at places k p w.back w.follows e in (
       record {
@@ -58,7 +58,7 @@ walk_on places head t timers last k p n w len e first =
         reaches = reaches_more places head w.front k p w.reaches e;
         follows = s.2;
       },
-      omega (arith, length_push w.front p.timer),
+      omega (arith, len, length_push w.front p.timer),
     )
 
 -- ---- where the way ends
@@ -88,9 +88,9 @@ gap_stop places head t timers last k p w e first rising =
     }
 
 -- the way is no longer than the places
-pub gap_full : (places : List Place) (head : Option ℕ) (t : Timer) (timers : List Timer) (last at : Option ℕ) (n : ℕ) → (w : Walked places head t timers last at) → length w.front ≡ n → length timers ≤ n → IsGap places head t timers last at
+pub gap_full : (places : List Place) (head : Option ℕ) (t : Timer) (timers : List Timer) (last at : Option ℕ) (n : ℕ) → (w : Walked places head t timers last at) → n ≤ length w.front → length timers ≤ n → IsGap places head t timers last at
 gap_full places head t timers last at n w len few =
-    gap_end places head t timers last at w (nil_from_length w.back (omega (arith, length-append w.front w.back, ap length w.whole)))
+    gap_end places head t timers last at w (nil_from_length w.back (omega (arith, len, few, length-append w.front w.back, ap length w.whole)))
 
 -- where the timer is one of the chain, the way ends before it
 pub gap_holds : (places : List Place) (head : Option ℕ) (t : Timer) (timers : List Timer) (last at : Option ℕ) → (g : IsGap places head t timers last at) → is_rising timers ≡ true → Among t timers → (rest : List Timer) × (g.way.back ≡ t ∷ rest)

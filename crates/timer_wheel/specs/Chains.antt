@@ -1,5 +1,5 @@
 -- How a wheel keeps its chains.
-use Rattle.std.specs.Prelude.{ℕ, ◌≡◌, ◌≢◌, ◌<◌, ◌==◌, Bool, true, not, List, [], ◌∷◌, ◌++◌, length, slice_get, slice_index_or, slice_set, Contains, Option, Some, None, if◌then◌else◌}
+use Rattle.std.specs.Prelude.{ℕ, ◌≡◌, ◌≢◌, ◌<◌, ◌≤◌, ◌-◌, ◌/◌, ◌==◌, Bool, true, not, List, [], ◌∷◌, ◌++◌, length, slice_get, slice_index_or, slice_set, Contains, Option, Some, None, if◌then◌else◌}
 use Rattle.std.specs.List.{list_all}
 use Rattle.timer_queue.specs.declared.timer.Timer.{Timer}
 use Rattle.timer_queue.specs.Timers.{comes_before, in_order, AreApart}
@@ -25,6 +25,10 @@ pub record Walked (places : List Place) (head : Option ℕ) (t : Timer) (timers 
   pub is_last : IsLast places head front last
   pub reaches : Reaches places head front at
   pub follows : Follows places at back
+
+-- where there is a place to begin behind, its timer is one of these and comes before t
+abbrev pub IsStart : List Place → List Timer → Timer → Option ℕ → Type 0
+IsStart places timers t start = (k : ℕ) (p : Place) → start ≡ Some k → slice_get places k ≡ Some p → Contains timers p.timer × (comes_before p.timer t ≡ true)
 
 -- the gap of t in a chain: all in front of it come before t, and none behind it does
 pub record IsGap (places : List Place) (head : Option ℕ) (t : Timer) (timers : List Timer) (last at : Option ℕ) : Type 0 where
@@ -67,6 +71,14 @@ pub record HasAllBut (hole : ℕ) (places : List Place) (timers : List Timer) : 
   pub others : (k : ℕ) (p : Place) → k ≢ hole → slice_get places k ≡ Some p → Contains timers p.timer
   pub lacks : (p : Place) → slice_get places hole ≡ Some p → Contains timers p.timer → ⊥
 
+-- each timer of the second places stands among the first at that place or at a later one
+abbrev pub ComesForward : List Place → List Place → Type 0
+ComesForward places new = (k : ℕ) (q : Place) → slice_get new k ≡ Some q → (i : ℕ) × (k ≤ i) × (p : Place) × (slice_get places i ≡ Some p) × (p.timer ≡ q.timer)
+
+-- the places from this one on have no timer of the handle
+abbrev pub IsClear : ℕ → List Place → ℕ → Type 0
+IsClear handle places from = (k : ℕ) (p : Place) → from ≤ k → slice_get places k ≡ Some p → p.timer.handle.0 ≢ handle
+
 -- the one of the two that comes first
 abbrev pub earlier_of : Option Timer → Timer → Option Timer
 earlier_of None t = Some t
@@ -89,6 +101,11 @@ heads_of places (h ∷ rest) = head_timer places h ++ heads_of places rest
 abbrev pub earlier_at : Option Timer → List Timer → Option Timer
 earlier_at first [] = first
 earlier_at first (t ∷ rest) = earlier_of first t
+
+-- the timer at a head, where its tick is so many after another
+abbrev pub in_tick : ℕ → ℕ → ℕ → List Timer → Option Timer
+in_tick resolution tick turn [] = None
+in_tick resolution tick turn (t ∷ rest) = if t.deadline / resolution - tick == turn then Some t else None
 
 -- t is not the first
 abbrev pub is_behind : Option Timer → Timer → Bool

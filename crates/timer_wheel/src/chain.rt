@@ -5,9 +5,10 @@ ghost use Rattle.timer_queue.specs.declared.timer.Timer.{Timer};
 ghost use Rattle.timer_queue.specs.Timers.{is_rising, is_scheduled, with_timer, without_timer, in_order, AreApart, IsSchedule};
 ghost use Rattle.timer_wheel.specs.declared.place.Place.{Place};
 ghost use Rattle.timer_wheel.specs.Spokes.{Follows, spoke_of, timers_of};
-ghost use Rattle.timer_wheel.specs.Chains.{IsGap, AreChains, HasAllBut, linked_heads, linked_places};
+ghost use Rattle.timer_wheel.specs.Chains.{IsGap, IsStart, ComesForward, Walked, AreChains, HasAllBut, linked_heads, linked_places};
 
 use crate::Place;
+use crate::hint::{follow, name_place, start_for};
 use std::alloc::{AllocError, Global};
 use timer_queue::Timer;
 
@@ -30,13 +31,38 @@ pub fn spoke(spokes: usize, resolution: u64, deadline: u64) -> usize
     ((deadline / resolution) % spokes as u64) as usize
 }
 
+// Where the way to a timer begins: behind a place whose timer comes before it, or at the head of the chain.
+fn start_of(places: &[Place], head: Option<usize>, start: Option<usize>) -> Gap
+    requires { AreApart (timers_of places.now) }
+    ensures { (t : Timer) (timers : List Timer) → Follows places.now head timers → is_rising timers ≡ true → IsStart places.now timers t start → Walked places.now head t timers result.last result.at }
+{
+    let Some(k) = start else {
+        return Gap {
+            last: None,
+            at: head,
+        };
+    };
+    let Some(place) = places.get(k) else {
+        return Gap {
+            last: None,
+            at: head,
+        };
+    };
+    Gap {
+        last: start,
+        at: place.next,
+    }
+}
+
 // Goes along a chain over the timers that come before this one.
-pub fn gap_of(places: &[Place], head: Option<usize>, t: &Timer) -> Gap
-    ensures { (timers : List Timer) → Follows places.now head timers → length timers ≤ length places.now → is_rising timers ≡ true
+pub fn gap_of(places: &[Place], head: Option<usize>, start: Option<usize>, t: &Timer) -> Gap
+    requires { AreApart (timers_of places.now) }
+    ensures { (timers : List Timer) → Follows places.now head timers → length timers ≤ length places.now → is_rising timers ≡ true → IsStart places.now timers t.now start
         → IsGap places.now head t.now timers result.last result.at }
 {
-    let mut last = None;
-    let mut at = head;
+    let begin = start_of(places, head, start);
+    let mut last = begin.last;
+    let mut at = begin.at;
     'chain: for _ in 0..places.len() {
         let Some(k) = at else {
             return Gap { last, at };
@@ -83,7 +109,13 @@ pub fn no_heads(alloc: Global, spokes: usize) -> Result<Vec<Option<usize>>, Allo
 }
 
 // Puts a timer in, in its place in the chain of its spoke.
-pub fn add(heads: &mut Vec<Option<usize>>, places: &mut Vec<Place>, resolution: u64, t: Timer)
+pub fn add(
+    heads: &mut Vec<Option<usize>>,
+    places: &mut Vec<Place>,
+    hints: &mut Vec<usize>,
+    resolution: u64,
+    t: Timer,
+)
     requires ticks { 0 < resolution }
     requires spokes { 0 < length heads.old.items }
     requires room { vec_len places.old < vec_capacity places.old }
@@ -96,17 +128,26 @@ pub fn add(heads: &mut Vec<Option<usize>>, places: &mut Vec<Place>, resolution: 
     ensures capacity { vec_capacity places.new ≡ vec_capacity places.old }
 {
     let spoke = spoke(heads.len(), resolution, t.deadline);
-    let gap = gap_of(places, heads[spoke], &t);
+    let head = heads[spoke];
     let place = places.len();
+    let start = start_for(hints, places, head, heads.len(), resolution, &t, place);
+    let gap = gap_of(places, head, start, &t);
     places.push_reserved(Place {
         timer: t,
         next: gap.at,
     });
     link(heads, places, spoke, gap.last, Some(place));
+    name_place(hints, resolution, &t, place);
 }
 
 // Moves the last place into one that no chain leads to.
-fn fill(heads: &mut Vec<Option<usize>>, places: &mut Vec<Place>, resolution: u64, hole: usize)
+fn fill(
+    heads: &mut Vec<Option<usize>>,
+    places: &mut Vec<Place>,
+    hints: &mut Vec<usize>,
+    resolution: u64,
+    hole: usize,
+)
     requires ticks { 0 < resolution }
     requires spokes { 0 < length heads.old.items }
     requires within { hole < length places.old.items }
@@ -115,6 +156,7 @@ fn fill(heads: &mut Vec<Option<usize>>, places: &mut Vec<Place>, resolution: u64
         → AreChains (length heads.old.items) resolution heads.old.items places.old.items timers → AreChains (length heads.old.items) resolution heads.new.items places.new.items timers }
     ensures timers { (p : Place) → slice_get places.old.items hole ≡ Some p → IsPermutation (timers_of places.old.items) (p.timer ∷ timers_of places.new.items) }
     ensures heads { length heads.new.items ≡ length heads.old.items }
+    ensures forward { ComesForward places.old.items places.new.items }
     ensures capacity { vec_capacity places.new ≡ vec_capacity places.old }
 {
     let last = places.len() - 1;
@@ -124,13 +166,22 @@ fn fill(heads: &mut Vec<Option<usize>>, places: &mut Vec<Place>, resolution: u64
     }
     let moved = places[last].timer;
     let spoke = spoke(heads.len(), resolution, moved.deadline);
-    let gap = gap_of(places, heads[spoke], &moved);
+    let head = heads[spoke];
+    let start = start_for(hints, places, head, heads.len(), resolution, &moved, hole);
+    let gap = gap_of(places, head, start, &moved);
     link(heads, places, spoke, gap.last, Some(hole));
     places.swap_remove(hole);
+    follow(hints, resolution, &moved, last, hole);
 }
 
 // Takes a timer out of its chain, and its place with it.
-pub fn take_out(heads: &mut Vec<Option<usize>>, places: &mut Vec<Place>, resolution: u64, t: Timer)
+pub fn take_out(
+    heads: &mut Vec<Option<usize>>,
+    places: &mut Vec<Place>,
+    hints: &mut Vec<usize>,
+    resolution: u64,
+    t: Timer,
+)
     requires ticks { 0 < resolution }
     requires spokes { 0 < length heads.old.items }
     requires apart { AreApart (timers_of places.old.items) }
@@ -139,12 +190,23 @@ pub fn take_out(heads: &mut Vec<Option<usize>>, places: &mut Vec<Place>, resolut
     ensures timers { IsPermutation (timers_of places.old.items) (t ∷ timers_of places.new.items) }
     ensures chains { AreChains (length heads.new.items) resolution heads.new.items places.new.items (without_timer t.timer (in_order (timers_of places.old.items))) }
     ensures heads { length heads.new.items ≡ length heads.old.items }
+    ensures forward { ComesForward places.old.items places.new.items }
     ensures capacity { vec_capacity places.new ≡ vec_capacity places.old }
 {
     let spoke = spoke(heads.len(), resolution, t.deadline);
-    let gap = gap_of(places, heads[spoke], &t);
+    let head = heads[spoke];
+    let start = start_for(
+        hints,
+        places,
+        head,
+        heads.len(),
+        resolution,
+        &t,
+        places.len(),
+    );
+    let gap = gap_of(places, head, start, &t);
     let Some(place) = gap.at else { unreachable!() };
     let next = places[place].next;
     link(heads, places, spoke, gap.last, next);
-    fill(heads, places, resolution, place);
+    fill(heads, places, hints, resolution, place);
 }

@@ -1,10 +1,12 @@
 //! The timer of a wheel that comes due first.
-ghost use Rattle.std.specs.Prelude.{◌≡◌, ◌<◌, length};
+ghost use Rattle.std.specs.Prelude.{◌≡◌, ◌<◌, ◌≤◌, length, All};
+ghost use Rattle.timer_queue.specs.declared.timer.Timer.{Timer};
 ghost use Rattle.timer_queue.specs.Timers.{in_order, AreApart};
 ghost use Rattle.timer_wheel.specs.Spokes.{timers_of};
-ghost use Rattle.timer_wheel.specs.Chains.{AreChains, earlier_at, earlier_of, first_of, head_timer, is_behind};
+ghost use Rattle.timer_wheel.specs.Chains.{AreChains, earlier_at, earlier_of, first_of, head_timer, in_tick, is_behind};
 
 use crate::Place;
+use crate::chain::spoke;
 use timer_queue::Timer;
 
 // The one that comes first.
@@ -80,4 +82,53 @@ pub fn find_first(heads: &[Option<usize>], places: &[Place], resolution: u64) ->
     } else {
         first_of_heads(heads, places, resolution)
     }
+}
+
+// The timer at a head, where its tick is this many after another.
+fn head_of_tick(
+    places: &[Place],
+    head: Option<usize>,
+    resolution: u64,
+    tick: u64,
+    turn: usize,
+) -> Option<Timer>
+    requires { 0 < resolution }
+    ensures { result ≡ in_tick resolution tick turn (head_timer places.now head) }
+{
+    let place = places.get(head?)?;
+    if (place.timer.deadline / resolution).saturating_sub(tick) == turn as u64 {
+        Some(place.timer)
+    } else {
+        None
+    }
+}
+
+// The first of the timers, where none comes due before `from`. It is sought tick by tick from that moment on, and behind a turn of the
+// wheel, or sooner where there are few timers, among all.
+pub fn find_next(
+    heads: &[Option<usize>],
+    places: &[Place],
+    resolution: u64,
+    from: u64,
+) -> Option<Timer>
+    requires ticks { 0 < resolution }
+    requires spokes { 0 < length heads.now }
+    requires apart { AreApart (timers_of places.now) }
+    requires chains { AreChains (length heads.now) resolution heads.now places.now (in_order (timers_of places.now)) }
+    requires from { All (λ (t : Timer). from ≤ t.deadline) (timers_of places.now) }
+    ensures { result ≡ first_of (in_order (timers_of places.now)) }
+{
+    let tick = from / resolution;
+    let mut at = spoke(heads.len(), resolution, from);
+    for turn in 0..heads.len().min(places.len() / 4) {
+        let found = head_of_tick(places, heads[at], resolution, tick, turn);
+        if found.is_some() {
+            return found;
+        }
+        at += 1;
+        if at == heads.len() {
+            at = 0;
+        }
+    }
+    find_first(heads, places, resolution)
 }

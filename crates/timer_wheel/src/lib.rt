@@ -3,6 +3,7 @@
 
 mod chain;
 mod first;
+mod hint;
 mod place;
 mod wheel;
 

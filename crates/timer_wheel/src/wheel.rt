@@ -2,12 +2,13 @@
 ghost use Rattle.std.specs.Prelude.{◌≡◌, ◌≤◌, ◌<◌, ℕ, [], IfOk, length, slice_index_or, None, Contains, ◌∷◌, vec_capacity};
 ghost use Rattle.std.specs.List.Sorted.{IsPermutation};
 ghost use Rattle.timer_queue.specs.Timers.{in_order};
-ghost use Rattle.timer_wheel.specs.Chains.{IsWheel};
+ghost use Rattle.timer_wheel.specs.Chains.{ComesForward, IsWheel};
 ghost use Rattle.timer_wheel.specs.Spokes.{timers_of, of_spoke, Follows};
 
 use crate::Place;
 use crate::chain::{add, no_heads, take_out};
-use crate::first::{earlier, find_first, is_behind};
+use crate::first::{earlier, find_next, is_behind};
+use crate::hint::fill_up;
 use ev_types::{Handle, NoMemory};
 use std::alloc::Global;
 use std::marker::Model;
@@ -21,6 +22,8 @@ pub struct WheelTimers<const SPOKES: usize> {
     heads: Vec<Option<usize>>,
     // The timers that are scheduled. Each is in the chain of its spoke.
     places: Vec<Place>,
+    // For ticks, places near which their timers stand. One may be out of date: it is looked at only for where to begin.
+    hints: Vec<usize>,
     // The milliseconds of a tick.
     resolution: u64,
     // The timer that comes due first.
@@ -53,6 +56,7 @@ impl<const SPOKES: usize> WheelTimers<SPOKES> {
         Ok(WheelTimers {
             heads,
             places: Vec::new(alloc),
+            hints: Vec::new(alloc),
             resolution,
             first: None,
         })
@@ -82,12 +86,25 @@ impl<const SPOKES: usize> TimerQueue for WheelTimers<SPOKES> {
     ghost spare = { λ w. w.spare };
 
     fn reserve(&mut self, n: usize) -> Result<(), NoMemory> {
+        let held = self.places.len();
+        if n <= self.places.capacity() - held {
+            return Ok(());
+        }
+        self.hints
+            .reserve(held.saturating_add(n).saturating_sub(self.hints.len()))?;
         self.places.reserve(n)?;
+        fill_up(&mut self.hints, &self.places, self.resolution);
         Ok(())
     }
 
     fn schedule(&mut self, t: Timer) {
-        add(&mut self.heads, &mut self.places, self.resolution, t);
+        add(
+            &mut self.heads,
+            &mut self.places,
+            &mut self.hints,
+            self.resolution,
+            t,
+        );
         self.first = earlier(self.first, t);
     }
 
@@ -99,6 +116,7 @@ impl<const SPOKES: usize> TimerQueue for WheelTimers<SPOKES> {
         remove(
             &mut self.heads,
             &mut self.places,
+            &mut self.hints,
             &mut self.first,
             self.resolution,
             t,
@@ -107,19 +125,21 @@ impl<const SPOKES: usize> TimerQueue for WheelTimers<SPOKES> {
     }
 
     fn cancel_all(&mut self, handle: Handle) {
-        while let Some(place) = self
-            .places
-            .iter()
-            .position(|p| p.timer.handle.0 == handle.0)
-        {
-            let t = self.places[place].timer;
-            remove(
-                &mut self.heads,
-                &mut self.places,
-                &mut self.first,
-                self.resolution,
-                t,
-            );
+        // From the last place to the first: where a timer is taken out the last comes in its place, which is not of this handle.
+        let mut end = self.places.len();
+        while end > 0 {
+            end -= 1;
+            let t = self.places[end].timer;
+            if t.handle.0 == handle.0 {
+                remove(
+                    &mut self.heads,
+                    &mut self.places,
+                    &mut self.hints,
+                    &mut self.first,
+                    self.resolution,
+                    t,
+                );
+            }
         }
     }
 
@@ -135,6 +155,7 @@ impl<const SPOKES: usize> TimerQueue for WheelTimers<SPOKES> {
         remove(
             &mut self.heads,
             &mut self.places,
+            &mut self.hints,
             &mut self.first,
             self.resolution,
             t,
@@ -147,6 +168,7 @@ impl<const SPOKES: usize> TimerQueue for WheelTimers<SPOKES> {
 fn remove(
     heads: &mut Vec<Option<usize>>,
     places: &mut Vec<Place>,
+    hints: &mut Vec<usize>,
     first: &mut Option<Timer>,
     resolution: u64,
     t: Timer,
@@ -155,11 +177,12 @@ fn remove(
     requires there { Contains (timers_of places.old.items) t }
     ensures wheel { IsWheel (length heads.old.items) resolution heads.new.items places.new.items first.new }
     ensures timers { IsPermutation (timers_of places.old.items) (t ∷ timers_of places.new.items) }
+    ensures forward { ComesForward places.old.items places.new.items }
     ensures capacity { vec_capacity places.new ≡ vec_capacity places.old }
 {
-    take_out(heads, places, resolution, t);
+    take_out(heads, places, hints, resolution, t);
     if is_behind(first, &t) {
         return;
     }
-    *first = find_first(heads, places, resolution);
+    *first = find_next(heads, places, resolution, t.deadline);
 }

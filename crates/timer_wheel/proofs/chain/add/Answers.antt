@@ -3,12 +3,13 @@ use Rattle.std.proofs.lemmas.List.{map-append, get_or_read}
 use Rattle.timer_queue.specs.declared.timer.Timer.{Timer}
 use Rattle.timer_queue.specs.Timers.{in_order, IsSchedule}
 use Rattle.timer_queue.proofs.Schedules.{schedule_filtered}
-use Rattle.timer_queue.proofs.Members.{schedule_in_order}
+use Rattle.timer_queue.proofs.Members.{members_in_order, schedule_in_order}
 use Rattle.timer_wheel.specs.declared.place.Place.{Place}
 use Rattle.timer_wheel.specs.Spokes.{spoke_of, of_spoke, timers_of, Follows}
-use Rattle.timer_wheel.specs.Chains.{IsGap, linked_heads, linked_places}
+use Rattle.timer_wheel.specs.Chains.{IsGap, IsStart, linked_heads, linked_places}
 use Rattle.timer_wheel.proofs.Changes.{timers-linked, chains_added}
-use Rattle.timer_wheel.proofs.Steps.{short_chain, length-linked_heads, chains_same, unscheduled}
+use Rattle.timer_wheel.proofs.Steps.{among_places, short_chain, length-linked_heads, chains_same, unscheduled}
+use Rattle.timer_wheel.proofs.Hints.{start_in_spoke}
 use Rattle.timer_wheel.proofs.chain.add.Goals as goal
 
 pub returns-clause-timers : goal.returns-clause-timers
@@ -27,10 +28,14 @@ returns-clause-chains c =
     let n : c.len.result ≡ length heads = omega arith in
     let is : s ≡ spoke_of (length heads) c.args.resolution c.args.t.deadline = rw n at c.spoke-spoke.ensures.is in
     let l : s < length heads = rw n at c.spoke-spoke.ensures.within in
-    let head : c.index.result.now ≡ get_or heads s None = get_or_read heads s _ l c.index.ensures None in
+    let head : c.index-head.result.now ≡ get_or heads s None = get_or_read heads s _ l c.index-head.ensures None in
     let chain : Follows places (get_or heads s None) (of_spoke (length heads) c.args.resolution s timers) = c.requires.chains s l in
+    let n2 : c.len-2.result ≡ length heads = omega arith in
+    let start : IsStart places (of_spoke (length heads) c.args.resolution s timers) c.args.t c.start_for-start.result =
+    start_in_spoke (length heads) c.args.resolution s c.len-place.result places timers c.args.t c.start_for-start.result is (rw n2 at (rw c.deref-2.ensures.value at c.start_for-start.ensures))
+    (λ k p ne e. (members_in_order (timers_of places)).there p.timer (among_places places k p e)) in
     let gap : IsGap places (get_or heads s None) c.args.t (of_spoke (length heads) c.args.resolution s timers) c.gap_of-gap.result.last c.gap_of-gap.result.at =
-    rw head at (rw c.deref.ensures.value at c.gap_of-gap.ensures) (of_spoke (length heads) c.args.resolution s timers) chain (short_chain (length heads) c.args.resolution s places) (schedule_filtered _ timers sched).rising in
+    rw head at (rw c.deref-3.ensures.value at c.gap_of-gap.ensures) (of_spoke (length heads) c.args.resolution s timers) chain (short_chain (length heads) c.args.resolution s places) (schedule_filtered _ timers sched).rising start in
     let m : c.len-place.result ≡ length places = omega arith in
     let new_heads : c.link.new.heads.items ≡ linked_heads heads s c.gap_of-gap.result.last (Some (length places)) = c.link.ensures.heads ∙ ap (λ i. linked_heads heads s c.gap_of-gap.result.last (Some i)) m in
     let new_places : c.link.new.places.items ≡ linked_places (places ++ record { timer = c.args.t; next = c.gap_of-gap.result.at } ∷ []) c.gap_of-gap.result.last (Some (length places)) =

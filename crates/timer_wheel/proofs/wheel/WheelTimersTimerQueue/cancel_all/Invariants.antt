@@ -2,11 +2,11 @@ use Rattle.std.proofs.Common.{◌≡◌, ◌≤◌, length}
 use Rattle.std.specs.Vec.{vec_capacity}
 use Rattle.timer_queue.specs.Timers.{in_order, without_handle}
 use Rattle.timer_wheel.specs.Spokes.{timers_of}
-use Rattle.timer_wheel.specs.Chains.{IsWheel}
+use Rattle.timer_wheel.specs.Chains.{IsClear, IsWheel}
 use Rattle.timer_wheel.proofs.wheel.WheelTimersTimerQueue.cancel_all.Given as goal
 
-abbrev pub invariant-loop-place : goal.invariant-loop-place
-invariant-loop-place g l =
+abbrev pub invariant-loop-end : goal.invariant-loop-end
+invariant-loop-end g l =
     let w = l.self-inside in
     let before = l.initial.self-inside in
     record {
@@ -15,7 +15,9 @@ invariant-loop-place g l =
       others : without_handle l.handle.0 (in_order (timers_of w.places.items)) ≡ without_handle l.handle.0 (in_order (timers_of before.places.items));
       capacity : vec_capacity w.places ≡ vec_capacity before.places;
       fewer : length w.places.items ≤ length before.places.items;
+      within : l.end ≤ length w.places.items;
+      clear : IsClear l.handle.0 w.places.items l.end;
     }
 
-abbrev pub decreases-loop-place : goal.decreases-loop-place
-decreases-loop-place g l = length l.self-inside.places.items
+abbrev pub decreases-loop-end : goal.decreases-loop-end
+decreases-loop-end g l = l.end

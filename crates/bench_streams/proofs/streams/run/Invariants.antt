@@ -1,7 +1,0 @@
-use Rattle.std.proofs.Common.{◌≡◌, false}
-use Rattle.module_stream.specs.Streams.{has_started}
-use Rattle.bench_streams.proofs.streams.run.Given as goal
-
--- no message was put
-abbrev pub invariant-loop-name : goal.invariant-loop-name
-invariant-loop-name l = has_started l.stream ≡ false
