@@ -1,13 +1,13 @@
 //! The decoder of a stream of records that comes in any pieces.
 
-ghost use Rattle.std.specs.Prelude.{◌≡◌, ◌≤◌, ◌-◌, ◌++◌, [], None, IsSome, IfOk, IsOkAnd, OnOk, OnErr, ℕ, List, length, take, drop, min};
+ghost use Rattle.std.specs.Prelude.{◌≡◌, ◌≤◌, ◌<◌, ◌-◌, ◌*◌, ◌++◌, [], None, IsSome, IfOk, IsOkAnd, OnOk, OnErr, ℕ, List, length, take, drop, min};
 ghost use Rattle.cdr_record.specs.Grammar as G;
 ghost use Rattle.cdr_record.specs.Decoding as D;
 ghost use Rattle.cdr_record.specs.Feeding.{Feeds, fresh};
 ghost use Rattle.cdr_record.specs.declared.grammar.First.TheVariants as first;
 
 use crate::bad::Bad;
-use crate::grammar::{First, HEADER, first_in, payload_length, read_record};
+use crate::grammar::{First, HEADER, SHORTEST_RECORD, first_in, payload_length, read_record};
 use crate::record::{LogRecord, Records};
 use ev_types::NoMemory;
 use std::alloc::{AllocError, Global};
@@ -66,14 +66,15 @@ impl Decoder {
         ensures stays_bad { IsSome self.old.bad → IsOkAnd result (λ fed. (fed.records ≡ []) × (fed.bad ≡ self.old.bad)) }
         ensures err { OnErr result (self.new ≡ self.old) }
     {
-        let mut records = Vec::new(*self.rest.allocator());
+        let alloc = *self.rest.allocator();
         if self.bad.is_some() {
             return Ok(Fed {
-                records: Records::new(records),
+                records: Records::new(Vec::new(alloc)),
                 bad: self.bad,
             });
         }
         let held = self.rest.len();
+        let mut records = Vec::with_capacity(alloc, most_records(piece.len()))?;
         match take_piece(&mut self.rest, &mut records, piece) {
             Ok(step) => {
                 self.offset = self.offset.saturating_add(step.taken);
@@ -105,6 +106,14 @@ impl Decoder {
     {
         self.offset
     }
+}
+
+/// How many records a piece of so many bytes completes at most: an unfinished one, and those that stand in it whole. A list with room
+/// for so many does not grow.
+fn most_records(bytes: usize) -> usize
+    ensures { bytes < 28 * result }
+{
+    (bytes / SHORTEST_RECORD).saturating_add(1)
 }
 
 /// How many bytes a step took for whole records, at most `u64::MAX`, and what stands first behind them.

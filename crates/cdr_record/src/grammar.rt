@@ -14,6 +14,9 @@ use std::alloc::{AllocError, Global};
 /// The bytes of a header.
 pub(crate) const HEADER: usize = 8;
 
+/// The bytes of a record of version 1 without a message.
+pub(crate) const SHORTEST_RECORD: usize = 28;
+
 /// The most bytes of a message.
 pub(crate) const LONGEST_MESSAGE: usize = 65_536;
 

@@ -1,3 +1,4 @@
+pub mod Logged
 pub mod Notes
 pub mod LineSink
 pub mod Connection

@@ -10,12 +10,13 @@ ghost use Rattle.reactor_journal.specs.Event.{Item, Origin};
 ghost use Rattle.reactor_model.specs.Handling.{NoClose, EndsInClose, Names};
 ghost use Rattle.reactor_model.specs.Turns.{TakesTurn, KeepsPromises};
 ghost use Rattle.log_handler.specs.Connection.{Progress, end_of};
+ghost use Rattle.log_lines.specs.declared.end_kind.EndKind.TheVariants.{NoMemory};
 ghost use Rattle.log_handler.specs.Connections.{MayComeFrom, ConnectionFits, ConnectionGone, HasDecoder, IsClosing, connections, end_of_connection, serial_named};
 ghost use Rattle.log_handler.specs.Steps.{IsTurn, IsSame, Serves, TellsPiece, item_of};
 ghost use Rattle.log_handler.specs.Notes.{is_piece};
 
-use crate::ServerNote;
 use crate::peer::Peer;
+use crate::{LoggedRecords, ServerNote};
 use cdr_record::laws::tells_stop;
 use cdr_record::{Decoder, Records};
 use ev_base::{Got, Net, PeerEnd};
@@ -97,16 +98,25 @@ impl<E: PeerEnd> LogConnection<E> {
         match self.decoder.feed(piece) {
             Ok(fed) => {
                 tells_stop();
-                match fed.bad {
-                    Some(bad) => self.close_with(EndKind::Malformed(bad.at), took, fed.records),
-                    None => self.turn(Answer::Again, took, fed.records),
+                match LoggedRecords::with_lines(self.alloc, self.conn, fed.records) {
+                    Ok(records) => match fed.bad {
+                        Some(bad) => self.close_with(EndKind::Malformed(bad.at), took, records),
+                        None => self.turn(Answer::Again, took, records),
+                    },
+                    Err(_) => self.lose(took),
                 }
             }
-            Err(_) => {
-                let none = self.no_records();
-                self.close_with(EndKind::NoMemory, took, none)
-            }
+            Err(_) => self.lose(took),
         }
+    }
+
+    /// Closes for want of memory for what a piece of so many bytes completes.
+    fn lose(&mut self, took: u64) -> Turn<LogConnection<E>>
+        ensures turn { IsTurn self.old.conn Close took [] result }
+        ensures ends { self.new ≡ record self.old { kept = Some NoMemory } }
+    {
+        let none = self.no_records();
+        self.close_with(EndKind::NoMemory, took, none)
     }
 
     /// Closes where nothing came for too long.
@@ -150,7 +160,12 @@ impl<E: PeerEnd> LogConnection<E> {
     }
 
     /// A turn that took so many bytes, completed these records, and ends the connection so.
-    fn close_with(&mut self, end: EndKind, took: u64, records: Records) -> Turn<LogConnection<E>>
+    fn close_with(
+        &mut self,
+        end: EndKind,
+        took: u64,
+        records: LoggedRecords,
+    ) -> Turn<LogConnection<E>>
         ensures turn { IsTurn self.old.conn Close took records result }
         ensures ends { self.new ≡ record self.old { kept = Some end } }
     {
@@ -158,13 +173,13 @@ impl<E: PeerEnd> LogConnection<E> {
         self.turn(Answer::Close, took, records)
     }
 
-    fn no_records(&self) -> Records
+    fn no_records(&self) -> LoggedRecords
         ensures { result ≡ [] }
     {
-        Records::new(Vec::new(self.alloc))
+        LoggedRecords::new(Records::new(Vec::new(self.alloc)))
     }
 
-    fn turn(&self, answer: Answer, took: u64, records: Records) -> Turn<LogConnection<E>>
+    fn turn(&self, answer: Answer, took: u64, records: LoggedRecords) -> Turn<LogConnection<E>>
         ensures { IsTurn self.now.conn answer took records result }
     {
         Turn {

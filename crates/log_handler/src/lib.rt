@@ -5,10 +5,12 @@
 mod connection;
 pub mod laws;
 mod line_sink;
+mod logged;
 mod note;
 mod peer;
 
 pub use connection::LogConnection;
 pub use line_sink::LineSink;
 pub use log_lines::EndKind;
+pub use logged::LoggedRecords;
 pub use note::ServerNote;

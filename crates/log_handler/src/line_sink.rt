@@ -1,32 +1,32 @@
 //! The watch that writes the lines of a journal's notes.
-ghost use Rattle.std.specs.Prelude.{◌≡◌, ◌≤◌, ◌+◌, ◌++◌, ◌∷◌, ℕ, List, [], Some, MatchOption, true, false, length};
+ghost use Rattle.std.specs.Prelude.{◌≡◌, ◌≤◌, ◌++◌, ◌∷◌, ℕ, List, [], Some, MatchOption, true, false};
 ghost use Rattle.ev_base.specs.Counts.{Rose};
 ghost use Rattle.ev_base.specs.Terms.{Terms};
-ghost use Rattle.ev_base.specs.Sink.{SinkFacts};
 ghost use Rattle.sink_buffer.specs.Texts.{Puts};
-ghost use Rattle.sink_buffer.specs.Gathers.{Gathers, HasPut, held_of};
+ghost use Rattle.log_lines.specs.Texts.{record_line, record_lines, closing_line};
 ghost use Rattle.log_handler.specs.Notes.{note_lines, entry_lines};
 
-use crate::ServerNote;
+use crate::{LoggedRecords, ServerNote};
+use cdr_record::LogRecord;
 use ev_base::Sink;
-use log_lines::{put_closing_line, put_record_lines};
+use log_lines::{EndKind, put_closing_line, put_record_line};
 use reactor_journal::Entry;
 use reactor_model::Watch;
-use sink_buffer::{SinkBuffer, TextOut};
+use sink_buffer::{DirectSink, ShortText, TextOut};
 use tally::Tally;
 
-/// A watch that writes the lines of the notes of a journal as its entries are appended. It gathers the lines of a note in a fixed
-/// buffer of 8,192 bytes: where they fit, they are written together, and else a full buffer at a time. It takes no memory, and
-/// writes nothing more once a write failed.
+/// A watch that writes the lines of the notes of a journal as its entries are appended. The text of a piece's lines is written in one
+/// call where its note has it, and a closing line in one too. Lines without a text are made here, a record at a time. It holds nothing
+/// back, takes no memory, and writes nothing more once a write failed.
 #[derive(Drop)]
 pub struct LineSink<K> {
-    buffer: SinkBuffer<K>,
+    output: DirectSink<K>,
     // How many entries it has seen, from the first on, without a failed write.
     whole: Tally,
 }
 
 impl<K: Sink> LineSink<K> {
-    ghost use Rattle.log_handler.specs.LineSink.{PutsLines, is_broken, sink_of, whole_of};
+    ghost use Rattle.log_handler.specs.LineSink.{PutsLines, is_broken, sink_of};
 
     /// A watch that has seen nothing, over this sink.
     pub fn new(output: K) -> LineSink<K>
@@ -36,7 +36,7 @@ impl<K: Sink> LineSink<K> {
         ensures sound { is_broken result ≡ false }
     {
         LineSink {
-            buffer: SinkBuffer::new(output),
+            output: DirectSink::new(output),
             whole: Tally::none(),
         }
     }
@@ -45,40 +45,7 @@ impl<K: Sink> LineSink<K> {
     pub fn into_output(self) -> K
         ensures { result ≡ sink_of self }
     {
-        self.buffer.into_output()
-    }
-
-    /// Writes the lines of an entry.
-    fn write_entry(&mut self, entry: &Entry<ServerNote>)
-        ensures text { (start : SinkFacts) (put : List ℕ) → Gathers K.facts start self.old.buffer put
-            → Gathers K.facts start self.new.buffer (put ++ entry_lines entry.now) }
-        ensures held { held_of self.old.buffer ≡ [] → held_of self.new.buffer ≡ [] }
-        ensures whole { whole_of self.new ≡ whole_of self.old }
-    {
-        if let Some(note) = note_of(entry) {
-            self.write_note(note);
-        }
-    }
-
-    /// Puts the lines of a note, and writes what is held.
-    fn write_note(&mut self, note: &ServerNote)
-        ensures text { (start : SinkFacts) (put : List ℕ) → Gathers K.facts start self.old.buffer put
-            → Gathers K.facts start self.new.buffer (put ++ note_lines note.now) }
-        ensures held { held_of self.new.buffer ≡ [] }
-        ensures whole { whole_of self.new ≡ whole_of self.old }
-    {
-        self.hold_note(note);
-        self.buffer.flush();
-    }
-
-    /// Puts the lines of a note. Where the buffer has room for all of them, it holds them, and nothing is written.
-    fn hold_note(&mut self, note: &ServerNote)
-        ensures puts { Puts (HasPut K.facts) self.old.buffer (note_lines note.now) self.new.buffer }
-        ensures together { length (held_of self.old.buffer) + length (note_lines note.now) ≤ 8192
-            → (held_of self.new.buffer ≡ held_of self.old.buffer ++ note_lines note.now) × (sink_of self.new ≡ sink_of self.old) }
-        ensures whole { whole_of self.new ≡ whole_of self.old }
-    {
-        put_note(&mut self.buffer, note);
+        self.output.into_output()
     }
 }
 
@@ -93,14 +60,66 @@ fn note_of(entry: &Entry<ServerNote>) -> Option<&ServerNote>
     }
 }
 
+/// Puts the lines of an entry.
+fn put_entry<T: TextOut>(out: &mut T, entry: &Entry<ServerNote>)
+    ensures { Puts T.stands out.old (entry_lines entry.now) out.new }
+{
+    if let Some(note) = note_of(entry) {
+        put_note(out, note);
+    }
+}
+
 /// Puts the lines of a note.
 fn put_note<T: TextOut>(out: &mut T, note: &ServerNote)
     ensures { Puts T.stands out.old (note_lines note.now) out.new }
 {
     match note {
-        ServerNote::Piece { conn, records, .. } => put_record_lines(out, *conn, records.as_slice()),
-        ServerNote::Finished { conn, end } => put_closing_line(out, *conn, *end),
+        ServerNote::Piece { conn, records, .. } => put_piece(out, *conn, records),
+        ServerNote::Finished { conn, end } => put_closing(out, *conn, *end),
         _ => {}
+    }
+}
+
+/// Puts the lines of a piece's records: their text at once, where it is there, and else a line at a time.
+fn put_piece<T: TextOut>(out: &mut T, conn: u64, records: &LoggedRecords)
+    ensures { Puts T.stands out.old (record_lines conn records.now) out.new }
+{
+    match records.lines_for(conn) {
+        Some(text) => out.put(text),
+        None => put_each(out, conn, records.as_slice()),
+    }
+}
+
+/// Puts the lines of records one by one.
+fn put_each<T: TextOut>(out: &mut T, conn: u64, records: &[LogRecord])
+    ensures { Puts T.stands out.old (record_lines conn records.now) out.new }
+{
+    for entry in records {
+        put_record(out, conn, entry);
+    }
+}
+
+/// Puts a record's line, at once where it is short.
+fn put_record<T: TextOut>(out: &mut T, conn: u64, entry: &LogRecord)
+    ensures { Puts T.stands out.old (record_line conn entry.now) out.new }
+{
+    let mut line = ShortText::new();
+    put_record_line(&mut line, conn, entry);
+    match line.text() {
+        Some(text) => out.put(text),
+        None => put_record_line(out, conn, entry),
+    }
+}
+
+/// Puts a closing line at once.
+fn put_closing<T: TextOut>(out: &mut T, conn: u64, end: EndKind)
+    ensures { Puts T.stands out.old (closing_line conn end) out.new }
+{
+    let mut line = ShortText::new();
+    put_closing_line(&mut line, conn, end);
+    match line.text() {
+        Some(text) => out.put(text),
+        None => put_closing_line(out, conn, end),
     }
 }
 
@@ -126,18 +145,18 @@ impl<K: Sink> Watch<ServerNote> for LineSink<K> {
         ensures whole { whole_of self.old ≤ whole_of self.new }
         ensures quiet { is_broken self.old ≡ true → sink_of self.new ≡ sink_of self.old }
     {
-        if self.buffer.is_broken() {
+        if self.output.is_broken() {
             return;
         }
-        self.write_entry(entry);
-        if self.buffer.is_broken() {
+        put_entry(&mut self.output, entry);
+        if self.output.is_broken() {
             return;
         }
         self.whole.add(1);
     }
 
     fn broken(&self) -> bool {
-        self.buffer.is_broken()
+        self.output.is_broken()
     }
 
     ghost broke = { λ t watch h before stands broken started. breaks_above K.facts t watch h before stands broken started };

@@ -1,6 +1,6 @@
 //! What the server's handlers note.
 
-use cdr_record::Records;
+use crate::LoggedRecords;
 use log_lines::EndKind;
 
 /// What a handler of the logging server notes of a turn. Connections are numbered from 0, in the order in which they were accepted.
@@ -24,7 +24,7 @@ pub enum ServerNote {
         /// How many bytes it took.
         took: u64,
         /// The records that these complete, in order.
-        records: Records,
+        records: LoggedRecords,
     },
     /// A connection was closed.
     Finished {

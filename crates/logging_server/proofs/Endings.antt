@@ -68,11 +68,9 @@ module _ {K : Type 0} (facts : K → SinkFacts) (t : Terms) (o : SinkFacts) (ope
   wrote_all : is_broken sink ≡ false → TookAll o (journal_lines h) (facts (sink_of sink))
   wrote_all whole =
       let w = puts.put.whole whole in
-      let all : w.written ≡ journal_lines h = sym (append-nil w.written) ∙ (ap (λ (held : List ℕ). w.written ++ held) (sym puts.none_held) ∙ w.all) in
       record {
-        text = λ start told. grows puts.start.text (facts (sink_of sink)).text (journal_lines h) start (puts.opening start (opening ∙ told))
-            (subst (λ (bytes : List ℕ). GrowsBy puts.start.text bytes (facts (sink_of sink)).text) all w.takes.text);
-        faults = w.takes.faults ∙ puts.faults o.faults faults;
+        text = λ start told. grows puts.start.text (facts (sink_of sink)).text (journal_lines h) start (puts.opening start (opening ∙ told)) w.text;
+        faults = w.faults ∙ puts.faults o.faults faults;
       }
 
   wrote_front : is_broken sink ≡ true → BreaksLate o h (facts (sink_of sink))

@@ -4,7 +4,6 @@ use Rattle.std.proofs.lemmas.Bool.{cases_Bool}
 use Rattle.std.proofs.lemmas.List.{append-nil}
 use Rattle.ev_base.specs.Sink.{SinkFacts, GrowsBy}
 use Rattle.ev_base.specs.Terms.{Terms}
-use Rattle.sink_buffer.specs.Gathers.{held_of}
 use Rattle.reactor_journal.specs.declared.entry.Entry.{Entry}
 use Rattle.reactor_journal.specs.declared.entry.Entry.TheVariants.{Ended}
 use Rattle.reactor_journal.specs.Past.{past_of}
@@ -33,9 +32,9 @@ front_none (x ∷ xs) ys q = cc
 ended_text : {K : Type 0} (facts : K → SinkFacts) (t : Terms) (sink : LineSink K) (text : List ℕ) → t.opening ≡ Some text → PutsLines facts t sink (Ended ∷ []) → (facts (sink_of sink)).text ≡ Some text
 ended_text facts t sink text told p =
     ⊎_elim
-    (λ (broken : sink.buffer.broken ≡ true). let b = p.put.front broken in grows_nothing p.start.text (facts (sink_of sink)).text text b.front (p.opening text told) (front_none b.front b.is_front.0 (sym b.is_front.1)) b.text)
-    (λ (whole : sink.buffer.broken ≡ false). let w = p.put.whole whole in grows_nothing p.start.text (facts (sink_of sink)).text text w.written (p.opening text told) (front_none w.written (held_of sink.buffer) w.all) w.takes.text)
-    (cases_Bool sink.buffer.broken)
+    (λ (broken : is_broken sink ≡ true). let b = p.put.front broken in grows_nothing p.start.text (facts (sink_of sink)).text text b.front (p.opening text told) (front_none b.front b.is_front.0 (sym b.is_front.1)) b.text)
+    (λ (whole : is_broken sink ≡ false). grows_nothing p.start.text (facts (sink_of sink)).text text [] (p.opening text told) refl (p.put.whole whole).text)
+    (cases_Bool (is_broken sink))
 
 pub at_nothing : {H M Q W V N E : Type 0} (m : Meaning H M Q W V N E) (t : Terms) (core : Core H M Q W V N E) (F : ℕ) (h : List (Entry N)) → h ≡ [] → Stands m t core F h → Stands m t core F []
 at_nothing m t core F h is stands = subst (λ h. Stands m t core F h) is stands
@@ -54,8 +53,8 @@ pub none_or_end : {N : Type 0} (F : ℕ) (entries journal : List (Entry N)) → 
 none_or_end zero entries journal is within held = inr (held ∙ is)
 none_or_end (suc F) entries journal is within held = absurd (omega (arith, within))
 
--- a sink of lines that holds nothing back broke where the count of faults rose, and else that stands
+-- a sink of lines broke where the count of faults rose, and else that stands
 pub sink_faults : {K : Type 0} (facts : K → SinkFacts) (t : Terms) (sink : LineSink K) (journal : List (Entry ServerNote)) (n : ℕ) → t.output_faults ≡ Some n → PutsLines facts t sink journal
     → (broken : Bool) → broken ≡ is_broken sink → CountsWrite broken n (facts (sink_of sink)).faults
 sink_faults facts t sink journal n told p true is = subst (λ (n : ℕ). CountsWrite true n (facts (sink_of sink)).faults) (p.faults n told) (p.put.front (sym is)).rose
-sink_faults facts t sink journal n told p false is = (p.put.whole (sym is)).takes.faults ∙ p.faults n told
+sink_faults facts t sink journal n told p false is = (p.put.whole (sym is)).faults ∙ p.faults n told

@@ -5,10 +5,14 @@ use crate::running::{RECORD, serve};
 use cdr_record::{Bytes, LogRecord, Records};
 use ev_base::{MemSink, Sink, SteadySource, Wrote};
 use ev_types::{Answer, Handle, Mask};
-use log_handler::{EndKind, LineSink, ServerNote};
+use log_handler::{EndKind, LineSink, LoggedRecords, ServerNote};
 use reactor_model::{DropVolumes, Entry, Watch};
 use std::alloc::Global;
 use std::test::Fail;
+
+const LINE: &[u8] = b"3 1,2 7 LM_DEBUG: hi\n";
+
+const TWO_LINES: &[u8] = b"3 1,2 7 LM_DEBUG: hi\n3 1,2 7 LM_DEBUG: hi\n";
 
 /// A sink in memory that counts its writes.
 #[derive(Drop)]
@@ -31,8 +35,8 @@ fn counting_sink(alloc: Global) -> Result<CountingSink, Fail> {
     Ok(CountingSink { below, writes: 0 })
 }
 
-/// A turn of connection 3 with so many records.
-fn piece(alloc: Global, count: u64) -> Result<Entry<ServerNote>, Fail> {
+/// So many records, and with them the text of their lines for a connection's number, where one is given.
+fn logged(alloc: Global, count: u64, conn: Option<u64>) -> Result<LoggedRecords, Fail> {
     let mut records = Vec::new(alloc);
     for _ in 0..count {
         records.push(LogRecord {
@@ -43,15 +47,24 @@ fn piece(alloc: Global, count: u64) -> Result<Entry<ServerNote>, Fail> {
             text: Bytes::new(Vec::from_slice(alloc, b"hi")?),
         })?;
     }
-    Ok(Entry::Returned {
+    let records = Records::new(records);
+    Ok(match conn {
+        Some(conn) => LoggedRecords::with_lines(alloc, conn, records)?,
+        None => LoggedRecords::new(records),
+    })
+}
+
+/// A turn of connection 3 with these records.
+fn piece(records: LoggedRecords) -> Entry<ServerNote> {
+    Entry::Returned {
         event: 0,
         answer: Answer::Again,
         note: ServerNote::Piece {
             conn: 3,
             took: 30,
-            records: Records::new(records),
+            records,
         },
-    })
+    }
 }
 
 fn accepted() -> Entry<ServerNote> {
@@ -86,13 +99,13 @@ fn a_note_is_written_at_once(rt: HostRuntime) -> Result<(), Fail> {
     let table = [
         (accepted(), 0u64, b"".as_slice()),
         (opened(), 0, b""),
-        (piece(alloc, 0)?, 0, b""),
-        (piece(alloc, 1)?, 1, b"3 1,2 7 LM_DEBUG: hi\n"),
-        (
-            piece(alloc, 2)?,
-            1,
-            b"3 1,2 7 LM_DEBUG: hi\n3 1,2 7 LM_DEBUG: hi\n",
-        ),
+        (piece(logged(alloc, 0, None)?), 0, b""),
+        (piece(logged(alloc, 0, Some(3))?), 0, b""),
+        (piece(logged(alloc, 1, Some(3))?), 1, LINE),
+        (piece(logged(alloc, 2, Some(3))?), 1, TWO_LINES),
+        // without a text, or with that for another number, each line is made and written alone
+        (piece(logged(alloc, 2, None)?), 2, TWO_LINES),
+        (piece(logged(alloc, 2, Some(4))?), 2, TWO_LINES),
         (closed(EndKind::Idle), 1, b"3 closed: idle\n"),
         (closed(EndKind::Stopped), 1, b"3 closed: stopped\n"),
         (closed(EndKind::Refused), 1, b"3 closed: refused\n"),

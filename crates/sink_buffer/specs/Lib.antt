@@ -1,3 +1,5 @@
 pub mod Texts
 pub mod Written
 pub mod Gathers
+pub mod Direct
+pub mod Short

@@ -141,7 +141,7 @@ impl<K: Sink> TextOut for SinkBuffer<K> {
 }
 
 /// Writes all of some bytes, in as many writes as the sink needs, and tells whether none failed.
-fn write_all<K: Sink>(output: &mut K, bytes: &[u8]) -> bool
+pub(crate) fn write_all<K: Sink>(output: &mut K, bytes: &[u8]) -> bool
     ensures writes { WritesAll (K.facts output.old) bytes.now result (K.facts output.new) }
     ensures idle { length bytes.now ≡ 0 → output.new ≡ output.old }
 {
