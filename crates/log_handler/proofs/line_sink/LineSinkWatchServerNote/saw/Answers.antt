@@ -1,4 +1,4 @@
-use Rattle.std.proofs.Common.{sym, ap, ◌+◌, ◌∙◌, refl}
+use Rattle.std.proofs.Common.{sym, ◌∙◌, refl}
 use Rattle.log_handler.proofs.Lines.{saw-broken, saw-whole, saw-failed, later-more, breaks-more}
 use Rattle.log_handler.proofs.line_sink.LineSinkWatchServerNote.saw.Goals as goal
 
