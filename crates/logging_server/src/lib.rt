@@ -9,4 +9,5 @@ mod top;
 
 pub use fault::{FaultLine, fault_line};
 pub use no_host::NoHost;
+pub use one_net::OneEnd;
 pub use top::{Served, logd_main};
