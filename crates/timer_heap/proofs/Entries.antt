@@ -2,13 +2,11 @@
 use Rattle.std.proofs.Common.{ℕ, ◌≡◌, ◌≢◌, ◌<◌, ◌≤◌, true, List, length, get_or, sym, ap, ◌∙◌, subst, arith, ◌⊎◌, inl, inr, Contains}
 use Rattle.std.proofs.lemmas.Bool.{cases_eq, cases_lt, lt-ltb, ltb-true}
 use Rattle.std.proofs.lemmas.List.{get_or_default}
-use Rattle.std.specs.List.{AllPairs, All, AllWithin, HoldsAt}
+use Rattle.std.specs.List.{All, AllWithin, HoldsAt}
 use Rattle.std.specs.List.Sorted.{IsPartitionedBy}
 use Rattle.std.specs.Prelude.{nat_lt}
 use Rattle.timer_heap.specs.declared.index.Numbered.{Numbered}
-
-abbrev pub IsRising : List Numbered → Type 0
-IsRising index = AllPairs (λ e f. e.timer < f.timer) index
+use Rattle.timer_heap.specs.Tree.{IsRising}
 
 -- in a rising index the numbers below one stand in front
 pub rising_parted : (index : List Numbered) (timer : ℕ) → IsRising index → IsPartitionedBy (λ e. nat_lt e.timer timer) index

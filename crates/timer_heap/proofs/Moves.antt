@@ -5,7 +5,8 @@ use Rattle.std.proofs.lemmas.List.Sorted.{IsPermutation-refl, IsPermutation-swap
 use Rattle.std.specs.List.{swap}
 use Rattle.timer_queue.specs.declared.timer.Timer.{Timer}
 use Rattle.timer_queue.specs.Timers.{AreApart}
-use Rattle.timer_heap.specs.Tree.{AreMoved}
+use Rattle.timer_heap.specs.declared.tree.Tree.{Tree}
+use Rattle.timer_heap.specs.Tree.{AreMoved, KeepsRoom}
 use Rattle.timer_queue.proofs.Swaps.{brought, brought_within, get_or-swap, apart_permutation}
 
 pub moved_nowhere : (slots : List Timer) (keys : List ℕ) → AreMoved slots slots keys keys
@@ -34,6 +35,9 @@ moved_swap slots keys i j l m fits =
 pub moved_on : (a b c : List Timer) (x y z : List ℕ) (i j : ℕ) → AreMoved a b x y → i < length b → j < length b → length b ≤ length y → c ≡ swap b i j → z ≡ swap y i j → AreMoved a c x z
 moved_on a b c x y z i j h l m fits is_slots is_keys =
     moved_then a b c x y z h (subst (λ s. AreMoved b s y z) (sym is_slots) (subst (λ s. AreMoved b (swap b i j) y s) (sym is_keys) (moved_swap b y i j l m fits)))
+
+pub room_kept : (a b c : Tree) → KeepsRoom a b → KeepsRoom b c → KeepsRoom a c
+room_kept a b c h k = record { places = k.places ∙ h.places; capacity = k.capacity ∙ h.capacity }
 
 pub apart_moved : (a b : List Timer) (x y : List ℕ) → AreMoved a b x y → AreApart a → AreApart b
 apart_moved a b x y h apart = apart_permutation a b h.slots apart

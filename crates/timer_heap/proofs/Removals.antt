@@ -10,7 +10,7 @@ use Rattle.std.proofs.lemmas.List.Folds.{list_any_none}
 use Rattle.std.proofs.lemmas.List.Kept.{AllPairs-filter}
 use Rattle.std.proofs.lemmas.Map.Steps.{length-le_from_distinct_below}
 use Rattle.std.proofs.lemmas.Option.{slice_get-get_or, get_or_from_slice_get, slice_get_within}
-use Rattle.std.specs.List.{swap, slice_get, filter, list_any, All, AllPairs, IsDistinct}
+use Rattle.std.specs.List.{swap, slice_get, filter, list_any, All, IsDistinct}
 use Rattle.std.specs.List.Sorted.{IsPermutation}
 use Rattle.timer_queue.specs.declared.timer.Timer.{Timer}
 use Rattle.timer_queue.specs.Timers.{comes_before, is_scheduled}
@@ -18,7 +18,7 @@ use Rattle.timer_queue.proofs.Schedules.{before_trans}
 use Rattle.timer_queue.proofs.Places.{none_at}
 use Rattle.timer_heap.specs.declared.index.Numbered.{Numbered}
 use Rattle.timer_heap.specs.Heap.{parent, IsHeap}
-use Rattle.timer_heap.specs.Tree.{ArePairs, IsHeapAround, IsIndex, IsKeyed, matched, found_at, place_in, IsSound}
+use Rattle.timer_heap.specs.Tree.{ArePairs, IsHeapAround, IsIndex, IsKeyed, IsRising, matched, found_at, place_in, IsSound}
 use Rattle.timer_queue.proofs.Swaps.{brought, brought_within, get_or-swap}
 use Rattle.timer_heap.proofs.Sifts.{other_is}
 use Rattle.timer_queue.proofs.Contents.{apart_removed}
@@ -166,7 +166,7 @@ module _ (slots : List Timer) (keys places : List ℕ) where
       let z : (get_or slots (led_to e) d).timer ≡ (get_or slots (led_to f) d).timer = ap (λ i. (get_or slots i d).timer) same in
       omega arith)
 
-  led_distinct : (es : List Numbered) → AllPairs (λ e f. e.timer < f.timer) es → All (λ e. leads e ≡ true) es → IsDistinct eqb (map led_to es)
+  led_distinct : (es : List Numbered) → IsRising es → All (λ e. leads e ≡ true) es → IsDistinct eqb (map led_to es)
   unfolding IsDistinct
   led_distinct [] r h = tt
   led_distinct (e ∷ es) r h = (
@@ -176,7 +176,7 @@ module _ (slots : List Timer) (keys places : List ℕ) where
   )
 
   -- entries that lead to timers are no more than the timers
-  pub length-leading : (index : List Numbered) → AllPairs (λ e f. e.timer < f.timer) index → All (λ e. leads e ≡ true) index → length index ≤ length slots
+  pub length-leading : (index : List Numbered) → IsRising index → All (λ e. leads e ≡ true) index → length index ≤ length slots
   length-leading index rising all =
       let n : length (map led_to index) ≡ length index = length-map index led_to in
       let m : length (map led_to index) ≤ length slots = length-le_from_distinct_below (map led_to index) (length slots) (led_distinct index rising all) (led_within index all) in
@@ -218,7 +218,7 @@ sound_taken t old new x y p q index room more index_room sound perm heap pairs k
   index_fits = omega (arith, sound.index_fits);
 }
 
-pub index_added : (index more : List Numbered) (slots new : List Timer) (keys new_keys : List ℕ) (t : Timer) (key : ℕ) → IsIndex index slots keys → AllPairs (λ e f. e.timer < f.timer) more
+pub index_added : (index more : List Numbered) (slots new : List Timer) (keys new_keys : List ℕ) (t : Timer) (key : ℕ) → IsIndex index slots keys → IsRising more
     → Contains more (record { timer = t.timer; key = key }) → ((e : Numbered) → e.timer ≢ t.timer → Contains index e → Contains more e) → key ≡ get_or keys (length slots) 0 → is_scheduled t.timer slots ≡ false
     → ArePairs (slots ++ t ∷ []) new keys new_keys → IsIndex more new new_keys
 index_added index more slots new keys new_keys t key h rising there others last fresh pairs = record {

@@ -1,16 +1,25 @@
 -- How a heap keeps track of where its timers are.
-use Rattle.std.specs.Prelude.{ℕ, ◌≡◌, ◌≢◌, ◌<◌, ◌≤◌, true, List, length, slice_index_or, slice_index, slice_get, AllPairs, Contains, Option, Some, None, if◌then◌else◌, ◌==◌}
+use Rattle.std.specs.Prelude.{ℕ, ◌≡◌, ◌≢◌, ◌<◌, ◌≤◌, true, List, length, slice_index_or, slice_index, slice_get, vec_capacity, AllPairs, Contains, Option, Some, None, if◌then◌else◌, ◌==◌}
 use Rattle.std.specs.List.{AllWithin}
 use Rattle.std.specs.List.Sorted.{IsPermutation}
 use Rattle.timer_queue.specs.declared.timer.Timer.{Timer}
 use Rattle.timer_queue.specs.Timers.{comes_before, AreApart}
 use Rattle.timer_heap.specs.declared.index.Numbered.{Numbered}
+use Rattle.timer_heap.specs.declared.tree.Tree.{Tree}
 use Rattle.timer_heap.specs.Heap.{parent, IsHeap}
 
 -- each place has a key of its own, also those that are free, and each key knows its place
 pub record IsKeyed (slots : List Timer) (keys places : List ℕ) : Type 0 where
   pub fits : length slots ≤ length keys
   pub placed : (k : ℕ) → k < length keys → (slice_index keys k < length places) × (slice_index places (slice_index keys k) ≡ k)
+
+abbrev pub HasKeys : Tree → Type 0
+HasKeys tree = IsKeyed tree.slots.items tree.keys.items tree.places.items
+
+-- as many keys have places, and the slots have as much room
+pub record KeepsRoom (old new : Tree) : Type 0 where
+  pub places : length new.places.items ≡ length old.places.items
+  pub capacity : vec_capacity new.slots ≡ vec_capacity old.slots
 
 -- each timer that is there now was there before, with the same key
 abbrev pub ArePairs : List Timer → List Timer → List ℕ → List ℕ → Type 0
@@ -42,9 +51,13 @@ pub record IsHeapAround (slots : List Timer) (at : ℕ) : Type 0 where
   pub others : (k : ℕ) (d : Timer) → 0 < k → k < length slots → k ≢ at → parent k ≢ at → comes_before (slice_index_or slots (parent k) d) (slice_index_or slots k d) ≡ true
   pub across : (k : ℕ) (d : Timer) → 0 < at → 0 < k → k < length slots → parent k ≡ at → comes_before (slice_index_or slots (parent at) d) (slice_index_or slots k d) ≡ true
 
+-- the entries of the index rise by number
+abbrev pub IsRising : List Numbered → Type 0
+IsRising index = AllPairs (λ e f. e.timer < f.timer) index
+
 -- the index rises by number, and has each timer of the heap with its key
 pub record IsIndex (index : List Numbered) (slots : List Timer) (keys : List ℕ) : Type 0 where
-  pub rising : AllPairs (λ e f. e.timer < f.timer) index
+  pub rising : IsRising index
   pub covers : (k : ℕ) (d : Timer) → k < length slots → Contains index (record { timer = (slice_index_or slots k d).timer; key = slice_index keys k })
 
 -- the place of an entry: that of its key, where a timer of its number stands there

@@ -1,8 +1,8 @@
 //! The index of a timer heap: the keys of timers by their numbers.
-ghost use Rattle.std.specs.Prelude.{◌≡◌, ◌≢◌, ◌<◌, ◌≤◌, ℕ, AllPairs, Contains, All, MatchOption, length, vec_len, vec_capacity};
+ghost use Rattle.std.specs.Prelude.{◌≡◌, ◌≢◌, ◌<◌, ◌≤◌, ℕ, Contains, All, MatchOption, length, vec_len, vec_capacity};
 ghost use Rattle.std.specs.List.{HoldsAt, AllWithin};
 ghost use Rattle.timer_heap.specs.declared.index.Numbered.{Numbered};
-ghost use Rattle.timer_heap.specs.Tree.{IsIndex, IsKeyed};
+ghost use Rattle.timer_heap.specs.Tree.{HasKeys, IsIndex, IsRising};
 
 use crate::tree::{Tree, place_of};
 
@@ -15,7 +15,7 @@ pub struct Numbered {
 
 // The place of the first number that is not below this one.
 pub fn first_from(index: &[Numbered], timer: u64) -> usize
-    requires { AllPairs (λ e f. e.timer < f.timer) index.now }
+    requires { IsRising index.now }
     ensures bound { result ≤ length index.now }
     ensures below { AllWithin (λ e. e.timer < timer) index.now 0 result }
     ensures above { AllWithin (λ e. timer ≤ e.timer) index.now result (length index.now) }
@@ -25,7 +25,7 @@ pub fn first_from(index: &[Numbered], timer: u64) -> usize
 
 // The entry of this number.
 pub fn entry_of(index: &[Numbered], timer: u64) -> Option<Numbered>
-    requires { AllPairs (λ e f. e.timer < f.timer) index.now }
+    requires { IsRising index.now }
     ensures { MatchOption result
         (All (λ e. e.timer ≢ timer) index.now)
         (λ entry. (entry.timer ≡ timer) × ((key : ℕ) → Contains index.now (record { timer = timer; key = key }) → key ≡ entry.key)) }
@@ -40,9 +40,9 @@ pub fn entry_of(index: &[Numbered], timer: u64) -> Option<Numbered>
 
 // Puts an entry in, in place of one that has its number.
 pub fn put(index: &mut Vec<Numbered>, entry: Numbered)
-    requires rising { AllPairs (λ e f. e.timer < f.timer) index.old.items }
+    requires rising { IsRising index.old.items }
     requires room { vec_len index.old < vec_capacity index.old }
-    ensures rising { AllPairs (λ e f. e.timer < f.timer) index.new.items }
+    ensures rising { IsRising index.new.items }
     ensures there { Contains index.new.items entry }
     ensures others { (e : Numbered) → e.timer ≢ entry.timer → Contains index.old.items e → Contains index.new.items e }
     ensures capacity { vec_capacity index.old ≤ vec_capacity index.new }
@@ -61,7 +61,7 @@ pub fn put(index: &mut Vec<Numbered>, entry: Numbered)
 // Makes room for one entry more, where there is none, by forgetting the entries of timers that left.
 pub fn make_room(index: &mut Vec<Numbered>, tree: &Tree)
     requires sound { IsIndex index.old.items tree.now.slots.items tree.now.keys.items }
-    requires keyed { IsKeyed tree.now.slots.items tree.now.keys.items tree.now.places.items }
+    requires keyed { HasKeys tree.now }
     requires room { length tree.now.slots.items < vec_capacity index.old }
     ensures sound { IsIndex index.new.items tree.now.slots.items tree.now.keys.items }
     ensures room { vec_len index.new < vec_capacity index.new }

@@ -4,7 +4,7 @@ ghost use Rattle.std.specs.List.Sorted.{IsPermutation};
 ghost use Rattle.timer_queue.specs.declared.timer.Timer.{Timer};
 ghost use Rattle.timer_queue.specs.Timers.{comes_before, AreApart};
 ghost use Rattle.timer_heap.specs.Heap.{parent, IsHeap, OnPath};
-ghost use Rattle.timer_heap.specs.Tree.{IsClear, IsKeyed, AreMoved, IsHeapBelow, IsHeapAbove, IsHeapAround, ArePairs, place_in};
+ghost use Rattle.timer_heap.specs.Tree.{IsClear, HasKeys, KeepsRoom, AreMoved, IsHeapBelow, IsHeapAbove, IsHeapAround, ArePairs, place_in};
 
 use crate::index::Numbered;
 use timer_queue::Timer;
@@ -22,14 +22,13 @@ pub struct Tree {
 
 // Exchanges the timers at two places, and their keys.
 fn exchange(tree: &mut Tree, a: usize, b: usize)
-    requires keyed { IsKeyed tree.old.slots.items tree.old.keys.items tree.old.places.items }
+    requires keyed { HasKeys tree.old }
     requires a_within { a < length tree.old.slots.items }
     requires b_within { b < length tree.old.slots.items }
     ensures slots { tree.new.slots.items ≡ swap tree.old.slots.items a b }
     ensures keys { tree.new.keys.items ≡ swap tree.old.keys.items a b }
-    ensures keyed { IsKeyed tree.new.slots.items tree.new.keys.items tree.new.places.items }
-    ensures places { length tree.new.places.items ≡ length tree.old.places.items }
-    ensures capacity { vec_capacity tree.new.slots ≡ vec_capacity tree.old.slots }
+    ensures keyed { HasKeys tree.new }
+    ensures room { KeepsRoom tree.old tree.new }
 {
     tree.slots.swap(a, b);
     tree.keys.swap(a, b);
@@ -39,16 +38,15 @@ fn exchange(tree: &mut Tree, a: usize, b: usize)
 
 // Moves the timer at a place up until it comes after its parent.
 pub fn sift_up(tree: &mut Tree, from: usize)
-    requires keyed { IsKeyed tree.old.slots.items tree.old.keys.items tree.old.places.items }
+    requires keyed { HasKeys tree.old }
     requires within { from < length tree.old.slots.items }
     requires apart { AreApart tree.old.slots.items }
     requires heap { IsHeapBelow tree.old.slots.items from }
     ensures heap { IsHeap tree.new.slots.items }
     ensures path { (k : ℕ) (d : Timer) → (OnPath k from → ⊥) → slice_index_or tree.new.slots.items k d ≡ slice_index_or tree.old.slots.items k d }
     ensures moved { AreMoved tree.old.slots.items tree.new.slots.items tree.old.keys.items tree.new.keys.items }
-    ensures keyed { IsKeyed tree.new.slots.items tree.new.keys.items tree.new.places.items }
-    ensures places { length tree.new.places.items ≡ length tree.old.places.items }
-    ensures capacity { vec_capacity tree.new.slots ≡ vec_capacity tree.old.slots }
+    ensures keyed { HasKeys tree.new }
+    ensures room { KeepsRoom tree.old tree.new }
 {
     let mut at = from;
     while at > 0 {
@@ -83,16 +81,15 @@ fn first_child(slots: &[Timer], at: usize) -> Option<usize>
 
 // Moves the timer at a place down until it comes before its children.
 pub fn sift_down(tree: &mut Tree, from: usize)
-    requires keyed { IsKeyed tree.old.slots.items tree.old.keys.items tree.old.places.items }
+    requires keyed { HasKeys tree.old }
     requires within { from < length tree.old.slots.items }
     requires apart { AreApart tree.old.slots.items }
     requires heap { IsHeapAbove tree.old.slots.items from }
     ensures heap { IsHeap tree.new.slots.items }
     ensures clear { (handle : ℕ) → IsClear handle tree.old.slots.items from → IsClear handle tree.new.slots.items from }
     ensures moved { AreMoved tree.old.slots.items tree.new.slots.items tree.old.keys.items tree.new.keys.items }
-    ensures keyed { IsKeyed tree.new.slots.items tree.new.keys.items tree.new.places.items }
-    ensures places { length tree.new.places.items ≡ length tree.old.places.items }
-    ensures capacity { vec_capacity tree.new.slots ≡ vec_capacity tree.old.slots }
+    ensures keyed { HasKeys tree.new }
+    ensures room { KeepsRoom tree.old tree.new }
 {
     let mut at = from;
     while let Some(child) = first_child(&tree.slots, at) {
@@ -106,16 +103,15 @@ pub fn sift_down(tree: &mut Tree, from: usize)
 
 // Moves a timer that stands in another's place up or down.
 fn settle(tree: &mut Tree, place: usize)
-    requires keyed { IsKeyed tree.old.slots.items tree.old.keys.items tree.old.places.items }
+    requires keyed { HasKeys tree.old }
     requires within { place < length tree.old.slots.items }
     requires apart { AreApart tree.old.slots.items }
     requires heap { IsHeapAround tree.old.slots.items place }
     ensures heap { IsHeap tree.new.slots.items }
     ensures clear { (handle : ℕ) → IsClear handle tree.old.slots.items place → IsClear handle tree.new.slots.items (place + 1) }
     ensures moved { AreMoved tree.old.slots.items tree.new.slots.items tree.old.keys.items tree.new.keys.items }
-    ensures keyed { IsKeyed tree.new.slots.items tree.new.keys.items tree.new.places.items }
-    ensures places { length tree.new.places.items ≡ length tree.old.places.items }
-    ensures capacity { vec_capacity tree.new.slots ≡ vec_capacity tree.old.slots }
+    ensures keyed { HasKeys tree.new }
+    ensures room { KeepsRoom tree.old tree.new }
 {
     if place > 0 && tree.slots[place].comes_before(&tree.slots[(place - 1) / 2]) {
         sift_up(tree, place);
@@ -126,7 +122,7 @@ fn settle(tree: &mut Tree, place: usize)
 
 // Takes the timer at a place out, and puts the last in its place.
 fn replace_by_last(tree: &mut Tree, place: usize) -> Timer
-    requires keyed { IsKeyed tree.old.slots.items tree.old.keys.items tree.old.places.items }
+    requires keyed { HasKeys tree.old }
     requires within { place < length tree.old.slots.items }
     requires heap { IsHeap tree.old.slots.items }
     ensures taken { (d : Timer) → result ≡ slice_index_or tree.old.slots.items place d }
@@ -134,10 +130,9 @@ fn replace_by_last(tree: &mut Tree, place: usize) -> Timer
     ensures heap { IsHeapAround tree.new.slots.items place }
     ensures clear { (handle : ℕ) → IsClear handle tree.old.slots.items (place + 1) → IsClear handle tree.new.slots.items place }
     ensures pairs { ArePairs tree.old.slots.items tree.new.slots.items tree.old.keys.items tree.new.keys.items }
-    ensures keyed { IsKeyed tree.new.slots.items tree.new.keys.items tree.new.places.items }
-    ensures places { length tree.new.places.items ≡ length tree.old.places.items }
+    ensures keyed { HasKeys tree.new }
     ensures keys { length tree.new.keys.items ≡ length tree.old.keys.items }
-    ensures capacity { vec_capacity tree.new.slots ≡ vec_capacity tree.old.slots }
+    ensures room { KeepsRoom tree.old tree.new }
 {
     let last = tree.slots.len() - 1;
     exchange(tree, place, last);
@@ -149,7 +144,7 @@ fn replace_by_last(tree: &mut Tree, place: usize) -> Timer
 
 // Takes the timer at a place out.
 pub fn take_out(tree: &mut Tree, place: usize) -> Timer
-    requires keyed { IsKeyed tree.old.slots.items tree.old.keys.items tree.old.places.items }
+    requires keyed { HasKeys tree.old }
     requires within { place < length tree.old.slots.items }
     requires apart { AreApart tree.old.slots.items }
     requires heap { IsHeap tree.old.slots.items }
@@ -158,10 +153,9 @@ pub fn take_out(tree: &mut Tree, place: usize) -> Timer
     ensures heap { IsHeap tree.new.slots.items }
     ensures clear { (handle : ℕ) → IsClear handle tree.old.slots.items (place + 1) → IsClear handle tree.new.slots.items (place + 1) }
     ensures pairs { ArePairs tree.old.slots.items tree.new.slots.items tree.old.keys.items tree.new.keys.items }
-    ensures keyed { IsKeyed tree.new.slots.items tree.new.keys.items tree.new.places.items }
-    ensures places { length tree.new.places.items ≡ length tree.old.places.items }
+    ensures keyed { HasKeys tree.new }
     ensures keys { length tree.new.keys.items ≡ length tree.old.keys.items }
-    ensures capacity { vec_capacity tree.new.slots ≡ vec_capacity tree.old.slots }
+    ensures room { KeepsRoom tree.old tree.new }
 {
     let t = replace_by_last(tree, place);
     if place >= tree.slots.len() {
@@ -173,7 +167,7 @@ pub fn take_out(tree: &mut Tree, place: usize) -> Timer
 
 // Adds a timer, behind the last and then up.
 pub fn add(tree: &mut Tree, t: Timer)
-    requires keyed { IsKeyed tree.old.slots.items tree.old.keys.items tree.old.places.items }
+    requires keyed { HasKeys tree.old }
     requires room { length tree.old.slots.items < length tree.old.keys.items }
     requires capacity { length tree.old.keys.items ≤ vec_capacity tree.old.slots }
     requires apart { AreApart (tree.old.slots.items ++ t ∷ []) }
@@ -181,9 +175,8 @@ pub fn add(tree: &mut Tree, t: Timer)
     ensures heap { IsHeap tree.new.slots.items }
     ensures path { (k : ℕ) (d : Timer) → k < length tree.old.slots.items → (OnPath k (length tree.old.slots.items) → ⊥) → slice_index_or tree.new.slots.items k d ≡ slice_index_or tree.old.slots.items k d }
     ensures moved { AreMoved (tree.old.slots.items ++ t ∷ []) tree.new.slots.items tree.old.keys.items tree.new.keys.items }
-    ensures keyed { IsKeyed tree.new.slots.items tree.new.keys.items tree.new.places.items }
-    ensures places { length tree.new.places.items ≡ length tree.old.places.items }
-    ensures capacity { vec_capacity tree.new.slots ≡ vec_capacity tree.old.slots }
+    ensures keyed { HasKeys tree.new }
+    ensures room { KeepsRoom tree.old tree.new }
 {
     let last = tree.slots.len();
     tree.slots.push_reserved(t);
@@ -205,13 +198,13 @@ pub fn place_of(tree: &Tree, entry: &Numbered) -> Option<usize>
 
 // Makes keys up to this number. Their places are free.
 pub fn make_keys(tree: &mut Tree, end: usize)
-    requires keyed { IsKeyed tree.old.slots.items tree.old.keys.items tree.old.places.items }
+    requires keyed { HasKeys tree.old }
     requires places { length tree.old.places.items ≡ length tree.old.keys.items }
     requires more { length tree.old.keys.items ≤ end }
     requires keys_room { end ≤ vec_capacity tree.old.keys }
     requires places_room { end ≤ vec_capacity tree.old.places }
     ensures slots { tree.new.slots ≡ tree.old.slots }
-    ensures keyed { IsKeyed tree.new.slots.items tree.new.keys.items tree.new.places.items }
+    ensures keyed { HasKeys tree.new }
     ensures keys { length tree.new.keys.items ≡ end }
     ensures places { length tree.new.places.items ≡ end }
     ensures kept { (k : ℕ) → k < length tree.old.keys.items → slice_index tree.new.keys.items k ≡ slice_index tree.old.keys.items k }

@@ -5,13 +5,13 @@ use Rattle.timer_queue.specs.declared.timer.Timer.{Timer}
 use Rattle.timer_queue.specs.Timers.{comes_before, AreApart}
 use Rattle.timer_heap.specs.Heap.{parent}
 use Rattle.timer_heap.specs.Tree.{IsHeapAbove}
-use Rattle.timer_heap.proofs.Moves.{moved_nowhere, moved_on, apart_moved}
+use Rattle.timer_heap.proofs.Moves.{moved_nowhere, room_kept, moved_on, apart_moved}
 use Rattle.timer_heap.proofs.Clear.{clear_swap}
 use Rattle.timer_heap.proofs.Sifts.{sifted_down, other_first, compared}
 use Rattle.timer_heap.proofs.tree.sift_down.Goals as goal
 
 pub loop-child-init : goal.loop-child-init
-loop-child-init c = record { from = omega arith; clear = λ handle clear. clear; within = c.requires.within; heap = c.requires.heap; moved = moved_nowhere _ _; keyed = c.requires.keyed; places = refl; capacity = refl }
+loop-child-init c = record { from = omega arith; clear = λ handle clear. clear; within = c.requires.within; heap = c.requires.heap; moved = moved_nowhere _ _; keyed = c.requires.keyed; room = record { places = refl; capacity = refl } }
 
 pub first_child-requires-clause-apart : goal.first_child-requires-clause-apart
 first_child-requires-clause-apart c = rw c.deref.ensures.value (apart_moved _ _ _ _ c.loop-child.invariant.moved c.requires.apart)
@@ -36,6 +36,5 @@ loop-child-preserved c =
       heap = subst (λ s. IsHeapAbove s child) (sym c.exchange.ensures.slots) (sifted_down slots at child l is.0 is.1 is.2 first (rw c.deref.ensures.value at c.in-Some.ensures.first) c.loop-child.invariant.heap);
       moved = moved_on _ slots _ _ c.loop-child.tree.keys.items _ at child c.loop-child.invariant.moved l is.1 c.loop-child.invariant.keyed.fits c.exchange.ensures.slots c.exchange.ensures.keys;
       keyed = c.exchange.ensures.keyed;
-      places = c.exchange.ensures.places ∙ c.loop-child.invariant.places;
-      capacity = c.exchange.ensures.capacity ∙ c.loop-child.invariant.capacity;
+      room = room_kept _ _ _ c.loop-child.invariant.room c.exchange.ensures.room;
     }

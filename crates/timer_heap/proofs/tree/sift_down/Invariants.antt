@@ -1,6 +1,5 @@
 use Rattle.std.proofs.Common.{ℕ, ◌≡◌, ◌<◌, ◌≤◌, ◌-◌, length}
-use Rattle.std.specs.Vec.{vec_capacity}
-use Rattle.timer_heap.specs.Tree.{IsClear, IsKeyed, AreMoved, IsHeapAbove}
+use Rattle.timer_heap.specs.Tree.{IsClear, HasKeys, KeepsRoom, AreMoved, IsHeapAbove}
 use Rattle.timer_heap.proofs.tree.sift_down.Given as goal
 
 abbrev pub invariant-loop-child : goal.invariant-loop-child
@@ -10,9 +9,8 @@ invariant-loop-child l = record {
   within : l.at < length l.tree.slots.items;
   heap : IsHeapAbove l.tree.slots.items l.at;
   moved : AreMoved l.initial.tree.slots.items l.tree.slots.items l.initial.tree.keys.items l.tree.keys.items;
-  keyed : IsKeyed l.tree.slots.items l.tree.keys.items l.tree.places.items;
-  places : length l.tree.places.items ≡ length l.initial.tree.places.items;
-  capacity : vec_capacity l.tree.slots ≡ vec_capacity l.initial.tree.slots;
+  keyed : HasKeys l.tree;
+  room : KeepsRoom l.initial.tree l.tree;
 }
 
 abbrev pub decreases-loop-child : goal.decreases-loop-child

@@ -6,12 +6,12 @@ use Rattle.timer_queue.specs.Timers.{comes_before, AreApart}
 use Rattle.timer_heap.specs.Heap.{parent}
 use Rattle.timer_heap.specs.Heap.OnPath.{here}
 use Rattle.timer_heap.specs.Tree.{IsHeapBelow}
-use Rattle.timer_heap.proofs.Moves.{moved_nowhere, moved_on, apart_moved}
+use Rattle.timer_heap.proofs.Moves.{moved_nowhere, room_kept, moved_on, apart_moved}
 use Rattle.timer_heap.proofs.Sifts.{settled_up, sifted_up, other_first, compared, path_up, kept_off_path}
 use Rattle.timer_heap.proofs.tree.sift_up.Goals as goal
 
 pub loop-at-init : goal.loop-at-init
-loop-at-init c = record { within = c.requires.within; heap = c.requires.heap; on_path = here; path = λ k d h. refl; moved = moved_nowhere _ _; keyed = c.requires.keyed; places = refl; capacity = refl }
+loop-at-init c = record { within = c.requires.within; heap = c.requires.heap; on_path = here; path = λ k d h. refl; moved = moved_nowhere _ _; keyed = c.requires.keyed; room = record { places = refl; capacity = refl } }
 
 pub returns-then-not-comes_before-clause-heap : goal.returns-then-not-comes_before-clause-heap
 returns-then-not-comes_before-clause-heap c =
@@ -40,6 +40,5 @@ loop-at-preserved c =
       path = λ k d off. ap (λ s. get_or s k d) c.exchange.ensures.slots ∙ kept_off_path slots at c.args.from k d pos l c.loop-at.invariant.on_path off ∙ c.loop-at.invariant.path k d off;
       moved = moved_on _ slots _ _ c.loop-at.tree.keys.items _ at (parent at) c.loop-at.invariant.moved l m c.loop-at.invariant.keyed.fits c.exchange.ensures.slots c.exchange.ensures.keys;
       keyed = c.exchange.ensures.keyed;
-      places = c.exchange.ensures.places ∙ c.loop-at.invariant.places;
-      capacity = c.exchange.ensures.capacity ∙ c.loop-at.invariant.capacity;
+      room = room_kept _ _ _ c.loop-at.invariant.room c.exchange.ensures.room;
     }

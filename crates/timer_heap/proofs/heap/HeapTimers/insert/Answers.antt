@@ -25,7 +25,7 @@ invariant_of-self c =
       heap = c.add.ensures.heap;
       apart = apart_moved _ _ _ _ c.add.ensures.moved (apart_push c.args.t slots c.self.invariant.apart fresh);
       keyed = c.add.ensures.keyed;
-      each_key = c.add.ensures.places ∙ c.self.invariant.each_key ∙ sym c.add.ensures.moved.keys;
+      each_key = c.add.ensures.room.places ∙ c.self.invariant.each_key ∙ sym c.add.ensures.moved.keys;
       indexed = index_added c.make_room.new.index.items c.put.new.index.items slots c.add.new.tree.slots.items tree.keys.items c.add.new.tree.keys.items c.args.t c.index-key.result.now
           c.make_room.ensures.sound c.put.ensures.rising c.put.ensures.there c.put.ensures.others key (unscheduled c.args.t.timer slots fresh) c.add.ensures.moved.pairs;
       slots_fit = omega (arith, c.self.invariant.slots_fit, c.add.ensures.moved.keys);

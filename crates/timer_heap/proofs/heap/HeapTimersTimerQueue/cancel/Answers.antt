@@ -52,7 +52,7 @@ number c =
 pub invariant_of-self : goal.invariant_of-self
 invariant_of-self c =
     sound_taken c.take_out.result c.self.inside.tree.slots.items _ c.self.inside.tree.keys.items _ c.self.inside.tree.places.items _ _ _ _ _ c.self.invariant c.take_out.ensures.slots c.take_out.ensures.heap c.take_out.ensures.pairs
-    c.take_out.ensures.keyed c.take_out.ensures.places c.take_out.ensures.keys c.take_out.ensures.capacity
+    c.take_out.ensures.keyed c.take_out.ensures.room.places c.take_out.ensures.keys c.take_out.ensures.room.capacity
 
 pub returns-clause-found : goal.returns-clause-found
 returns-clause-found c =

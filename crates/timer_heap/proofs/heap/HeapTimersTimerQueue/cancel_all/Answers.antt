@@ -20,7 +20,7 @@ loop-end-preserved-then-index-handle c =
     let out : q c.take_out.result ≡ false = ap q (c.take_out.ensures.taken c.index.result.now ∙ sym (get_or_read tree.slots.items (c.loop-end.end - 1) _ (omega arith) c.index.ensures c.index.result.now)) ∙ ap not (eq-eqb _ _ c.if-index-handle.true) in
     record {
       sound = sound_taken c.take_out.result tree.slots.items _ tree.keys.items _ tree.places.items _ _ _ _ _ c.loop-end.invariant.sound c.take_out.ensures.slots c.take_out.ensures.heap c.take_out.ensures.pairs
-          c.take_out.ensures.keyed c.take_out.ensures.places c.take_out.ensures.keys c.take_out.ensures.capacity;
+          c.take_out.ensures.keyed c.take_out.ensures.room.places c.take_out.ensures.keys c.take_out.ensures.room.capacity;
       others = filter-removed c.take_out.result tree.slots.items c.take_out.new.tree.slots.items c.loop-end.invariant.sound.apart c.take_out.ensures.slots q out ∙ c.loop-end.invariant.others;
       keys = c.take_out.ensures.keys ∙ c.loop-end.invariant.keys;
       fewer = omega (arith, fewer c, c.loop-end.invariant.fewer);
