@@ -1,6 +1,6 @@
 //! A guess of the place of a handle, from how far its number is from the numbers of others.
-ghost use Rattle.std.specs.Prelude.{◌≡◌, ◌<◌, length, IfSome};
-ghost use Rattle.std.specs.List.{HoldsAt};
+ghost use Rattle.std.specs.Prelude.{IfSome};
+ghost use Rattle.sorted_handles.specs.Rising.{IsPlaceOf};
 
 use crate::search::HasHandle;
 use ev_types::Handle;
@@ -17,7 +17,7 @@ fn sought<T: HasHandle>(
     low: usize,
     high: usize,
 ) -> Option<usize>
-    ensures { IfSome result (λ place. (place < length items.now) × HoldsAt (λ item. T.number item ≡ handle.0) items.now place) }
+    ensures { IfSome result (λ place. IsPlaceOf T.number items.now handle.0 place) }
 {
     let (mut low, mut high, mut place) = (low, high, guess);
     for _ in 0..PROBES {
@@ -41,7 +41,7 @@ fn sought<T: HasHandle>(
 // last element as its number is from theirs: just so many, where no number between is missing. Else the guess is where it would stand
 // if the missing numbers were spread evenly, and it is sought from there. A guess that is far off costs probes and nothing else.
 pub fn near<T: HasHandle>(items: &[T], handle: Handle) -> Option<usize>
-    ensures { IfSome result (λ place. (place < length items.now) × HoldsAt (λ item. T.number item ≡ handle.0) items.now place) }
+    ensures { IfSome result (λ place. IsPlaceOf T.number items.now handle.0 place) }
 {
     let last = items.len().checked_sub(1)?;
     let before = handle.0.checked_sub(items[0].handle().0)?;

@@ -1,7 +1,7 @@
 //! The search among all elements.
 ghost use Rattle.std.specs.Prelude.{◌≡◌, ◌≢◌, ◌<◌, ◌≤◌, ℕ, length, All, MatchOption};
-ghost use Rattle.std.specs.List.{HoldsAt, AllWithin};
-ghost use Rattle.sorted_handles.specs.Rising.{IsRising};
+ghost use Rattle.std.specs.List.{AllWithin};
+ghost use Rattle.sorted_handles.specs.Rising.{IsPlaceOf, IsRising};
 
 use crate::guess::near;
 use ev_types::Handle;
@@ -29,7 +29,7 @@ pub fn first_from<T: HasHandle>(items: &[T], handle: Handle) -> usize
 fn bisected<T: HasHandle>(items: &[T], handle: Handle) -> Option<usize>
     ensures { MatchOption result
         (IsRising T.number items.now → All (λ item. T.number item ≢ handle.0) items.now)
-        (λ place. (place < length items.now) × HoldsAt (λ item. T.number item ≡ handle.0) items.now place) }
+        (λ place. IsPlaceOf T.number items.now handle.0 place) }
 {
     let place = first_from(items, handle);
     if place < items.len() && items[place].handle().0 == handle.0 {
@@ -44,7 +44,7 @@ fn bisected<T: HasHandle>(items: &[T], handle: Handle) -> Option<usize>
 pub fn place_of<T: HasHandle>(items: &[T], handle: Handle) -> Option<usize>
     ensures { MatchOption result
         (IsRising T.number items.now → All (λ item. T.number item ≢ handle.0) items.now)
-        (λ place. (place < length items.now) × HoldsAt (λ item. T.number item ≡ handle.0) items.now place) }
+        (λ place. IsPlaceOf T.number items.now handle.0 place) }
 {
     match near(items, handle) {
         Some(place) => Some(place),
