@@ -20,6 +20,10 @@ handle_number h = h.handle.0
 abbrev pub event_number : WaitingEvent → ℕ
 event_number w = w.event
 
+-- where the live handles rise in number, P
+abbrev pub IfRising : List LiveHandle → Type 0 → Type 0
+IfRising handles P = (bound : ℕ) → RisesIn handle_number 0 bound handles → P
+
 -- whether the event is a coming due of the timer
 abbrev pub is_due_of : ℕ → Option DueTimer → Bool
 is_due_of t None = false

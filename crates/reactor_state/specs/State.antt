@@ -1,6 +1,6 @@
 -- What a reactor's state stands for, and how much room it has: the state of a reactor's event loop (C++NPv2 chapter 3),
 -- seen as the summary of its journal.
-use Rattle.std.specs.Prelude.{ℕ, ◌≡◌, ◌≤◌, ◌<◌, ◌+◌, ◌*◌, ◌^◌, Bool, ◌++◌, if◌then◌else◌, List, length, map, slice_get, vec_capacity, Option, Some, option_map}
+use Rattle.std.specs.Prelude.{ℕ, ◌≡◌, ◌≤◌, ◌<◌, ◌+◌, ◌-◌, ◌*◌, ◌^◌, Bool, ◌++◌, if◌then◌else◌, List, length, map, slice_get, vec_capacity, Option, Some, option_map}
 use Rattle.ev_types.specs.declared.upcall.Handle.{Handle}
 use Rattle.ev_types.specs.declared.upcall.Answer.{Answer}
 use Rattle.ev_types.specs.declared.upcall.Answer.TheVariants.{Keep, Again, Close}
@@ -32,6 +32,10 @@ answered found Close s = record s { handles = map (with_end (option_map event_of
 abbrev pub no_places : Places
 no_places = record { handles = 0; timers = 0; timeouts = 0; events = 0; opens = 0 }
 
+-- places but for one waiting event of whatever class
+abbrev pub but_an_event : Places → Places
+but_an_event p = record p { timeouts = p.timeouts - 1; events = p.events - 1 }
+
 -- the numbers of a summary, and how many of its handles are alive
 pub record Numbers : Type 0 where
   pub entries : ℕ
@@ -62,6 +66,14 @@ module _ {Q : Type 0} where
     pub timers : HasTimerRoom spare need.timers state.armed
     pub waiting : HasRoom (capacities state.waiting) need.timeouts need.events (queues state.waiting)
     pub opens : length state.opens.items + need.opens ≤ vec_capacity state.opens
+
+  -- it has what places the old state has
+  abbrev pub KeepsPlaces : (Q → ℕ) → ReactorState Q → ReactorState Q → Type 0
+  KeepsPlaces spare old new = (p : Places) → HasPlaces spare p old → HasPlaces spare p new
+
+  -- it has what is left of the places that the old state has
+  abbrev pub UsesPlaces : (Q → ℕ) → ReactorState Q → (Places → Places) → ReactorState Q → Type 0
+  UsesPlaces spare old left new = (p : Places) → HasPlaces spare p old → HasPlaces spare (left p) new
 
   -- its numbers
   abbrev pub numbers_of : ReactorState Q → Numbers

@@ -139,7 +139,19 @@ module _ {Q : Type 0} where
     pub timers_are : map armed_of (timers table.timers) ≡ armed
     pub owners : HasOwners table.owners.items armed
 
+  -- P holds of the armed timers that the table has
+  abbrev pub TellsArmed : (Q → List Timer) → Armed Q → (List ArmedTimer → Type 0) → Type 0
+  TellsArmed timers table P = (armed : List ArmedTimer) → HasArmed timers table armed → P armed
+
+  -- the new table has the next of what the old one has
+  abbrev pub TakesArmedTo : (Q → List Timer) → Armed Q → (List ArmedTimer → List ArmedTimer) → Armed Q → Type 0
+  TakesArmedTo timers old next new = (armed : List ArmedTimer) → HasArmed timers old armed → HasArmed timers new (next armed)
+
   -- there is room for so many more
   pub record HasTimerRoom (spare : Q → ℕ) (n : ℕ) (table : Armed Q) : Type 0 where
     pub timers : n ≤ spare table.timers
     pub owners : length table.owners.items + n ≤ vec_capacity table.owners
+
+  -- there is room for as many as before
+  abbrev pub KeepsTimerRoom : (Q → ℕ) → Armed Q → Armed Q → Type 0
+  KeepsTimerRoom spare old new = (n : ℕ) → HasTimerRoom spare n old → HasTimerRoom spare n new

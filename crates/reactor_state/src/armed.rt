@@ -1,15 +1,14 @@
 //! The armed timers: a timer queue, and beside it the handle of each timer by its number.
 
-ghost use Rattle.std.specs.Prelude.{◌≡◌, ◌≤◌, ◌<◌, ◌+◌, ◌-◌, ◌==◌, ◌^◌, ℕ, Bool, not, true, false, [], List, length, map, filter, vec_capacity, OnOk, IsOk, Some, IfSome, IfNone, MatchOption, if◌then◌else◌};
+ghost use Rattle.std.specs.Prelude.{◌≡◌, ◌≤◌, ◌<◌, ◌+◌, ◌-◌, ◌==◌, ◌^◌, ℕ, Bool, not, true, false, [], length, map, filter, vec_capacity, OnOk, IsOk, Some, IfSome, IfNone, MatchOption, if◌then◌else◌};
 ghost use Rattle.std.specs.List.{list_any, find, HoldsAt, AllWithin};
 ghost use Rattle.std.specs.Option.{option_map};
 ghost use Rattle.timer_queue.specs.Timers.{is_scheduled};
 ghost use Rattle.reactor_journal.specs.Past.{count, next_deadline};
 ghost use Rattle.reactor_summary.specs.Summary as S;
-ghost use Rattle.reactor_summary.specs.declared.parts.ArmedTimer.{ArmedTimer};
 ghost use Rattle.reactor_state.specs.Rises.{RisesIn};
 ghost use Rattle.reactor_state.specs.Sound.{IsReached, is_due_of};
-ghost use Rattle.reactor_state.specs.Tables.{timer_of, armed_of, first_deadline, IsOnce, HasArmed, HasTimerRoom};
+ghost use Rattle.reactor_state.specs.Tables.{timer_of, armed_of, first_deadline, IsOnce, HasArmed, TellsArmed, TakesArmedTo, HasTimerRoom, KeepsTimerRoom};
 
 use ev_types::{Handle, NoMemory};
 use reactor_summary::DueTimer;
@@ -116,9 +115,9 @@ impl<Q: TimerQueue> Armed<Q> {
 
     /// Makes room for so many more.
     pub fn reserve(&mut self, more: usize) -> Result<(), NoMemory>
-        ensures same { (armed : List ArmedTimer) → HasArmed Q.timers self.old armed → HasArmed Q.timers self.new armed }
+        ensures same { TakesArmedTo Q.timers self.old (λ armed. armed) self.new }
         ensures room { OnOk result (HasTimerRoom Q.spare more self.new) }
-        ensures kept { (n : ℕ) → HasTimerRoom Q.spare n self.old → HasTimerRoom Q.spare n self.new }
+        ensures kept { KeepsTimerRoom Q.spare self.old self.new }
         ensures at_once { HasTimerRoom Q.spare more self.old → IsOk result }
     {
         self.timers.reserve(more)?;
@@ -130,7 +129,7 @@ impl<Q: TimerQueue> Armed<Q> {
     pub fn arm(&mut self, t: Timer)
         requires fresh { is_scheduled t.timer (Q.timers self.old.timers) ≡ false }
         requires room { HasTimerRoom Q.spare 1 self.old }
-        ensures armed { (armed : List ArmedTimer) → HasArmed Q.timers self.old armed → HasArmed Q.timers self.new (S.with_timer (armed_of t) armed) }
+        ensures armed { TakesArmedTo Q.timers self.old (λ armed. S.with_timer (armed_of t) armed) self.new }
         ensures room { (n : ℕ) → HasTimerRoom Q.spare n self.old → HasTimerRoom Q.spare (n - 1) self.new }
     {
         self.timers.schedule(t);
@@ -149,7 +148,7 @@ impl<Q: TimerQueue> Armed<Q> {
         requires reached { IsReached moment due }
         requires fresh { (t : ℕ) → is_due_of t due ≡ true → is_scheduled t (Q.timers self.old.timers) ≡ false }
         requires room { HasTimerRoom Q.spare 1 self.old }
-        ensures armed { (armed : List ArmedTimer) → HasArmed Q.timers self.old armed → HasArmed Q.timers self.new (S.with_next moment handle due armed) }
+        ensures armed { TakesArmedTo Q.timers self.old (λ armed. S.with_next moment handle due armed) self.new }
         ensures room { (n : ℕ) → HasTimerRoom Q.spare n self.old → HasTimerRoom Q.spare (n - 1) self.new }
     {
         match due {
@@ -170,8 +169,8 @@ impl<Q: TimerQueue> Armed<Q> {
 
     /// Takes a timer away.
     pub fn disarm(&mut self, timer: u64)
-        ensures armed { (armed : List ArmedTimer) → HasArmed Q.timers self.old armed → HasArmed Q.timers self.new (S.without_timer timer armed) }
-        ensures room { (n : ℕ) → HasTimerRoom Q.spare n self.old → HasTimerRoom Q.spare n self.new }
+        ensures armed { TakesArmedTo Q.timers self.old (λ armed. S.without_timer timer armed) self.new }
+        ensures room { KeepsTimerRoom Q.spare self.old self.new }
     {
         self.timers.cancel(timer);
         take_out(&mut self.owners, timer);
@@ -179,8 +178,8 @@ impl<Q: TimerQueue> Armed<Q> {
 
     /// Takes the timers of a handle away.
     pub fn disarm_all(&mut self, handle: Handle)
-        ensures armed { (armed : List ArmedTimer) → HasArmed Q.timers self.old armed → HasArmed Q.timers self.new (filter (λ a. not (a.handle.0 == handle.0)) armed) }
-        ensures room { (n : ℕ) → HasTimerRoom Q.spare n self.old → HasTimerRoom Q.spare n self.new }
+        ensures armed { TakesArmedTo Q.timers self.old (λ armed. filter (λ a. not (a.handle.0 == handle.0)) armed) self.new }
+        ensures room { KeepsTimerRoom Q.spare self.old self.new }
     {
         self.timers.cancel_all(handle);
         take_all(&mut self.owners, handle);
@@ -188,11 +187,11 @@ impl<Q: TimerQueue> Armed<Q> {
 
     /// Takes out the first timer, if its deadline is reached.
     pub fn pop_due(&mut self, now: u64) -> Option<Timer>
-        ensures due { IfSome result (λ t. (armed : List ArmedTimer) → HasArmed Q.timers self.old armed → IsOnce armed → HasArmed Q.timers self.new (S.without_timer t.timer armed)) }
-        ensures first { IfSome result (λ t. (armed : List ArmedTimer) → HasArmed Q.timers self.old armed → (S.is_first now t.timer armed ≡ true) × (find (λ a. a.timer == t.timer) armed ≡ Some (armed_of t))) }
-        ensures none { IfNone result ((armed : List ArmedTimer) → HasArmed Q.timers self.old armed → S.is_reached now armed ≡ false) }
-        ensures unchanged { IfNone result ((armed : List ArmedTimer) → HasArmed Q.timers self.old armed → HasArmed Q.timers self.new armed) }
-        ensures room { (n : ℕ) → HasTimerRoom Q.spare n self.old → HasTimerRoom Q.spare n self.new }
+        ensures due { IfSome result (λ t. TellsArmed Q.timers self.old (λ armed. IsOnce armed → HasArmed Q.timers self.new (S.without_timer t.timer armed))) }
+        ensures first { IfSome result (λ t. TellsArmed Q.timers self.old (λ armed. (S.is_first now t.timer armed ≡ true) × (find (λ a. a.timer == t.timer) armed ≡ Some (armed_of t)))) }
+        ensures none { IfNone result (TellsArmed Q.timers self.old (λ armed. S.is_reached now armed ≡ false)) }
+        ensures unchanged { IfNone result (TakesArmedTo Q.timers self.old (λ armed. armed) self.new) }
+        ensures room { KeepsTimerRoom Q.spare self.old self.new }
     {
         match self.timers.pop_due(now) {
             None => None,
@@ -205,14 +204,14 @@ impl<Q: TimerQueue> Armed<Q> {
 
     /// How many timers are armed.
     pub fn len(&self) -> usize
-        ensures { (armed : List ArmedTimer) → HasArmed Q.timers self.now armed → result ≡ length armed }
+        ensures { TellsArmed Q.timers self.now (λ armed. result ≡ length armed) }
     {
         self.owners.len()
     }
 
     /// The handle of the timer, if it is armed.
     pub fn handle_of(&self, timer: u64) -> Option<Handle>
-        ensures { (armed : List ArmedTimer) → HasArmed Q.timers self.now armed → IsOnce armed → result ≡ option_map (λ a. a.handle) (find (λ a. a.timer == timer) armed) }
+        ensures { TellsArmed Q.timers self.now (λ armed. IsOnce armed → result ≡ option_map (λ a. a.handle) (find (λ a. a.timer == timer) armed)) }
     {
         match owner_of(&self.owners, timer) {
             Some(place) => Some(self.owners[place].handle),
@@ -222,7 +221,7 @@ impl<Q: TimerQueue> Armed<Q> {
 
     /// The first deadline.
     pub fn earliest(&self) -> Option<u64>
-        ensures { (armed : List ArmedTimer) → HasArmed Q.timers self.now armed → result ≡ first_deadline armed }
+        ensures { TellsArmed Q.timers self.now (λ armed. result ≡ first_deadline armed) }
     {
         self.timers.earliest()
     }

@@ -2,8 +2,7 @@
 
 ghost use Rattle.std.specs.Prelude.{◌≡◌};
 ghost use Rattle.reactor_journal.specs.declared.entry.Entry.{Entry};
-ghost use Rattle.reactor_state.specs.declared.places.Places.{Places};
-ghost use Rattle.reactor_state.specs.State.{after, CanStep, TakesTo, HasPlaces, HasNumber};
+ghost use Rattle.reactor_state.specs.State.{after, CanStep, TakesTo, KeepsPlaces, HasNumber};
 
 use crate::handles::{set_mask, set_suspended};
 use crate::state::ReactorState;
@@ -16,7 +15,7 @@ impl<Q: TimerQueue> ReactorState<Q> {
     pub fn set_mask(&mut self, handle: Handle, mask: Mask)
         requires { CanStep Q.timers self.old HasNumber }
         ensures steps { TakesTo Q.timers self.old HasNumber (λ s. after s (Entry.Masked handle mask)) self.new }
-        ensures places { (p : Places) → HasPlaces Q.spare p self.old → HasPlaces Q.spare p self.new }
+        ensures places { KeepsPlaces Q.spare self.old self.new }
     {
         set_mask(&mut self.handles, handle, mask);
         self.waiting.drop_masked(handle, mask);
@@ -27,7 +26,7 @@ impl<Q: TimerQueue> ReactorState<Q> {
     pub fn suspend(&mut self, handle: Handle)
         requires { CanStep Q.timers self.old HasNumber }
         ensures steps { TakesTo Q.timers self.old HasNumber (λ s. after s (Entry.Suspended handle)) self.new }
-        ensures places { (p : Places) → HasPlaces Q.spare p self.old → HasPlaces Q.spare p self.new }
+        ensures places { KeepsPlaces Q.spare self.old self.new }
     {
         set_suspended(&mut self.handles, handle, true);
         self.entries += 1;
@@ -37,7 +36,7 @@ impl<Q: TimerQueue> ReactorState<Q> {
     pub fn resume(&mut self, handle: Handle)
         requires { CanStep Q.timers self.old HasNumber }
         ensures steps { TakesTo Q.timers self.old HasNumber (λ s. after s (Entry.Resumed handle)) self.new }
-        ensures places { (p : Places) → HasPlaces Q.spare p self.old → HasPlaces Q.spare p self.new }
+        ensures places { KeepsPlaces Q.spare self.old self.new }
     {
         set_suspended(&mut self.handles, handle, false);
         self.entries += 1;

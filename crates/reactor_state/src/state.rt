@@ -1,6 +1,6 @@
 //! The state of a one-thread reactor: its parts, its room, and what is asked of it.
 
-ghost use Rattle.std.specs.Prelude.{◌≡◌, ◌≤◌, ◌+◌, ◌-◌, ◌*◌, ◌==◌, ◌&&◌, if◌then◌else◌, ℕ, [], length, map, nat_le, OnOk, IsOk, IfSome};
+ghost use Rattle.std.specs.Prelude.{◌≡◌, ◌≤◌, ◌+◌, ◌-◌, ◌*◌, ◌==◌, ◌&&◌, if◌then◌else◌, [], length, map, nat_le, OnOk, IsOk, IfSome};
 ghost use Rattle.std.specs.List.{find};
 ghost use Rattle.std.specs.Option.{option_map};
 ghost use Rattle.reactor_journal.specs.Past as P;
@@ -8,7 +8,7 @@ ghost use Rattle.reactor_summary.specs.Summary as S;
 ghost use Rattle.reactor_summary.specs.Summary.{Summary};
 ghost use Rattle.reactor_summary.specs.Rules as R;
 ghost use Rattle.reactor_state.specs.Tables.{alive_count, armed_of, first_deadline};
-ghost use Rattle.reactor_state.specs.State.{Shows, HasPlaces, Tells, IsPlaced, owed, no_places};
+ghost use Rattle.reactor_state.specs.State.{Shows, HasPlaces, KeepsPlaces, Tells, IsPlaced, owed, no_places};
 
 use crate::armed::Armed;
 use crate::handles::{find_live, is_alive, is_wanted, next_alive};
@@ -94,7 +94,7 @@ impl<Q: TimerQueue> ReactorState<Q> {
     pub fn reserve(&mut self, more: Places) -> Result<(), NoMemory>
         ensures shows { (s : Summary) → Shows Q.timers self.old s → Shows Q.timers self.new s }
         ensures room { OnOk result (HasPlaces Q.spare more self.new) }
-        ensures kept { (p : Places) → HasPlaces Q.spare p self.old → HasPlaces Q.spare p self.new }
+        ensures kept { KeepsPlaces Q.spare self.old self.new }
         ensures at_once { HasPlaces Q.spare more self.old → IsOk result }
         ensures placed { (pick : Pick) → IsPlaced self.old pick → IsPlaced self.new pick }
     {

@@ -5,11 +5,10 @@ ghost use Rattle.std.specs.List.{list_any};
 ghost use Rattle.reactor_journal.specs.declared.entry.Entry.{Entry};
 ghost use Rattle.reactor_summary.specs.Summary as S;
 ghost use Rattle.reactor_summary.specs.Summary.{Summary};
-ghost use Rattle.reactor_state.specs.declared.places.Places.{Places};
 ghost use Rattle.reactor_state.specs.Rises.{RisesIn};
 ghost use Rattle.reactor_state.specs.Sound.{handle_number};
 ghost use Rattle.reactor_state.specs.Tables.{queues, capacities, HasRoom};
-ghost use Rattle.reactor_state.specs.State.{after, without_handle, answered, no_places, CanStep, TakesTo, Tells, HasTables, HasPlaces, HasNumber, IsPlaced};
+ghost use Rattle.reactor_state.specs.State.{after, without_handle, answered, no_places, but_an_event, CanStep, TakesTo, Tells, HasTables, HasPlaces, KeepsPlaces, UsesPlaces, HasNumber, IsPlaced};
 
 use crate::handles::{close, end_life, is_alive};
 use crate::opens::{find_open, settle};
@@ -37,7 +36,7 @@ impl<Q: TimerQueue> ReactorState<Q> {
         requires room { HasPlaces Q.spare (record no_places { handles = 1 }) self.old }
         ensures number { Tells Q.timers self.old (λ s. result.0 ≡ s.opened) }
         ensures steps { TakesTo Q.timers self.old (λ s. HasNumber s × (s.opened < 4294967295)) (λ s. after s (Entry.Opened result mask)) self.new }
-        ensures places { (p : Places) → HasPlaces Q.spare p self.old → HasPlaces Q.spare (record p { handles = p.handles - 1 }) self.new }
+        ensures places { UsesPlaces Q.spare self.old (λ p. record p { handles = p.handles - 1 }) self.new }
     {
         let handle = Handle(self.opened);
         self.handles.push_reserved(LiveHandle {
@@ -56,7 +55,7 @@ impl<Q: TimerQueue> ReactorState<Q> {
     pub fn poll(&mut self, now: u64)
         requires { CanStep Q.timers self.old (λ s. HasNumber s × (s.moment ≤ now) × (now ≤ 2 ^ 62)) }
         ensures steps { TakesTo Q.timers self.old (λ s. HasNumber s × (s.moment ≤ now) × (now ≤ 2 ^ 62)) (λ s. after s (Entry.Polled now)) self.new }
-        ensures places { (p : Places) → HasPlaces Q.spare p self.old → HasPlaces Q.spare p self.new }
+        ensures places { KeepsPlaces Q.spare self.old self.new }
     {
         self.moment = now;
         self.entries += 1;
@@ -67,7 +66,7 @@ impl<Q: TimerQueue> ReactorState<Q> {
         requires can { CanStep Q.timers self.old HasNumber }
         requires room { HasPlaces Q.spare (record no_places { events = 1 }) self.old }
         ensures steps { TakesTo Q.timers self.old HasNumber (λ s. after s (Entry.Ready handle kind)) self.new }
-        ensures places { (p : Places) → HasPlaces Q.spare p self.old → HasPlaces Q.spare (record p { events = p.events - 1 }) self.new }
+        ensures places { UsesPlaces Q.spare self.old (λ p. record p { events = p.events - 1 }) self.new }
     {
         self.waiting.push(WaitingEvent {
             event: self.entries,
@@ -85,7 +84,7 @@ impl<Q: TimerQueue> ReactorState<Q> {
         requires placed { IsPlaced self.old pick }
         requires room { HasPlaces Q.spare (record no_places { opens = 1; timers = 1 }) self.old }
         ensures steps { TakesTo Q.timers self.old (λ s. HasNumber s × (S.pick s ≡ Some pick.event)) (λ s. after s (Entry.Started pick.event.event)) self.new }
-        ensures places { (p : Places) → HasPlaces Q.spare p self.old → HasPlaces Q.spare (record p { opens = p.opens - 1; timers = p.timers - 1 }) self.new }
+        ensures places { UsesPlaces Q.spare self.old (λ p. record p { opens = p.opens - 1; timers = p.timers - 1 }) self.new }
     {
         let event = pick.event;
         self.waiting.take(event.upcall, pick.place);
@@ -102,7 +101,7 @@ impl<Q: TimerQueue> ReactorState<Q> {
     /// The life of the handle ends, and with it all that waits for it.
     fn end_of(&mut self, handle: Handle)
         ensures tables { (s : Summary) (hi : ℕ) → HasTables Q.timers self.old s → RisesIn handle_number 0 hi s.handles → HasTables Q.timers self.new (without_handle handle s) }
-        ensures places { (p : Places) → HasPlaces Q.spare p self.old → HasPlaces Q.spare p self.new }
+        ensures places { KeepsPlaces Q.spare self.old self.new }
     {
         let was_alive = end_life(&mut self.handles, handle);
         self.alive = fewer(self.alive, was_alive);
@@ -114,7 +113,7 @@ impl<Q: TimerQueue> ReactorState<Q> {
     fn again(&mut self, event: OpenEvent)
         requires { HasRoom (capacities self.old.waiting) 1 1 (queues self.old.waiting) }
         ensures tables { (s : Summary) (hi : ℕ) → HasTables Q.timers self.old s → RisesIn handle_number 0 hi s.handles → HasTables Q.timers self.new (record s { waiting = s.waiting ++ S.waiting_again s (Some event) }) }
-        ensures places { (p : Places) → HasPlaces Q.spare p self.old → HasPlaces Q.spare (record p { timeouts = p.timeouts - 1; events = p.events - 1 }) self.new }
+        ensures places { UsesPlaces Q.spare self.old but_an_event self.new }
     {
         if is_alive(&self.handles, event.handle) {
             self.waiting.push(WaitingEvent {
@@ -130,7 +129,7 @@ impl<Q: TimerQueue> ReactorState<Q> {
     fn answered(&mut self, found: Option<OpenEvent>, answer: Answer)
         requires { HasRoom (capacities self.old.waiting) 1 1 (queues self.old.waiting) }
         ensures tables { (s : Summary) (hi : ℕ) → HasTables Q.timers self.old s → RisesIn handle_number 0 hi s.handles → HasTables Q.timers self.new (answered found answer s) }
-        ensures places { (p : Places) → HasPlaces Q.spare p self.old → HasPlaces Q.spare (record p { timeouts = p.timeouts - 1; events = p.events - 1 }) self.new }
+        ensures places { UsesPlaces Q.spare self.old but_an_event self.new }
     {
         match found {
             None => {}
@@ -150,7 +149,7 @@ impl<Q: TimerQueue> ReactorState<Q> {
         requires can { CanStep Q.timers self.old HasNumber }
         requires room { HasPlaces Q.spare (record no_places { timeouts = 1; events = 1 }) self.old }
         ensures steps { (note : N) → TakesTo Q.timers self.old HasNumber (λ s. S.step s (Entry.Returned event answer note)) self.new }
-        ensures places { (p : Places) → HasPlaces Q.spare p self.old → HasPlaces Q.spare (record p { timeouts = p.timeouts - 1; events = p.events - 1 }) self.new }
+        ensures places { UsesPlaces Q.spare self.old but_an_event self.new }
     {
         let entries = self.entries + 1;
         let found = find_open(&self.opens, event);
@@ -163,7 +162,7 @@ impl<Q: TimerQueue> ReactorState<Q> {
     pub fn close<N>(&mut self, handle: Handle)
         requires { CanStep Q.timers self.old (λ s. HasNumber s × (list_any (λ h. h.handle.0 == handle.0) s.handles ≡ true)) }
         ensures steps { (note : N) → TakesTo Q.timers self.old (λ s. HasNumber s × (list_any (λ h. h.handle.0 == handle.0) s.handles ≡ true)) (λ s. S.step s (Entry.Closed handle note)) self.new }
-        ensures places { (p : Places) → HasPlaces Q.spare p self.old → HasPlaces Q.spare p self.new }
+        ensures places { KeepsPlaces Q.spare self.old self.new }
     {
         let was_alive = close(&mut self.handles, handle);
         self.alive = fewer(self.alive, was_alive);
@@ -175,7 +174,7 @@ impl<Q: TimerQueue> ReactorState<Q> {
     pub fn remove(&mut self, handle: Handle)
         requires { CanStep Q.timers self.old HasNumber }
         ensures steps { TakesTo Q.timers self.old HasNumber (λ s. after s (Entry.Removed handle)) self.new }
-        ensures places { (p : Places) → HasPlaces Q.spare p self.old → HasPlaces Q.spare p self.new }
+        ensures places { KeepsPlaces Q.spare self.old self.new }
     {
         self.end_of(handle);
         self.entries += 1;
@@ -185,7 +184,7 @@ impl<Q: TimerQueue> ReactorState<Q> {
     pub fn end(&mut self)
         requires { CanStep Q.timers self.old HasNumber }
         ensures steps { TakesTo Q.timers self.old HasNumber (λ s. after s Entry.Ended) self.new }
-        ensures places { (p : Places) → HasPlaces Q.spare p self.old → HasPlaces Q.spare p self.new }
+        ensures places { KeepsPlaces Q.spare self.old self.new }
     {
         self.ended = true;
         self.entries += 1;
@@ -196,7 +195,7 @@ impl<Q: TimerQueue> ReactorState<Q> {
         requires can { CanStep Q.timers self.old HasNumber }
         requires room { HasPlaces Q.spare (record no_places { events = 1 }) self.old }
         ensures steps { (from seq : ℕ) → TakesTo Q.timers self.old HasNumber (λ s. after s (Entry.Posted handle kind from seq)) self.new }
-        ensures places { (p : Places) → HasPlaces Q.spare p self.old → HasPlaces Q.spare (record p { events = p.events - 1 }) self.new }
+        ensures places { UsesPlaces Q.spare self.old (λ p. record p { events = p.events - 1 }) self.new }
     {
         self.waiting.push(WaitingEvent {
             event: self.entries,
@@ -211,7 +210,7 @@ impl<Q: TimerQueue> ReactorState<Q> {
     pub fn skip(&mut self)
         requires { CanStep Q.timers self.old HasNumber }
         ensures steps { (stale : Handle) (from seq : ℕ) → TakesTo Q.timers self.old HasNumber (λ s. after s (Entry.Stale stale from seq)) self.new }
-        ensures places { (p : Places) → HasPlaces Q.spare p self.old → HasPlaces Q.spare p self.new }
+        ensures places { KeepsPlaces Q.spare self.old self.new }
     {
         self.entries += 1;
     }
@@ -220,7 +219,7 @@ impl<Q: TimerQueue> ReactorState<Q> {
     pub fn refuse<N>(&mut self)
         requires { CanStep Q.timers self.old HasNumber }
         ensures steps { (live : ℕ) (fault : Bool) (note : N) → TakesTo Q.timers self.old HasNumber (λ s. S.step s (Entry.Refused live fault note)) self.new }
-        ensures places { (p : Places) → HasPlaces Q.spare p self.old → HasPlaces Q.spare p self.new }
+        ensures places { KeepsPlaces Q.spare self.old self.new }
     {
         self.refused += 1;
         self.entries += 1;

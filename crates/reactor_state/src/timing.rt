@@ -4,8 +4,7 @@ ghost use Rattle.std.specs.Prelude.{◌≡◌, ◌≤◌, ◌-◌, ◌^◌, true
 ghost use Rattle.reactor_journal.specs.declared.entry.Entry.{Entry};
 ghost use Rattle.reactor_summary.specs.Summary as S;
 ghost use Rattle.reactor_summary.specs.Summary.{Summary};
-ghost use Rattle.reactor_state.specs.declared.places.Places.{Places};
-ghost use Rattle.reactor_state.specs.State.{after, no_places, CanStep, TakesTo, Tells, Shows, HasPlaces, HasNumber};
+ghost use Rattle.reactor_state.specs.State.{after, no_places, CanStep, TakesTo, Tells, Shows, HasPlaces, KeepsPlaces, UsesPlaces, HasNumber};
 
 use crate::state::ReactorState;
 use ev_types::{Handle, Upcall};
@@ -20,7 +19,7 @@ impl<Q: TimerQueue> ReactorState<Q> {
         requires room { HasPlaces Q.spare (record no_places { timers = 1 }) self.old }
         ensures number { Tells Q.timers self.old (λ s. result ≡ s.scheduled) }
         ensures steps { TakesTo Q.timers self.old (λ s. HasNumber s × (first ≤ 2 ^ 63) × (every ≤ 4294967295)) (λ s. after s (Entry.Scheduled result handle first every)) self.new }
-        ensures places { (p : Places) → HasPlaces Q.spare p self.old → HasPlaces Q.spare (record p { timers = p.timers - 1 }) self.new }
+        ensures places { UsesPlaces Q.spare self.old (λ p. record p { timers = p.timers - 1 }) self.new }
     {
         let timer = self.scheduled;
         self.armed.arm(Timer {
@@ -38,7 +37,7 @@ impl<Q: TimerQueue> ReactorState<Q> {
     pub fn cancel(&mut self, timer: u64)
         requires { CanStep Q.timers self.old HasNumber }
         ensures steps { TakesTo Q.timers self.old HasNumber (λ s. after s (Entry.Cancelled timer)) self.new }
-        ensures places { (p : Places) → HasPlaces Q.spare p self.old → HasPlaces Q.spare p self.new }
+        ensures places { KeepsPlaces Q.spare self.old self.new }
     {
         self.armed.disarm(timer);
         self.waiting.drop_timeouts(timer);
@@ -52,10 +51,10 @@ impl<Q: TimerQueue> ReactorState<Q> {
         requires room { HasPlaces Q.spare (record no_places { timeouts = 1 }) self.old }
         ensures first { IfSome result (λ timer. Tells Q.timers self.old (λ s. S.is_first_due s timer ≡ true)) }
         ensures steps { IfSome result (λ timer. TakesTo Q.timers self.old HasNumber (λ s. after s (Entry.Due timer)) self.new) }
-        ensures places { (p : Places) → HasPlaces Q.spare p self.old → HasPlaces Q.spare (record p { timeouts = p.timeouts - 1 }) self.new }
+        ensures places { UsesPlaces Q.spare self.old (λ p. record p { timeouts = p.timeouts - 1 }) self.new }
         ensures none { IfNone result (Tells Q.timers self.old (λ s. S.is_overdue s ≡ false)) }
         ensures unchanged { IfNone result ((s : Summary) → Shows Q.timers self.old s → Shows Q.timers self.new s) }
-        ensures unused { IfNone result ((p : Places) → HasPlaces Q.spare p self.old → HasPlaces Q.spare p self.new) }
+        ensures unused { IfNone result (KeepsPlaces Q.spare self.old self.new) }
     {
         match self.armed.pop_due(self.moment) {
             None => None,

@@ -7,7 +7,7 @@ ghost use Rattle.std.specs.VecDeque.{deque_items, deque_capacity};
 ghost use Rattle.reactor_journal.specs.Past as P;
 ghost use Rattle.reactor_summary.specs.Summary as S;
 ghost use Rattle.reactor_state.specs.Rises.{RisesIn};
-ghost use Rattle.reactor_state.specs.Sound.{handle_number};
+ghost use Rattle.reactor_state.specs.Sound.{handle_number, IfRising};
 ghost use Rattle.reactor_state.specs.Tables.{is_free, queues, by_class, queue_of, with_queue, with_event, kept, dropped, masked, capacities, HasRoom, HasRoomFor};
 
 use crate::handles::is_resumed;
@@ -30,7 +30,7 @@ pub struct Waiting {
 
 /// Whether an event of the handle may be started.
 fn is_free(handles: &[LiveHandle], opens: &[OpenEvent], handle: Handle) -> bool
-    ensures { (hi : ℕ) → RisesIn handle_number 0 hi handles.now → result ≡ is_free handles.now opens.now handle.0 }
+    ensures { IfRising handles.now (result ≡ is_free handles.now opens.now handle.0) }
 {
     is_resumed(handles, handle) && !is_busy(opens, handle)
 }
@@ -41,7 +41,7 @@ fn first_free(
     handles: &[LiveHandle],
     opens: &[OpenEvent],
 ) -> Option<Pick>
-    ensures first { (hi : ℕ) → RisesIn handle_number 0 hi handles.now → option_map (λ p. p.event) result ≡ find (λ w. is_free handles.now opens.now w.handle.0) (deque_items queue.now) }
+    ensures first { IfRising handles.now (option_map (λ p. p.event) result ≡ find (λ w. is_free handles.now opens.now w.handle.0) (deque_items queue.now)) }
     ensures placed { IfSome result (λ p. slice_get (deque_items queue.now) p.place ≡ Some p.event) }
 {
     for place in 0..queue.len() {
