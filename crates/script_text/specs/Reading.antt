@@ -77,6 +77,10 @@ pub record Reads (r : Reading) (past : List Line) : Type 0 where
   pub groups : group_views r.groups.items ++ open_group r.moment (steps_at r.current.items) ≡ played_by past
   pub goes_on : not (is_empty r.current.items) ≡ is_step past
 
+-- P holds of the lines that it has read
+abbrev pub ForRead : Reading → (List Line → Type 0) → Type 0
+ForRead r P = (past : List Line) → Reads r past → P past
+
 -- a line was taken, or is bad
 abbrev pub Takes : Reading → List Line → Line → Bool → Type 0
 Takes r past line true = (may_stand past line ≡ true) × Reads r (line ∷ past)

@@ -5,7 +5,7 @@ ghost use Rattle.event_script.specs.Script.{goes_on, Opens};
 ghost use Rattle.event_script.specs.Stories.{offers_of};
 ghost use Rattle.script_text.specs.Lines.{step_view, line_view};
 ghost use Rattle.script_text.specs.Scripts.{group_views, steps_at, offer_views, part_view, Tells, HasRoom};
-ghost use Rattle.script_text.specs.Reading.{Reads, Takes, HasDone, HasTold, IsTold, Comes, open_group};
+ghost use Rattle.script_text.specs.Reading.{Reads, ForRead, Takes, HasDone, HasTold, IsTold, Comes, open_group};
 ghost use Rattle.script_text.specs.Parsing.{Judges, HasGroups};
 
 use crate::line::{Line, Step, read_line};
@@ -67,7 +67,7 @@ impl Reading {
 
     /// Reads a line `at`. After `NoMemory` nothing more is to be read.
     fn at(&mut self, moment: u64) -> Result<bool, NoMemory>
-        ensures taken { (past : List GrammarLine) → Reads self.old past → IfOk result (λ good. Takes self.new past (At moment) good) }
+        ensures taken { ForRead self.old (λ past. IfOk result (λ good. Takes self.new past (At moment) good)) }
         ensures room { self.new.room ≡ self.old.room }
     {
         if moment < self.moment || moment > 4_294_967_295 {
@@ -80,7 +80,7 @@ impl Reading {
 
     /// Reads a line `quiet`. After `NoMemory` nothing more is to be read.
     fn quiet(&mut self) -> Result<bool, NoMemory>
-        ensures taken { (past : List GrammarLine) → Reads self.old past → IfOk result (λ good. Takes self.new past Quiet good) }
+        ensures taken { ForRead self.old (λ past. IfOk result (λ good. Takes self.new past Quiet good)) }
         ensures room { self.new.room ≡ self.old.room }
     {
         self.flush()?;
@@ -93,14 +93,14 @@ impl Reading {
 
     /// Whether a connection came and was neither shut nor failed.
     fn goes_on(&self, conn: u64) -> bool
-        ensures { (past : List GrammarLine) → Reads self.now past → result ≡ goes_on conn (steps_in past) }
+        ensures { ForRead self.now (λ past. result ≡ goes_on conn (steps_in past)) }
     {
         conn < self.done.len() as u64 && !self.done[conn as usize]
     }
 
     /// Whether a step may stand here.
     fn may_stand(&self, step: &Step) -> bool
-        ensures { (past : List GrammarLine) → Reads self.now past → result ≡ may_stand past (Stepping (step_view step.now)) }
+        ensures { ForRead self.now (λ past. result ≡ may_stand past (Stepping (step_view step.now))) }
     {
         if self.steps >= 1_000_000 {
             return false;
@@ -153,8 +153,8 @@ impl Reading {
     /// Notes what a step that may stand here does to its ends.
     fn note(&mut self, step: Step) -> Result<(), NoMemory>
         requires { (past : List GrammarLine) × Reads self.old past × (may_stand past (Stepping (step_view step)) ≡ true) }
-        ensures done { (past : List GrammarLine) → Reads self.old past → may_stand past (Stepping (step_view step)) ≡ true → OnOk result (HasDone self.new.done.items (step_view step ∷ steps_in past)) }
-        ensures told { (past : List GrammarLine) → Reads self.old past → may_stand past (Stepping (step_view step)) ≡ true → OnOk result (HasTold self.new.connections.items self.old.room (step_view step ∷ steps_in past)) }
+        ensures done { ForRead self.old (λ past. may_stand past (Stepping (step_view step)) ≡ true → OnOk result (HasDone self.new.done.items (step_view step ∷ steps_in past))) }
+        ensures told { ForRead self.old (λ past. may_stand past (Stepping (step_view step)) ≡ true → OnOk result (HasTold self.new.connections.items self.old.room (step_view step ∷ steps_in past))) }
         ensures offered { OnOk result (offer_views self.new.offers.items ≡ offer_views self.old.offers.items ++ offers_of (step_view step)) }
         ensures rest { self.new ≡ record self.old { connections = self.new.connections; done = self.new.done; offers = self.new.offers } }
     {
@@ -176,7 +176,7 @@ impl Reading {
     /// Reads a step. After `NoMemory` nothing more is to be read.
     fn step(&mut self, step: Step) -> Result<bool, NoMemory>
         requires { (past : List GrammarLine) × Reads self.old past }
-        ensures taken { (past : List GrammarLine) → Reads self.old past → IfOk result (λ good. Takes self.new past (Stepping (step_view step)) good) }
+        ensures taken { ForRead self.old (λ past. IfOk result (λ good. Takes self.new past (Stepping (step_view step)) good)) }
         ensures room { self.new.room ≡ self.old.room }
     {
         if !self.may_stand(&step) {
@@ -192,7 +192,7 @@ impl Reading {
     /// Reads a line, and says whether it may stand here. After `NoMemory` nothing more is to be read.
     pub(crate) fn line(&mut self, line: Line) -> Result<bool, NoMemory>
         requires { (past : List GrammarLine) × Reads self.old past }
-        ensures taken { (past : List GrammarLine) → Reads self.old past → IfOk result (λ good. Takes self.new past (line_view line) good) }
+        ensures taken { ForRead self.old (λ past. IfOk result (λ good. Takes self.new past (line_view line) good)) }
         ensures room { self.new.room ≡ self.old.room }
     {
         match line {
@@ -205,7 +205,7 @@ impl Reading {
     /// Reads the text of a line, and says whether it may stand here. After `NoMemory` nothing more is to be read.
     pub(crate) fn take(&mut self, bytes: &[u8]) -> Result<bool, NoMemory>
         requires { (past : List GrammarLine) × Reads self.old past }
-        ensures taken { (past : List GrammarLine) → Reads self.old past → IfOk result (λ good. Judges self.new past bytes.now good) }
+        ensures taken { ForRead self.old (λ past. IfOk result (λ good. Judges self.new past bytes.now good)) }
         ensures room { self.new.room ≡ self.old.room }
     {
         match read_line(self.alloc, bytes)? {
@@ -216,7 +216,7 @@ impl Reading {
 
     /// The script of all that was read.
     pub(crate) fn finish(mut self) -> Result<Script, NoMemory>
-        ensures { (past : List GrammarLine) → Reads self past → IfOk result (λ script. HasGroups script self.room (groups_of past)) }
+        ensures { ForRead self (λ past. IfOk result (λ script. HasGroups script self.room (groups_of past))) }
     {
         self.flush()?;
         Ok(Script {
