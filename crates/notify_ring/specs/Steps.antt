@@ -1,5 +1,5 @@
 -- What each step on the ring's words tells: from m, a seat before the step, to n, the same seat after it, where the step found r in its word. That a claim or a look keeps what it found stands here alone: the rule ties a claim's find to the postings drawn, and that of a look at an empty gate to nothing, since the gate may be stored at once.
-use Rattle.std.specs.Prelude.{◌≡◌, ℕ, ◌+◌, List, [], ◌∷◌, ◌++◌, false}
+use Rattle.std.specs.Prelude.{◌≡◌, ℕ, ◌+◌, List, [], ◌∷◌, ◌++◌, false, true}
 use Rattle.atomic_table.specs.Table.{Me}
 use Rattle.ev_types.specs.declared.upcall.Handle.{Handle}
 use Rattle.ev_types.specs.declared.upcall.Kind.{Kind}
@@ -15,6 +15,13 @@ use Rattle.notify_ring.specs.Passes.{blank, posting_of, IsNext}
 -- What a seat has: its view, and the slots that are out with it, of which a ring has none.
 abbrev pub Mine : Type 0
 Mine = Me (Unit {0}) View
+
+-- A poster's seat, and the drainer's.
+abbrev pub IsPosterSeat : Mine → Type 0
+IsPosterSeat m = (m.1 ≡ []) × (m.0.posts ≡ true)
+
+abbrev pub IsDrainerSeat : Mine → Type 0
+IsDrainerSeat m = (m.0.drains ≡ true) × (m.1 ≡ [])
 
 -- A poster's claim found r places held or in flight. The view counts it and keeps what it found.
 abbrev pub claimed_view : View → ℕ → View

@@ -2,8 +2,8 @@
 ghost use Rattle.std.specs.Prelude.{◌≡◌, ◌≢◌, ◌+◌, ◌-◌, ◌*◌, ◌%◌, ◌^◌, ◌<◌, ◌≤◌, ◌++◌, [], ◌∷◌, true, false, length, IfOk, ℕ};
 ghost use Rattle.notify_ring.specs.Postings.{code};
 ghost use Rattle.notify_ring.specs.Passes.{root_poster, new_drainer, split_left, split_right, joined, HasPosted, HasTaken, IsMerged};
-ghost use Rattle.notify_ring.specs.Steps.{ClaimMade, FlightMoved, NumberDrawn, GateLoaded, HandleLoaded, GateCleared, PlaceReleased};
-ghost use Rattle.notify_ring.specs.Words.{id_of, poster_ring, poster_view, drainer_ring, drainer_view};
+ghost use Rattle.notify_ring.specs.Steps.{IsPosterSeat, IsDrainerSeat, ClaimMade, FlightMoved, NumberDrawn, GateLoaded, HandleLoaded, GateCleared, PlaceReleased};
+ghost use Rattle.notify_ring.specs.Words.{id_of, IsSeatOf, IsSameSeat, poster_ring, poster_view, drainer_ring, drainer_view};
 ghost use Rattle.notify_ring.specs.declared.posting.Posting.{Posting as PostingOf};
 ghost use Rattle.notify_ring.specs.declared.view.Stage.TheVariants.{Resting, Seen, Cleared};
 ghost use Rattle.notify_ring.specs.declared.view.Flight.TheVariants.{Idle, Claimed, Drawn, Written};
@@ -179,9 +179,9 @@ impl Ring {
 impl Ring {
     // One more place is held.
     fn claim(&self, seat: &mut Seat<(), View>) -> u64
-        requires table { seat.old.table_id ≡ id_of self.now }
-        requires idle { (seat.old.me.0.flight ≡ Idle) × (seat.old.me.1 ≡ []) × (seat.old.me.0.posts ≡ true) }
-        ensures table { (seat.new.table_id ≡ seat.old.table_id) × (seat.new.id ≡ seat.old.id) }
+        requires table { IsSeatOf self.now seat.old }
+        requires idle { (seat.old.me.0.flight ≡ Idle) × IsPosterSeat seat.old.me }
+        ensures table { IsSameSeat seat.old seat.new }
         ensures told { ClaimMade seat.old.me result seat.new.me }
     {
         self.table.shared.fetch_add::<Claim>(seat, 0, 1)
@@ -189,9 +189,9 @@ impl Ring {
 
     // The place is given back.
     fn unclaim(&self, seat: &mut Seat<(), View>)
-        requires table { seat.old.table_id ≡ id_of self.now }
-        requires claimed { ((found : ℕ) × (seat.old.me.0.flight ≡ Claimed found)) × (seat.old.me.1 ≡ []) × (seat.old.me.0.posts ≡ true) }
-        ensures table { (seat.new.table_id ≡ seat.old.table_id) × (seat.new.id ≡ seat.old.id) }
+        requires table { IsSeatOf self.now seat.old }
+        requires claimed { ((found : ℕ) × (seat.old.me.0.flight ≡ Claimed found)) × IsPosterSeat seat.old.me }
+        ensures table { IsSameSeat seat.old seat.new }
         ensures told { FlightMoved seat.old.me seat.new.me }
     {
         self.table.shared.fetch_sub::<NextFlight>(seat, 0, 1);
@@ -199,11 +199,11 @@ impl Ring {
 
     // A number is drawn for what the proof picks, by the arguments that it alone reads.
     fn drawn<B: Posted>(&self, seat: &mut Seat<(), View>, _handle: Handle, _kind: Kind) -> u64
-        requires table { seat.old.table_id ≡ id_of self.now }
+        requires table { IsSeatOf self.now seat.old }
         requires claimed { (found : ℕ) × (seat.old.me.0.flight ≡ Claimed found) × (found < 256) }
         requires room { length seat.old.me.0.posted < 2 ^ 56 }
-        requires posts { (seat.old.me.1 ≡ []) × (seat.old.me.0.posts ≡ true) }
-        ensures table { (seat.new.table_id ≡ seat.old.table_id) × (seat.new.id ≡ seat.old.id) }
+        requires posts { IsPosterSeat seat.old.me }
+        ensures table { IsSameSeat seat.old seat.new }
         ensures told { NumberDrawn B.handle B.kind seat.old.me result seat.new.me }
     {
         self.table.shared.fetch_add::<Draw<B>>(seat, 1, 1)
@@ -211,21 +211,21 @@ impl Ring {
 
     // A number is drawn. What will be posted is an argument for the proof alone.
     fn draw(&self, seat: &mut Seat<(), View>, _handle: Handle, _kind: Kind) -> u64
-        requires table { seat.old.table_id ≡ id_of self.now }
+        requires table { IsSeatOf self.now seat.old }
         requires claimed { (found : ℕ) × (seat.old.me.0.flight ≡ Claimed found) × (found < 256) }
         requires room { length seat.old.me.0.posted < 2 ^ 56 }
-        requires posts { (seat.old.me.1 ≡ []) × (seat.old.me.0.posts ≡ true) }
-        ensures table { (seat.new.table_id ≡ seat.old.table_id) × (seat.new.id ≡ seat.old.id) }
+        requires posts { IsPosterSeat seat.old.me }
+        ensures table { IsSameSeat seat.old seat.new }
         ensures told { NumberDrawn _handle _kind seat.old.me result seat.new.me }
     {
         self.drawn::<Brand>(seat, _handle, _kind)
     }
 
     fn store_handle(&self, seat: &mut Seat<(), View>, place: u64, handle: u64)
-        requires table { seat.old.table_id ≡ id_of self.now }
+        requires table { IsSeatOf self.now seat.old }
         requires drawn { (x : PostingOf) × (seat.old.me.0.flight ≡ Drawn x) × (place ≡ x.number % 256) × (handle ≡ x.handle.0) }
         requires slots { seat.old.me.1 ≡ [] }
-        ensures table { (seat.new.table_id ≡ seat.old.table_id) × (seat.new.id ≡ seat.old.id) }
+        ensures table { IsSameSeat seat.old seat.new }
         ensures told { FlightMoved seat.old.me seat.new.me }
     {
         let word = (2 + 2 * place) as usize;
@@ -233,10 +233,10 @@ impl Ring {
     }
 
     fn store_gate(&self, seat: &mut Seat<(), View>, place: u64, gate: u64)
-        requires table { seat.old.table_id ≡ id_of self.now }
+        requires table { IsSeatOf self.now seat.old }
         requires written { (x : PostingOf) × (seat.old.me.0.flight ≡ Written x) × (place ≡ x.number % 256) × (gate ≡ code x) }
         requires slots { seat.old.me.1 ≡ [] }
-        ensures table { (seat.new.table_id ≡ seat.old.table_id) × (seat.new.id ≡ seat.old.id) }
+        ensures table { IsSameSeat seat.old seat.new }
         ensures told { FlightMoved seat.old.me seat.new.me }
     {
         let word = (3 + 2 * place) as usize;
@@ -247,9 +247,10 @@ impl Ring {
 // The steps of the drainer.
 impl Ring {
     fn load_gate(&self, seat: &mut Seat<(), View>, place: u64) -> u64
-        requires table { seat.old.table_id ≡ id_of self.now }
-        requires rests { (seat.old.me.0.stage ≡ Resting) × (seat.old.me.0.drains ≡ true) × (seat.old.me.1 ≡ []) × (place ≡ length seat.old.me.0.got % 256) }
-        ensures table { (seat.new.table_id ≡ seat.old.table_id) × (seat.new.id ≡ seat.old.id) }
+        requires table { IsSeatOf self.now seat.old }
+        requires rests { (seat.old.me.0.stage ≡ Resting) × IsDrainerSeat seat.old.me }
+        requires place { place ≡ length seat.old.me.0.got % 256 }
+        ensures table { IsSameSeat seat.old seat.new }
         ensures told { GateLoaded seat.old.me result seat.new.me }
     {
         let word = (3 + 2 * place) as usize;
@@ -257,9 +258,10 @@ impl Ring {
     }
 
     fn load_handle(&self, seat: &mut Seat<(), View>, place: u64) -> u64
-        requires table { seat.old.table_id ≡ id_of self.now }
-        requires seen { ((x : PostingOf) × (seat.old.me.0.stage ≡ Seen x)) × (seat.old.me.0.drains ≡ true) × (seat.old.me.1 ≡ []) × (place ≡ length seat.old.me.0.got % 256) }
-        ensures table { (seat.new.table_id ≡ seat.old.table_id) × (seat.new.id ≡ seat.old.id) }
+        requires table { IsSeatOf self.now seat.old }
+        requires seen { ((x : PostingOf) × (seat.old.me.0.stage ≡ Seen x)) × IsDrainerSeat seat.old.me }
+        requires place { place ≡ length seat.old.me.0.got % 256 }
+        ensures table { IsSameSeat seat.old seat.new }
         ensures told { HandleLoaded seat.old.me result seat.new.me }
     {
         let word = (2 + 2 * place) as usize;
@@ -267,9 +269,10 @@ impl Ring {
     }
 
     fn clear_gate(&self, seat: &mut Seat<(), View>, place: u64)
-        requires table { seat.old.table_id ≡ id_of self.now }
-        requires seen { ((x : PostingOf) × (seat.old.me.0.stage ≡ Seen x)) × (seat.old.me.0.drains ≡ true) × (seat.old.me.1 ≡ []) × (place ≡ length seat.old.me.0.got % 256) }
-        ensures table { (seat.new.table_id ≡ seat.old.table_id) × (seat.new.id ≡ seat.old.id) }
+        requires table { IsSeatOf self.now seat.old }
+        requires seen { ((x : PostingOf) × (seat.old.me.0.stage ≡ Seen x)) × IsDrainerSeat seat.old.me }
+        requires place { place ≡ length seat.old.me.0.got % 256 }
+        ensures table { IsSameSeat seat.old seat.new }
         ensures told { GateCleared seat.old.me seat.new.me }
     {
         let word = (3 + 2 * place) as usize;
@@ -278,9 +281,9 @@ impl Ring {
 
     // The place is given back, once its gate is cleared.
     fn release(&self, seat: &mut Seat<(), View>)
-        requires table { seat.old.table_id ≡ id_of self.now }
-        requires cleared { (seat.old.me.0.stage ≡ Cleared) × (seat.old.me.0.drains ≡ true) × (seat.old.me.1 ≡ []) }
-        ensures table { (seat.new.table_id ≡ seat.old.table_id) × (seat.new.id ≡ seat.old.id) }
+        requires table { IsSeatOf self.now seat.old }
+        requires cleared { (seat.old.me.0.stage ≡ Cleared) × IsDrainerSeat seat.old.me }
+        ensures table { IsSameSeat seat.old seat.new }
         ensures told { PlaceReleased seat.old.me seat.new.me }
     {
         self.table.shared.fetch_sub::<Release>(seat, 0, 1);

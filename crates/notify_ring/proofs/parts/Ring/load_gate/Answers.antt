@@ -3,4 +3,4 @@ use Rattle.notify_ring.proofs.Drains.{looks_at}
 use Rattle.notify_ring.proofs.parts.Ring.load_gate.Goals as goal
 
 pub load-requires : goal.load-requires
-load-requires c = let r = c.requires.rests in (c.requires.table, omega arith, looks_at _ _ _ _ r.0 r.1 r.2 (ap (λ (n : ℕ). 3 + 2 * n) r.3))
+load-requires c = let r = c.requires.rests in (c.requires.table, omega arith, looks_at _ _ _ _ r.0 r.1.0 r.1.1 (ap (λ (n : ℕ). 3 + 2 * n) c.requires.place))
