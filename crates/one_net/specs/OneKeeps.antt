@@ -73,3 +73,7 @@ pub record OneEndKeeps {S : Type 0} (facts : S → SourceFacts) (t : Terms) (end
   -- where a read found the end, nothing is left and no byte was met behind the limit
   pub at_end : (one_end_facts facts end).over ≡ true → NothingLeft (facts (input_of end)).bytes × (extra_of end ≡ [])
   pub story : IsStoryOfSource t
+
+-- it keeps them still, whatever the terms are
+abbrev pub KeepsOn : {S : Type 0} → (S → SourceFacts) → OneEnd S → OneEnd S → Type 0
+KeepsOn facts old new = (t : Terms) → OneEndKeeps facts t old → OneEndKeeps facts t new

@@ -13,6 +13,7 @@ use Rattle.reactor_model.specs.Volumes.{VolumesFacts}
 use Rattle.reactor_state.specs.State.{Shows, HasPlaces, IsPlaced}
 use Rattle.reactor_core.specs.Stands.{Meaning, meaning, Stands, StandsWith}
 use Rattle.reactor_core.specs.Polling.{FitsLimit}
+use Rattle.reactor_core.specs.Views.{volumes_of}
 use Rattle.reactor_core.specs.declared.reactor.Core.{Core}
 use Rattle.reactor_core.specs.declared.reactor.Parts.{Parts}
 use Rattle.reactor_core.specs.Beginning.{PartsStand}
@@ -87,6 +88,10 @@ abbrev pub VolumesSince : Option Halt → ℕ → ℕ → Type 0
 VolumesSince (Some halt.VolumesFailed) before now = Rose before now
 VolumesSince _ before now = now ≡ before
 
+abbrev pub VolumesTell : {H M Q W V N E : Type 0} → (V → VolumesFacts ServerNote) → Option Halt → Core H M Q W V N E → Core H M Q W V N E → Type 0
+VolumesTell volumes halt old new = VolumesSince halt (volumes (volumes_of old)).faults (volumes (volumes_of new)).faults
+
+-- why a run was halted, if it was
 abbrev pub halted : {A : Type 0} → Result A Halt → Option Halt
 halted (Ok value) = None
 halted (Err why) = Some why

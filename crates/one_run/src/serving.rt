@@ -7,7 +7,7 @@ ghost use Rattle.reactor_core.specs.Views.{net_of, watch_of, volumes_of};
 ghost use Rattle.log_handler.specs.declared.note.ServerNote.{ServerNote};
 ghost use Rattle.log_handler.specs.LineSink.{is_broken, whole_of};
 ghost use Rattle.one_run.specs.Phases.{IsOpened, IsRead, IsShut, CanEnd, GrowsFrom};
-ghost use Rattle.one_run.specs.Running.{one_meaning, AreOfOne, CanRun, LeavesParts, ClosedItself, Leads, LeadsBy, KeepsHistory, ReadsOneMore, TurnsOnce, IsWholeUntilLast, VolumesSince, halted, last_entry, closes_lost, IsShutAs, HasEnded};
+ghost use Rattle.one_run.specs.Running.{one_meaning, AreOfOne, CanRun, LeavesParts, ClosedItself, Leads, LeadsBy, KeepsHistory, ReadsOneMore, TurnsOnce, IsWholeUntilLast, VolumesTell, halted, last_entry, closes_lost, IsShutAs, HasEnded};
 
 use ev_base::{Sink, Source};
 use ev_types::Answer;
@@ -48,7 +48,7 @@ pub struct Ending {
 pub fn run<S: Source, K: Sink, V: Volumes<ServerNote>>(core: &mut OneCore<S, K, V>) -> Ending
     requires { CanRun (one_meaning S.facts K.facts V.facts) IsOpened core.old }
     ensures leads { Leads (one_meaning S.facts K.facts V.facts) IsOpened (λ h. HasEnded result.halt result.lost h × IsWholeUntilLast (whole_of (watch_of core.new)) h) core.old core.new }
-    ensures volumes { VolumesSince result.halt (V.facts (volumes_of core.old)).faults (V.facts (volumes_of core.new)).faults }
+    ensures volumes { VolumesTell V.facts result.halt core.old core.new }
     ensures broken { result.halt ≡ Some Halt.Broken → is_broken (watch_of core.new) ≡ true }
     ensures whole { result.halt ≡ None → is_broken (watch_of core.new) ≡ false }
 {
@@ -99,7 +99,7 @@ fn hand_over<S: Source, K: Sink, V: Volumes<ServerNote>>(
 ) -> Result<(), Halt>
     requires { IsStanding (one_meaning S.facts K.facts V.facts) core.old }
     ensures stands { KeepsHistory (one_meaning S.facts K.facts V.facts) core.old core.new }
-    ensures volumes { VolumesSince (halted result) (V.facts (volumes_of core.old)).faults (V.facts (volumes_of core.new)).faults }
+    ensures volumes { VolumesTell V.facts (halted result) core.old core.new }
     ensures net { net_of core.new ≡ net_of core.old }
     ensures watch { watch_of core.new ≡ watch_of core.old }
     ensures whole { result ≡ Err Halt.Broken → ⊥ }
@@ -119,7 +119,7 @@ fn wait<S: Source, K: Sink, V: Volumes<ServerNote>>(core: &mut OneCore<S, K, V>)
     ensures last { OnOk result (LeadsBy (one_meaning S.facts K.facts V.facts) (IsShut []) (λ before h. (lost : Bool) → IsShutAs [] lost before → HasEnded None lost h) core.old core.new) }
     ensures err { OnErr result (LeadsBy (one_meaning S.facts K.facts V.facts) (λ h. IsOpened h ⊎ IsShut [] h) (λ before h. CanEnd h × GrowsFrom 0 before h) core.old core.new) }
     ensures later { whole_of (watch_of core.old) ≤ whole_of (watch_of core.new) }
-    ensures volumes { VolumesSince (halted result) (V.facts (volumes_of core.old)).faults (V.facts (volumes_of core.new)).faults }
+    ensures volumes { VolumesTell V.facts (halted result) core.old core.new }
     ensures broken { result ≡ Err Halt.Broken → is_broken (watch_of core.new) ≡ true }
     ensures whole { OnOk result (is_broken (watch_of core.new) ≡ false) }
 {
@@ -147,7 +147,7 @@ fn serve<S: Source, K: Sink, V: Volumes<ServerNote>>(
     requires whole { is_broken (watch_of core.old) ≡ false }
     ensures ok { IfOk result (λ lost. Leads (one_meaning S.facts K.facts V.facts) IsRead (IsShutAs [] lost) core.old core.new) }
     ensures err { OnErr result (Leads (one_meaning S.facts K.facts V.facts) IsRead (λ h. (IsRead h ⊎ IsShut [] h) × IsWholeUntilLast (whole_of (watch_of core.new)) h) core.old core.new) }
-    ensures volumes { VolumesSince (halted result) (V.facts (volumes_of core.old)).faults (V.facts (volumes_of core.new)).faults }
+    ensures volumes { VolumesTell V.facts (halted result) core.old core.new }
     ensures broken { result ≡ Err Halt.Broken → is_broken (watch_of core.new) ≡ true }
     ensures whole { OnOk result (is_broken (watch_of core.new) ≡ false) }
 {
@@ -171,7 +171,7 @@ fn turn<S: Source, K: Sink, V: Volumes<ServerNote>>(
     ensures closes { (lost : Bool) → result ≡ Ok (Some lost) → Leads (one_meaning S.facts K.facts V.facts) IsRead (IsShutAs [] lost) core.old core.new }
     ensures err { OnErr result (LeadsBy (one_meaning S.facts K.facts V.facts) IsRead TurnsOnce core.old core.new) }
     ensures later { whole_of (watch_of core.old) ≤ whole_of (watch_of core.new) }
-    ensures volumes { VolumesSince (halted result) (V.facts (volumes_of core.old)).faults (V.facts (volumes_of core.new)).faults }
+    ensures volumes { VolumesTell V.facts (halted result) core.old core.new }
     ensures broken { result ≡ Err Halt.Broken → is_broken (watch_of core.new) ≡ true }
     ensures whole { OnOk result (is_broken (watch_of core.new) ≡ false) }
 {
