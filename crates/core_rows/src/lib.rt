@@ -7,6 +7,8 @@ mod refusals;
 mod round_robin;
 mod rows;
 #[cfg(test)]
+mod steps;
+#[cfg(test)]
 mod tests;
 #[cfg(test)]
 mod two_upcalls;

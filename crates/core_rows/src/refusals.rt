@@ -5,7 +5,8 @@ ghost use Rattle.core_rows.specs.Play.{play_rows};
 ghost use Rattle.core_rows.specs.RoundRobin.{round_robin_rows};
 
 use super::*;
-use crate::tests::{NONE, PlayRows, READ, in_the_end, reactor, returned};
+use crate::steps::{NONE, PlayRows, READ, Step, in_the_end, play, quiet};
+use crate::tests::returned;
 use ev_types::{Answer, Handle, Kind};
 use reactor_core::{
     CancelRefused, Core, LiveRefused, NotLive, PollRefused, Polled, PostRefused, RegisterRefused,
@@ -24,60 +25,50 @@ fn refuse_the_unknown(rt: &impl Abort, core: &mut PlayRows)
     ensures { IsIdle play_rows core.new }
 {
     let unknown = Handle(7);
-    assert_eq!(rt; remove(core, unknown), Err(NotLive));
-    assert_eq!(rt; suspend(core, unknown), Err(StateRefused::NotLive));
-    assert_eq!(rt; resume(core, unknown), Err(StateRefused::NotLive));
-    assert_eq!(rt; set_mask(core, unknown, NONE), Err(LiveRefused::NotLive));
-    assert_eq!(rt; schedule(core, unknown, 1, 0), Err(LiveRefused::NotLive));
-    assert_eq!(rt; cancel(core, 7), Err(CancelRefused::NotArmed));
-}
-
-// Each call on a reactor that was stopped.
-fn refuse_when_stopped(rt: &impl Abort, core: &mut PlayRows)
-    requires { IsIdle play_rows core.old }
-    ensures { IsIdle play_rows core.new }
-{
-    assert_eq!(rt; poll(core), Err(PollRefused::Stopped));
-    assert_eq!(rt;
-        post(core, Handle(0), Kind::Read, 0, 0),
-        Err(PostRefused::Stopped)
+    play(
+        rt,
+        core,
+        &[
+            Step::Remove(unknown, Err(NotLive)),
+            Step::Suspend(unknown, Err(StateRefused::NotLive)),
+            Step::Resume(unknown, Err(StateRefused::NotLive)),
+            Step::Masks(unknown, NONE, Err(LiveRefused::NotLive)),
+            Step::Schedule(unknown, Err(LiveRefused::NotLive)),
+            Step::Cancel(7, Err(CancelRefused::NotArmed)),
+        ],
     );
-    assert!(rt;
-        matches!(
-            register(core, Steady::new(), READ),
-            Err((_, RegisterRefused::Stopped))
-        )
-    );
-    assert_eq!(rt; turn(core), Ok(None));
-    assert_eq!(rt; remove(core, Handle(0)), Err(NotLive));
-    refuse_the_unknown(rt, core);
 }
 
 #[test]
 fn refusals_leave_the_journal(rt: HostRuntime) -> Result<(), Fail> {
-    let alloc = rt.alloc();
-    let mut core = reactor(
-        alloc,
-        1,
-        64,
-        Vec::new(alloc),
-        Vec::new(alloc),
-        Vec::new(alloc),
-    )?;
+    let mut core = quiet(rt.alloc(), 1)?;
     let handle = Handle(0);
-    assert!(rt; matches!(register(&mut core, Steady::new(), READ), Ok(Handle(0))));
-    assert_eq!(rt; resume(&mut core, handle), Err(StateRefused::Same));
-    assert_eq!(rt; suspend(&mut core, handle), Ok(()));
-    assert_eq!(rt; suspend(&mut core, handle), Err(StateRefused::Same));
-    assert!(rt;
-        matches!(
-            register(&mut core, Steady::new(), READ),
-            Err((_, RegisterRefused::Full { live: 1, opened: 1 }))
-        )
+    let full = RegisterRefused::Full { live: 1, opened: 1 };
+    play(
+        &rt,
+        &mut core,
+        &[
+            Step::Register(Answer::Keep, Ok(handle)),
+            Step::Resume(handle, Err(StateRefused::Same)),
+            Step::Suspend(handle, Ok(())),
+            Step::Suspend(handle, Err(StateRefused::Same)),
+            Step::Register(Answer::Keep, Err(full)),
+        ],
     );
     refuse_the_unknown(&rt, &mut core);
-    stop(&mut core);
-    refuse_when_stopped(&rt, &mut core);
+    play(
+        &rt,
+        &mut core,
+        &[
+            Step::Stop,
+            Step::Poll(Err(PollRefused::Stopped)),
+            Step::Post(handle, Kind::Read, (0, 0), Err(PostRefused::Stopped)),
+            Step::Register(Answer::Keep, Err(RegisterRefused::Stopped)),
+            Step::Turn(Ok(None)),
+            Step::Remove(handle, Err(NotLive)),
+        ],
+    );
+    refuse_the_unknown(&rt, &mut core);
     in_the_end(
         &rt,
         core,

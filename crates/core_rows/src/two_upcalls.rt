@@ -3,7 +3,8 @@ ghost use Rattle.core_rows.specs.Idle.{IsIdle};
 ghost use Rattle.core_rows.specs.Play.{play_rows};
 
 use super::*;
-use crate::tests::{NONE, PlayRows, READ, in_the_end, reactor, ready, returned};
+use crate::steps::{NONE, PlayRows, READ, Step, in_the_end, play, reactor};
+use crate::tests::{ready, returned};
 use ev_types::{Answer, Handle, Kind};
 use reactor_core::{PollRefused, Polled, Settled};
 use reactor_journal::Entry;
@@ -161,18 +162,24 @@ fn the_last_wait_that_was_over_is_known(rt: HostRuntime) -> Result<(), Fail> {
     let reports = [(0, ready(0))].to_vec(alloc)?;
     let moments = [4].to_vec(alloc)?;
     let mut core = reactor(alloc, 1, 64, moments, reports, Vec::new(alloc))?;
-    assert!(rt; matches!(register(&mut core, Steady::new(), READ), Ok(Handle(0))));
-    assert_eq!(rt; core.over(), 0);
-    assert_eq!(rt; poll(&mut core), Ok(Polled::Events));
-    assert_eq!(rt; core.over(), 0);
-    assert_eq!(rt; turn(&mut core), Ok(Some(2)));
-    assert_eq!(rt; poll(&mut core), Ok(Polled::Over));
-    assert_eq!(rt; core.over(), 2);
-    assert_eq!(rt; poll(&mut core), Ok(Polled::Over));
-    assert_eq!(rt; core.over(), 3);
-    stop(&mut core);
-    assert_eq!(rt; poll(&mut core), Err(PollRefused::Stopped));
-    assert_eq!(rt; core.over(), 3);
+    play(
+        &rt,
+        &mut core,
+        &[
+            Step::Register(Answer::Keep, Ok(FIRST)),
+            Step::Over(0),
+            Step::Poll(Ok(Polled::Events)),
+            Step::Over(0),
+            Step::Turn(Ok(Some(2))),
+            Step::Poll(Ok(Polled::Over)),
+            Step::Over(2),
+            Step::Poll(Ok(Polled::Over)),
+            Step::Over(3),
+            Step::Stop,
+            Step::Poll(Err(PollRefused::Stopped)),
+            Step::Over(3),
+        ],
+    );
     in_the_end(
         &rt,
         core,
