@@ -8,17 +8,13 @@ use std::alloc::Global;
 use std::sync::Wait;
 use std::thread::{Threads, join};
 
-/// A value with no bytes and no entries.
+/// A value with no entries, which holds what it was made with.
 #[derive(Drop)]
-pub struct Nothing;
-
-/// A large value with no entries, of as many bytes as a reactor with a buffer for its output.
-#[derive(Drop)]
-pub struct Large {
-    bytes: [u8; 8_704],
+pub struct Plain<B> {
+    bytes: B,
 }
 
-impl Kept for Nothing {
+impl<B> Kept for Plain<B> {
     type Entry = u64;
 
     type Terms = ();
@@ -39,57 +35,38 @@ impl Kept for Nothing {
     ghost equally_many = { λ one other. refl };
 }
 
-impl Kept for Large {
-    type Entry = u64;
-
-    type Terms = ();
-
-    ghost use Rattle.std.specs.Prelude.{◌≡◌, [], refl};
-    ghost use Rattle.std.proofs.Math.Nat.{le_of_sub-eq-zero};
-
-    ghost stands = { λ terms first value list. list ≡ [] };
-
-    ghost opens = { λ list. [] };
-
-    ghost marks = { λ value. [] };
-
-    ghost blank = { tt };
-
-    ghost once = { λ terms first value list stands event. le_of_sub-eq-zero refl };
-
-    ghost equally_many = { λ one other. refl };
-}
-
-/// A token of a value with no bytes.
-pub fn empty_token(alloc: Global) -> Result<(Token<Nothing>, Pass<Nothing>), NoMemory>
+/// A token of a value that holds this.
+pub fn token_with<B: Drop>(
+    alloc: Global,
+    bytes: B,
+) -> Result<(Token<Plain<B>>, Pass<Plain<B>>), NoMemory>
     ensures { IfOk result (λ made. IsRoot made.0 made.1) }
 {
-    match Token::new(alloc, Nothing) {
+    match Token::new(alloc, Plain { bytes }) {
         Ok(made) => Ok(made),
         Err((_, refused)) => Err(refused),
     }
 }
 
-/// A token of a large value.
-pub fn large_token(alloc: Global) -> Result<(Token<Large>, Pass<Large>), NoMemory>
-    ensures { IfOk result (λ made. IsRoot made.0 made.1) }
-{
-    let value = Large { bytes: [0; 8_704] };
-    match Token::new(alloc, value) {
-        Ok(made) => Ok(made),
-        Err((_, refused)) => Err(refused),
-    }
-}
-
-/// One thread holds a token so often. The answer is how many holds there were.
-pub fn hold_alone<R: Wait, T: Kept>(rt: &R, token: &Token<T>, root: Pass<T>, turns: u64) -> u64
+/// So many threads hold a token so often each: 1, 2, 4 or 8. The answer is how many holds there were.
+pub fn hold_by<R: Threads + Wait + Sync, T: Kept + Send>(
+    rt: &R,
+    token: &Token<T>,
+    root: Pass<T>,
+    threads: u64,
+    turns: u64,
+) -> u64
     requires { IsRoot token.now root }
 {
-    visits(rt, token, root, turns)
+    match threads {
+        1 => visits(rt, token, root, turns),
+        2 => hold_by_two(rt, token, root, turns),
+        4 => hold_by_four(rt, token, root, turns),
+        _ => hold_by_eight(rt, token, root, turns),
+    }
 }
 
-/// The same with two threads.
-pub fn hold_by_two<R: Threads + Wait + Sync, T: Kept + Send>(
+fn hold_by_two<R: Threads + Wait + Sync, T: Kept + Send>(
     rt: &R,
     token: &Token<T>,
     mut root: Pass<T>,
@@ -101,8 +78,7 @@ pub fn hold_by_two<R: Threads + Wait + Sync, T: Kept + Send>(
     two(rt, token, root, other, turns)
 }
 
-/// The same with four threads.
-pub fn hold_by_four<R: Threads + Wait + Sync, T: Kept + Send>(
+fn hold_by_four<R: Threads + Wait + Sync, T: Kept + Send>(
     rt: &R,
     token: &Token<T>,
     mut root: Pass<T>,
@@ -116,8 +92,7 @@ pub fn hold_by_four<R: Threads + Wait + Sync, T: Kept + Send>(
     four(rt, token, (root, b), (c, d), turns)
 }
 
-/// The same with eight threads.
-pub fn hold_by_eight<R: Threads + Wait + Sync, T: Kept + Send>(
+fn hold_by_eight<R: Threads + Wait + Sync, T: Kept + Send>(
     rt: &R,
     token: &Token<T>,
     mut root: Pass<T>,

@@ -5,6 +5,7 @@
 
 mod beside;
 mod check;
+mod cost;
 mod holds;
 mod journals;
 mod map;

@@ -1,6 +1,7 @@
 //! What it costs to pass messages on: through a message queue, through streams of 1, 3 and 8 passing modules, and through a passing
 //! task on a thread of its own.
 
+use crate::cost::cost;
 use crate::{beside, message_queue, streams};
 use ev_types::NoMemory;
 use std::alloc::Global;
@@ -10,6 +11,17 @@ use std::sync::Wait;
 use std::thread::Threads;
 use std::time::Instant;
 
+/// What messages go through.
+#[derive(Clone, Copy)]
+enum Way {
+    /// A message queue.
+    Queue,
+    /// A stream of so many passing modules.
+    Stream(u32),
+    /// A passing task on a thread of its own.
+    ActiveTask,
+}
+
 /// Passes one message 100 times, or where it is timed a million times.
 pub fn run<R: Runtime + Threads + Wait + Copy + Send + 'static>(
     rt: &R,
@@ -17,37 +29,32 @@ pub fn run<R: Runtime + Threads + Wait + Copy + Send + 'static>(
     timed: bool,
 ) -> io::Result<()> {
     let count = if timed { 1_000_000 } else { 100 };
-    let start = Instant::now(rt)?;
-    let done = message_queue::run(alloc, count);
-    let nanos = start.elapsed(rt)?.as_nanos();
-    println!(rt;
-        "enqueue_tail and dequeue_head: {}",
-        cost(timed, done, nanos)
-    )?;
-    let sizes: [u32; 3] = [1, 3, 8];
-    for modules in sizes {
+    let ways = [
+        (Way::Queue, "enqueue_tail and dequeue_head"),
+        (Way::Stream(1), "put through 1 passing modules"),
+        (Way::Stream(3), "put through 3 passing modules"),
+        (Way::Stream(8), "put through 8 passing modules"),
+        (Way::ActiveTask, "put through an active passing task"),
+    ];
+    for (way, name) in ways {
         let start = Instant::now(rt)?;
-        let done = streams::run(alloc, modules, count);
+        let done = pass(rt, alloc, way, count);
         let nanos = start.elapsed(rt)?.as_nanos();
-        println!(rt;
-            "put through {modules} passing modules: {}",
-            cost(timed, done, nanos)
-        )?;
+        println!(rt; "{name}: {}", cost(timed, done.unwrap_or(0), nanos))?;
     }
-    let start = Instant::now(rt)?;
-    let done = beside::run(rt, alloc, count);
-    let nanos = start.elapsed(rt)?.as_nanos();
-    println!(rt;
-        "put through an active passing task: {}",
-        cost(timed, done, nanos)
-    )
+    Ok(())
 }
 
-/// Nanoseconds for each time, or how often; 0 where there was no memory.
-fn cost(timed: bool, done: Result<u64, NoMemory>, nanos: u128) -> u128 {
-    match done {
-        Ok(passed) if timed && passed > 0 => nanos / passed as u128,
-        Ok(passed) => passed as u128,
-        Err(_) => 0,
+/// Passes one message so often, and tells how often it came out.
+fn pass<R: Threads + Wait + Copy + Send + 'static>(
+    rt: &R,
+    alloc: Global,
+    way: Way,
+    count: u64,
+) -> Result<u64, NoMemory> {
+    match way {
+        Way::Queue => message_queue::run(alloc, count),
+        Way::Stream(modules) => streams::run(alloc, modules, count),
+        Way::ActiveTask => beside::run(rt, alloc, count),
     }
 }

@@ -8,8 +8,30 @@ use ring_rows::post_many;
 use std::alloc::Global;
 use std::thread::{Threads, join, yield_now};
 
-/// One thread posts and takes in turn. The answer is how many postings were taken.
-pub fn post_and_take(alloc: Global, turns: u64) -> u64
+/// Who posts and who takes.
+#[derive(Clone, Copy)]
+pub enum Way {
+    /// One thread posts and takes in turn.
+    Alone,
+    /// One thread posts and another takes.
+    OneToOne,
+    /// Four threads post, a quarter each, and a fifth takes.
+    FourToOne,
+}
+
+/// So many postings are made and taken. The answer is how many were taken.
+pub fn post_by<R: Threads + Sync>(rt: &R, alloc: Global, way: Way, count: u64) -> u64
+    requires { count ≤ 2 ^ 56 }
+{
+    match way {
+        Way::Alone => post_and_take(alloc, count),
+        Way::OneToOne => one_to_one(rt, alloc, count),
+        Way::FourToOne => four_to_one(rt, alloc, count / 4),
+    }
+}
+
+// One thread posts and takes in turn. The answer is how many postings were taken.
+fn post_and_take(alloc: Global, turns: u64) -> u64
     requires { turns ≤ 2 ^ 56 }
 {
     let Ok((ring, mut poster, mut drainer)) = Ring::new(alloc) else {
@@ -28,8 +50,8 @@ pub fn post_and_take(alloc: Global, turns: u64) -> u64
     taken
 }
 
-/// One thread posts and another takes.
-pub fn one_to_one<R: Threads + Sync>(rt: &R, alloc: Global, count: u64) -> u64
+// One thread posts and another takes.
+fn one_to_one<R: Threads + Sync>(rt: &R, alloc: Global, count: u64) -> u64
     requires { count ≤ 2 ^ 56 }
 {
     let Ok((ring, poster, drainer)) = Ring::new(alloc) else {
@@ -48,8 +70,8 @@ pub fn one_to_one<R: Threads + Sync>(rt: &R, alloc: Global, count: u64) -> u64
     taken
 }
 
-/// Four threads post so many each, and a fifth takes.
-pub fn four_to_one<R: Threads + Sync>(rt: &R, alloc: Global, count: u64) -> u64
+// Four threads post so many each, and a fifth takes.
+fn four_to_one<R: Threads + Sync>(rt: &R, alloc: Global, count: u64) -> u64
     requires { count ≤ 2 ^ 56 }
 {
     let Ok((ring, mut root, drainer)) = Ring::new(alloc) else {

@@ -1,5 +1,7 @@
 //! What a hold of the token and a posting cost.
 
+use crate::cost::cost;
+use crate::posts::Way;
 use crate::{holds, posts};
 use std::alloc::Global;
 use std::io;
@@ -14,77 +16,40 @@ pub fn run<R: Runtime + Threads + Wait + Sync>(
     alloc: Global,
     timed: bool,
 ) -> io::Result<()> {
-    time_holds(rt, alloc, timed)?;
-    time_large_holds(rt, alloc, timed)?;
+    let holds = [
+        (1, "one thread"),
+        (2, "two threads"),
+        (4, "four threads"),
+        (8, "eight threads"),
+    ];
+    for (threads, by) in holds {
+        time_hold(rt, alloc, timed, (), threads, "hold", by)?;
+    }
+    for (threads, by) in [(1, "one thread"), (4, "four threads")] {
+        let bytes = [0u8; 8_704];
+        time_hold(rt, alloc, timed, bytes, threads, "hold of 8704 bytes", by)?;
+    }
     time_posts(rt, alloc, timed)
 }
 
-// Holds of a value with no bytes, by one to eight threads.
-fn time_holds<R: Runtime + Threads + Wait + Sync>(
+// Holds by so many threads of a value that holds these bytes.
+fn time_hold<R: Runtime + Threads + Wait + Sync, B: Drop + Send>(
     rt: &R,
     alloc: Global,
     timed: bool,
+    bytes: B,
+    threads: u64,
+    what: &str,
+    by: &str,
 ) -> io::Result<()> {
     let turns = if timed { 400_000 } else { 100 };
-    let Ok((token, root)) = holds::empty_token(alloc) else {
+    let Ok((token, root)) = holds::token_with(alloc, bytes) else {
         return Ok(());
     };
     let start = Instant::now(rt)?;
-    let held = holds::hold_alone(rt, &token, root, turns);
+    let held = holds::hold_by(rt, &token, root, threads, turns);
     let nanos = start.elapsed(rt)?.as_nanos();
-    println!(rt; "hold, one thread: {}", cost(timed, held, nanos))?;
-    let Ok((token, root)) = holds::empty_token(alloc) else {
-        return Ok(());
-    };
-    let start = Instant::now(rt)?;
-    let held = holds::hold_by_two(rt, &token, root, turns);
-    let nanos = start.elapsed(rt)?.as_nanos();
-    println!(rt; "hold, two threads: {}", cost(timed, held, nanos))?;
-    let Ok((token, root)) = holds::empty_token(alloc) else {
-        return Ok(());
-    };
-    let start = Instant::now(rt)?;
-    let held = holds::hold_by_four(rt, &token, root, turns);
-    let nanos = start.elapsed(rt)?.as_nanos();
-    println!(rt; "hold, four threads: {}", cost(timed, held, nanos))?;
-    let Ok((token, root)) = holds::empty_token(alloc) else {
-        return Ok(());
-    };
-    let start = Instant::now(rt)?;
-    let held = holds::hold_by_eight(rt, &token, root, turns);
-    let nanos = start.elapsed(rt)?.as_nanos();
-    println!(rt; "hold, eight threads: {}", cost(timed, held, nanos))?;
-    Ok(())
-}
-
-// Holds of a large value, by one thread and by four.
-fn time_large_holds<R: Runtime + Threads + Wait + Sync>(
-    rt: &R,
-    alloc: Global,
-    timed: bool,
-) -> io::Result<()> {
-    let turns = if timed { 400_000 } else { 100 };
-    let Ok((token, root)) = holds::large_token(alloc) else {
-        return Ok(());
-    };
-    let start = Instant::now(rt)?;
-    let held = holds::hold_alone(rt, &token, root, turns);
-    let nanos = start.elapsed(rt)?.as_nanos();
-    println!(rt;
-        "hold of 8704 bytes, one thread: {}",
-        cost(timed, held, nanos)
-    )?;
-    let Ok((token, root)) = holds::large_token(alloc) else {
-        return Ok(());
-    };
-    let start = Instant::now(rt)?;
-    let held = holds::hold_by_four(rt, &token, root, turns);
-    let nanos = start.elapsed(rt)?.as_nanos();
-    println!(rt;
-        "hold of 8704 bytes, four threads: {}",
-        cost(timed, held, nanos)
-    )?;
-    Ok(())
+    println!(rt; "{what}, {by}: {}", cost(timed, held, nanos))
 }
 
 // Postings through a ring.
@@ -94,28 +59,16 @@ fn time_posts<R: Runtime + Threads + Wait + Sync>(
     timed: bool,
 ) -> io::Result<()> {
     let turns = if timed { 1_000_000 } else { 100 };
-    let start = Instant::now(rt)?;
-    let posted = posts::post_and_take(alloc, turns);
-    let nanos = start.elapsed(rt)?.as_nanos();
-    println!(rt; "post and next, one thread: {}", cost(timed, posted, nanos))?;
-    let start = Instant::now(rt)?;
-    let posted = posts::one_to_one(rt, alloc, turns);
-    let nanos = start.elapsed(rt)?.as_nanos();
-    println!(rt; "post and next, one to one: {}", cost(timed, posted, nanos))?;
-    let start = Instant::now(rt)?;
-    let posted = posts::four_to_one(rt, alloc, turns / 4);
-    let nanos = start.elapsed(rt)?.as_nanos();
-    println!(rt;
-        "post and next, four to one: {}",
-        cost(timed, posted, nanos)
-    )
-}
-
-// Nanoseconds for each, or how many were made.
-fn cost(timed: bool, made: u64, nanos: u128) -> u128 {
-    if timed && made > 0 {
-        nanos / made as u128
-    } else {
-        made as u128
+    let ways = [
+        (Way::Alone, "one thread"),
+        (Way::OneToOne, "one to one"),
+        (Way::FourToOne, "four to one"),
+    ];
+    for (way, by) in ways {
+        let start = Instant::now(rt)?;
+        let posted = posts::post_by(rt, alloc, way, turns);
+        let nanos = start.elapsed(rt)?.as_nanos();
+        println!(rt; "post and next, {by}: {}", cost(timed, posted, nanos))?;
     }
+    Ok(())
 }

@@ -1,5 +1,6 @@
 //! What it costs to schedule timers and to expire them, in the three timer queues and in a plain `BTreeMap`.
 
+use crate::cost::cost;
 use crate::{map, queues};
 use ev_types::NoMemory;
 use std::alloc::Global;
@@ -25,43 +26,43 @@ pub fn run(rt: &HostRuntime, timed: bool) -> io::Result<()> {
     Ok(())
 }
 
+/// What timers are scheduled in.
+#[derive(Clone, Copy)]
+enum QueueKind {
+    Sorted,
+    Heap,
+    Wheel,
+    Map,
+}
+
 /// Runs each queue with so many timers.
 fn compare(rt: &HostRuntime, timed: bool, size: u64) -> io::Result<()> {
-    let start = Instant::now(rt)?;
-    let done = sorted(rt.alloc(), size);
-    let nanos = start.elapsed(rt)?.as_nanos();
-    println!(rt; "{size} timers, sorted list: {}", cost(timed, done, nanos))?;
-    let start = Instant::now(rt)?;
-    let done = heap(rt.alloc(), size);
-    let nanos = start.elapsed(rt)?.as_nanos();
-    println!(rt; "{size} timers, heap: {}", cost(timed, done, nanos))?;
-    let start = Instant::now(rt)?;
-    let done = wheel(rt.alloc(), size);
-    let nanos = start.elapsed(rt)?.as_nanos();
-    println!(rt; "{size} timers, wheel: {}", cost(timed, done, nanos))?;
-    let start = Instant::now(rt)?;
-    let done = map::run(rt.alloc(), size);
-    let nanos = start.elapsed(rt)?.as_nanos();
-    println!(rt; "{size} timers, BTreeMap: {}", cost(timed, done, nanos))
+    let kinds = [
+        (QueueKind::Sorted, "sorted list"),
+        (QueueKind::Heap, "heap"),
+        (QueueKind::Wheel, "wheel"),
+        (QueueKind::Map, "BTreeMap"),
+    ];
+    for (kind, name) in kinds {
+        let start = Instant::now(rt)?;
+        let done = expire(rt.alloc(), kind, size);
+        let nanos = start.elapsed(rt)?.as_nanos();
+        println!(rt;
+            "{size} timers, {name}: {}",
+            cost(timed, done.unwrap_or(0), nanos)
+        )?;
+    }
+    Ok(())
 }
 
-fn sorted(alloc: Global, size: u64) -> Result<u64, NoMemory> {
-    queues::run(&mut SortedTimers::new(alloc), size)
-}
-
-fn heap(alloc: Global, size: u64) -> Result<u64, NoMemory> {
-    queues::run(&mut HeapTimers::new(alloc), size)
-}
-
-fn wheel(alloc: Global, size: u64) -> Result<u64, NoMemory> {
-    queues::run(&mut WheelTimers::<SPOKES>::new(alloc, RESOLUTION)?, size)
-}
-
-/// Nanoseconds for each timer, or how many expired; 0 where there was no memory.
-fn cost(timed: bool, done: Result<u64, NoMemory>, nanos: u128) -> u128 {
-    match done {
-        Ok(expired) if timed && expired > 0 => nanos / expired as u128,
-        Ok(expired) => expired as u128,
-        Err(_) => 0,
+/// Schedules so many timers, and tells how many expired.
+fn expire(alloc: Global, kind: QueueKind, size: u64) -> Result<u64, NoMemory> {
+    match kind {
+        QueueKind::Sorted => queues::run(&mut SortedTimers::new(alloc), size),
+        QueueKind::Heap => queues::run(&mut HeapTimers::new(alloc), size),
+        QueueKind::Wheel => {
+            queues::run(&mut WheelTimers::<SPOKES>::new(alloc, RESOLUTION)?, size)
+        }
+        QueueKind::Map => map::run(alloc, size),
     }
 }
