@@ -1,4 +1,4 @@
-use Rattle.std.proofs.Common.{ℕ, ◌≡◌, ◌<◌, ◌≤◌, ◌-◌, length}
+use Rattle.std.proofs.Common.{ℕ, ◌<◌, ◌≤◌, ◌-◌, length}
 use Rattle.timer_heap.specs.Tree.{IsClear, HasKeys, KeepsRoom, AreMoved, IsHeapAbove}
 use Rattle.timer_heap.proofs.tree.sift_down.Given as goal
 
