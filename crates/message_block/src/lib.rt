@@ -6,8 +6,6 @@ mod block;
 mod laws;
 mod message;
 mod queue;
-#[cfg(test)]
-mod tests;
 
 pub use block::{Block, NoSpace};
 pub use laws::equal_messages_leave_in_order_of_arrival;

@@ -1,28 +1,15 @@
 //! Streams of modules: worked examples.
 
-ghost use Rattle.std.specs.Prelude.{◌≡◌, ◌≤◌, IfOk, length, false};
+ghost use Rattle.std.specs.Prelude.{◌≡◌, false};
 ghost use Rattle.module_stream.specs.Streams.{has_started};
 
 use crate::KeepTask;
-use ev_types::NoMemory;
-use message_block::{Block, Message};
+use crate::queues::message_of;
+use message_block::Message;
 use module_stream::{
     FormatTask, Messages, Module, PassTask, PushRefused, SeparateTask, Stream, StreamRefused,
 };
-use std::alloc::Global;
 use std::test::Fail;
-
-/// A message of one block with these bytes.
-fn message_of(alloc: Global, bytes: &[u8], priority: u32) -> Result<Message, NoMemory>
-    requires { length bytes.now ≤ 1048576 }
-{
-    let mut block = Block::new(alloc, bytes.len())?;
-    let _ = block.write(bytes);
-    match Message::new(alloc, block, priority) {
-        Ok(message) => Ok(message),
-        Err((_, refused)) => Err(refused),
-    }
-}
 
 /// Pushes a module, and tells the refusal with the name of the module that came back.
 fn push(stream: &mut Stream, module: Module) -> Option<(u32, PushRefused)>

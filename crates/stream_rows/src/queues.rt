@@ -2,13 +2,13 @@
 
 ghost use Rattle.std.specs.Prelude.{◌≡◌, ◌≤◌, length, IfOk};
 
-use super::*;
 use ev_types::NoMemory;
+use message_block::*;
 use std::alloc::Global;
 use std::test::Fail;
 
 /// A message of one block with these bytes.
-fn message_of(alloc: Global, bytes: &[u8], priority: u32) -> Result<Message, NoMemory>
+pub(crate) fn message_of(alloc: Global, bytes: &[u8], priority: u32) -> Result<Message, NoMemory>
     requires { length bytes.now ≤ 1048576 }
     ensures { IfOk result (λ message. length message.blocks ≡ 1) }
 {
