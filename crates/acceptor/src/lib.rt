@@ -9,6 +9,3 @@ mod server;
 
 pub use acceptor::Acceptor;
 pub use server::ServerHandler;
-
-#[cfg(test)]
-mod tests;

@@ -1,7 +1,9 @@
 //! Rows of the crates that no reactor is needed for: the record, the journal and its checker, what a reactor keeps, the handler
-//! repository, and sources, sinks, ends and nets. They show what no contract says.
+//! repository, keepers of volumes, sources, sinks, ends and nets, and the acceptor. They show what no contract says.
 #![tactic(auto)]
 
+#[cfg(test)]
+mod accepting;
 #[cfg(test)]
 mod check;
 #[cfg(test)]
@@ -22,3 +24,5 @@ mod state;
 mod summary;
 #[cfg(test)]
 mod turns;
+#[cfg(test)]
+mod volumes;

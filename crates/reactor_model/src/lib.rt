@@ -3,8 +3,6 @@
 #![tactic(auto)]
 
 mod handler;
-#[cfg(test)]
-mod tests;
 mod volumes;
 mod watch;
 

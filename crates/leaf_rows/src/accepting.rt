@@ -1,9 +1,9 @@
-//! What no contract says: that the handlers run over an end in memory.
+//! The handlers of the server over an end in memory.
 ghost use Rattle.std.specs.Prelude.{◌≡◌, ℕ, Bool, if◌then◌else◌, false, None, option_map};
 ghost use Rattle.ev_base.specs.KeepsStory.{KeepsStory};
 ghost use Rattle.ev_base.specs.End.{EndFacts, Accepted, Paused};
 
-use crate::{Acceptor, ServerHandler};
+use acceptor::{Acceptor, ServerHandler};
 use ev_base::{Got, PeerEnd, Sent, Taken};
 use ev_types::{Answer, Mask, Upcall, Why};
 use log_handler::{EndKind, ServerNote};

@@ -1,8 +1,8 @@
 //! What no contract says: that volumes are taken where memory is ample, and that the checker is passed on.
 ghost use Rattle.std.specs.Prelude.{◌≡◌, length, IfOk};
 
-use super::*;
 use ev_types::{Handle, Mask};
+use reactor_model::*;
 use std::alloc::Global;
 use std::test::Fail;
 
