@@ -1,5 +1,5 @@
 //! The map.
-ghost use Rattle.std.specs.Prelude.{◌≡◌, ◌<◌, ◌≤◌, [], None, Some, OnOk, OnErr, length};
+ghost use Rattle.std.specs.Prelude.{◌≡◌, ◌<◌, ◌≤◌, [], None, Some, OnOk, OnErr, IfNone, length};
 ghost use Rattle.std.specs.BTreeMap.{is_at, insert_entry};
 ghost use Rattle.std.specs.List.Sorted.{IsStrictlySortedBy};
 ghost use Rattle.std.specs.Map.{keys_of, remove_entry};
@@ -28,7 +28,8 @@ impl<V: Copy> Model for NumberMap<V> {
 impl<V: Copy> NumberMap<V> {
     /// An empty map, which holds no memory.
     pub fn new(alloc: Global) -> NumberMap<V>
-        ensures { result.entries ≡ [] }
+        ensures entries { result.entries ≡ [] }
+        ensures ordered { IsStrictlySortedBy nat_cmp (keys_of result.entries) }
     {
         NumberMap {
             places: Vec::new(alloc),
@@ -63,11 +64,20 @@ impl<V: Copy> NumberMap<V> {
         ensures value { result ≡ found self.old number }
         ensures entries { self.new.entries ≡ remove_entry (is_at (nat_cmp number)) self.old.entries }
         ensures updates { Updates self.old self.new number None }
+        ensures unchanged { IfNone result (self.new.entries ≡ self.old.entries) }
         ensures ordered { IsStrictlySortedBy nat_cmp (keys_of self.new.entries) }
     {
         let value = self.get(number)?;
         self.places[number as usize] = None;
         Some(value)
+    }
+
+    /// Takes all values away.
+    pub fn clear(&mut self)
+        ensures entries { self.new.entries ≡ [] }
+        ensures ordered { IsStrictlySortedBy nat_cmp (keys_of self.new.entries) }
+    {
+        self.places.clear();
     }
 }
 
