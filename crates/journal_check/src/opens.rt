@@ -12,14 +12,13 @@ use ev_types::{Handle, NoMemory};
 use number_map::NumberMap;
 use reactor_summary::OpenEvent;
 use std::alloc::Global;
-use std::collections::BTreeMap;
 use std::marker::Model;
 
-/// The open events by the number of their start and their own. The number of an event leads to that of its start, and
+/// The open events by the number of their start. The number of an event leads to that of its start, and
 /// its handle to its number; either may lead to an event that is no longer open.
 #[derive(Drop)]
 pub struct Opens {
-    started: BTreeMap<(u64, u64), OpenEvent>,
+    started: NumberMap<OpenEvent>,
     starts: NumberMap<u64>,
     events: NumberMap<u64>,
     next: u64,
@@ -39,7 +38,7 @@ impl Opens {
         ensures { result ≡ [] }
     {
         Opens {
-            started: BTreeMap::new(alloc),
+            started: NumberMap::new(alloc),
             starts: NumberMap::new(alloc),
             events: NumberMap::new(alloc),
             next: 0,
@@ -52,7 +51,7 @@ impl Opens {
     {
         match self.starts.get(event) {
             None => None,
-            Some(start) => self.started.get(&(start, event)).copied(),
+            Some(start) => self.started.get(start),
         }
     }
 
@@ -94,7 +93,7 @@ impl Opens {
         ensures { self.new ≡ filter (λ o. not (event == o.event)) self.old }
     {
         if let Some(start) = self.starts.get(event) {
-            let _ = self.started.remove(&(start, event));
+            let _ = self.started.remove(start);
         }
     }
 
@@ -120,10 +119,10 @@ impl Opens {
         let Some(next) = start.checked_add(1) else {
             return Err(NoMemory);
         };
+        self.next = next;
         self.starts.insert(o.event, start)?;
         self.events.insert(o.handle.0, o.event)?;
-        self.next = next;
-        self.started.insert((start, o.event), o)?;
+        self.started.insert(start, o)?;
         Ok(())
     }
 

@@ -5,7 +5,6 @@ use Rattle.std.specs.Map.{values_of}
 use Rattle.std.specs.Ordering.{nat_cmp}
 use Rattle.reactor_summary.specs.declared.parts.OpenEvent.{OpenEvent}
 use Rattle.number_map.specs.Content.{found}
-use Rattle.journal_check.specs.Index.{pair_cmp}
 use Rattle.journal_check.proofs.Keyed.{find_looked_up}
 use Rattle.journal_check.proofs.Opened.{led_opens, unled_opens, unled_find}
 use Rattle.journal_check.proofs.opens.Opens.find.Goals as goal
@@ -20,7 +19,6 @@ returns-in-None c =
 pub returns-in-Some : goal.returns-in-Some
 returns-in-Some c =
     let led : found c.self.inside.starts c.args.event ≡ Some c.in-Some.start = sym c.get.ensures.value ∙ c.in-Some.is in
-    c.copied.ensures
-    ∙ (c.get-in-Some.ensures.value
-    ∙ (sym (find_looked_up (is_at (pair_cmp (c.in-Some.start, c.args.event))) (λ (o : OpenEvent). o.event == c.args.event) c.self.inside.started.entries (led_opens (found c.self.inside.starts) (found c.self.inside.events) c.self.inside.next c.args.event c.in-Some.start c.self.inside.started.entries led c.self.invariant.each))
-    ∙ ap (find (λ (o : OpenEvent). o.event == c.args.event)) c.self.view_is))
+    c.get-in-Some.ensures.value
+    ∙ (sym (find_looked_up (is_at (nat_cmp c.in-Some.start)) (λ (o : OpenEvent). o.event == c.args.event) c.self.inside.started.entries (led_opens (found c.self.inside.starts) (found c.self.inside.events) c.self.inside.next c.args.event c.in-Some.start c.self.inside.started.entries led c.self.invariant.each))
+    ∙ ap (find (λ (o : OpenEvent). o.event == c.args.event)) c.self.view_is)
