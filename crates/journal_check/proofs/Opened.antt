@@ -9,7 +9,7 @@ use Rattle.std.specs.List.Sorted.{IsStrictlySortedBy}
 use Rattle.std.specs.Map.{keys_of, values_of, lookup}
 use Rattle.std.specs.Ordering.{nat_cmp, is_eq, match_ordering}
 use Rattle.std.specs.declared.cmp.Ordering.{Ordering}
-use Rattle.std.specs.declared.cmp.Ordering.TheVariants.{Less, Greater}
+use Rattle.std.specs.declared.cmp.Ordering.TheVariants.{Less}
 use Rattle.reactor_summary.specs.declared.parts.OpenEvent.{OpenEvent}
 use Rattle.reactor_summary.specs.Tells.{Each}
 use Rattle.reactor_summary.proofs.Lists.{some_is, each_same}

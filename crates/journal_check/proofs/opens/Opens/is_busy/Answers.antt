@@ -1,6 +1,5 @@
 use Rattle.std.proofs.Common.{◌≡◌, ◌==◌, Some, sym, ap, ◌∙◌}
 use Rattle.std.specs.List.{list_any, find}
-use Rattle.std.specs.Ordering.{nat_cmp}
 use Rattle.reactor_summary.specs.declared.parts.OpenEvent.{OpenEvent}
 use Rattle.number_map.specs.Content.{found}
 use Rattle.journal_check.proofs.Opened.{unheld_opens, idle_unfound, busy_found}

@@ -3,7 +3,6 @@ use Rattle.std.specs.BTreeMap.{is_at}
 use Rattle.std.specs.BTreeSet.{contains}
 use Rattle.std.specs.List.{list_any}
 use Rattle.std.specs.Map.{values_of, lookup}
-use Rattle.std.specs.Ordering.{nat_cmp}
 use Rattle.reactor_summary.specs.Summary as S
 use Rattle.reactor_summary.specs.declared.parts.ArmedTimer.{ArmedTimer}
 use Rattle.number_map.specs.Content.{found}

@@ -1,7 +1,6 @@
 use Rattle.std.proofs.Common.{◌≡◌, ◌==◌, ◌+◌, Bool, true, not, refl, ap, ◌∙◌, subst, arith, cond}
 use Rattle.std.specs.BTreeSet.{contains, btree_set_len}
 use Rattle.std.specs.List.{filter}
-use Rattle.std.specs.Ordering.{nat_cmp}
 use Rattle.reactor_summary.specs.declared.parts.ArmedTimer.{ArmedTimer}
 use Rattle.number_map.specs.Content.{found}
 use Rattle.journal_check.specs.Index.{pair_cmp}

@@ -1,5 +1,4 @@
 use Rattle.std.specs.BTreeSet.{contains, btree_set_len}
-use Rattle.std.specs.Ordering.{nat_cmp}
 use Rattle.number_map.specs.Content.{found}
 use Rattle.journal_check.specs.Index.{pair_cmp}
 use Rattle.journal_check.proofs.Timed.{Disarming}

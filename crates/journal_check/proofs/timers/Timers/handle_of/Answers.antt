@@ -4,7 +4,6 @@ use Rattle.std.specs.BTreeSet.{contains}
 use Rattle.std.specs.List.{list_any, find}
 use Rattle.std.specs.Map.{values_of}
 use Rattle.std.specs.Option.{option_copied}
-use Rattle.std.specs.Ordering.{nat_cmp}
 use Rattle.reactor_summary.specs.declared.parts.ArmedTimer.{ArmedTimer}
 use Rattle.number_map.specs.Content.{found}
 use Rattle.journal_check.specs.Fronts as K

@@ -2,7 +2,6 @@ use Rattle.std.proofs.Common.{◌≡◌, ◌==◌, Some, sym, ap, ◌∙◌}
 use Rattle.std.specs.BTreeMap.{is_at}
 use Rattle.std.specs.BTreeSet.{contains}
 use Rattle.std.specs.List.{list_any}
-use Rattle.std.specs.Ordering.{nat_cmp}
 use Rattle.reactor_summary.specs.declared.parts.ArmedTimer.{ArmedTimer}
 use Rattle.number_map.specs.Content.{found}
 use Rattle.journal_check.specs.Index.{pair_cmp}

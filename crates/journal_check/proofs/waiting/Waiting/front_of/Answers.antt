@@ -5,7 +5,6 @@ use Rattle.std.specs.List.{list_any}
 use Rattle.std.specs.Map.{values_of, lookup}
 use Rattle.std.specs.Ordering.{nat_cmp}
 use Rattle.reactor_summary.specs.declared.parts.WaitingEvent.{WaitingEvent}
-use Rattle.number_map.specs.Content.{found}
 use Rattle.journal_check.specs.Index.{pair_cmp}
 use Rattle.journal_check.specs.Queue.{lane_key, IsFront}
 use Rattle.journal_check.proofs.Queue.{none_found, lane_named, within_five, front_found}
