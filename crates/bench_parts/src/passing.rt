@@ -27,10 +27,17 @@ pub fn run<R: Runtime + Threads + Wait + Copy + Send + 'static>(
     let sizes: [u32; 3] = [1, 3, 8];
     for modules in sizes {
         let start = Instant::now(rt)?;
-        let done = streams::run(alloc, modules, count);
+        let done = streams::run(alloc, modules, count, false);
         let nanos = start.elapsed(rt)?.as_nanos();
         println!(rt;
             "put through {modules} passing modules: {}",
+            cost(timed, done, nanos)
+        )?;
+        let start = Instant::now(rt)?;
+        let done = streams::run(alloc, modules, count, true);
+        let nanos = start.elapsed(rt)?.as_nanos();
+        println!(rt;
+            "put through {modules} passing modules, answered in a list: {}",
             cost(timed, done, nanos)
         )?;
     }
