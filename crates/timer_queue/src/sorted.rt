@@ -13,7 +13,7 @@ use std::marker::Model;
 use std::mem;
 
 /// How many timers stand apart before the list takes them in.
-const RECENT: usize = 512;
+const RECENT: usize = 1_024;
 
 /// A timer queue that is a sorted list. Timers that were scheduled last stand in a short row of their own, so that few move where one
 /// is put in; where that is full, both are put together.
