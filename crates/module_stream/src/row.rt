@@ -110,10 +110,7 @@ pub(crate) fn finish_through(
 }
 
 /// Passes one message through tasks.
-pub(crate) fn pass_one(
-    tasks: &mut Vec<Box<dyn Task>>,
-    message: Message,
-) -> Result<Passed, NoMemory>
+pub(crate) fn pass_one(tasks: &mut Vec<Box<dyn Task>>, message: Message) -> Result<Passed, NoMemory>
     ensures given { IfOk result (λ out. Comes (through (λ task. (⟦<dyn Task as Task>⟧ task.vtable).gives task.value) tasks.old.items) (message ∷ []) (passed_on out)
         (through (λ task. (⟦<dyn Task as Task>⟧ task.vtable).gives task.value) tasks.new.items)) }
     ensures count { vec_len tasks.new ≡ vec_len tasks.old }
