@@ -18,6 +18,8 @@ enum Way {
     Queue,
     /// A stream of so many passing modules.
     Stream(u32),
+    /// The same, where it answers with a list.
+    ListingStream(u32),
     /// A passing task on a thread of its own.
     ActiveTask,
 }
@@ -32,8 +34,20 @@ pub fn run<R: Runtime + Threads + Wait + Copy + Send + 'static>(
     let ways = [
         (Way::Queue, "enqueue_tail and dequeue_head"),
         (Way::Stream(1), "put through 1 passing modules"),
+        (
+            Way::ListingStream(1),
+            "put through 1 passing modules, answered in a list",
+        ),
         (Way::Stream(3), "put through 3 passing modules"),
+        (
+            Way::ListingStream(3),
+            "put through 3 passing modules, answered in a list",
+        ),
         (Way::Stream(8), "put through 8 passing modules"),
+        (
+            Way::ListingStream(8),
+            "put through 8 passing modules, answered in a list",
+        ),
         (Way::ActiveTask, "put through an active passing task"),
     ];
     for (way, name) in ways {
@@ -54,7 +68,8 @@ fn pass<R: Threads + Wait + Copy + Send + 'static>(
 ) -> Result<u64, NoMemory> {
     match way {
         Way::Queue => message_queue::run(alloc, count),
-        Way::Stream(modules) => streams::run(alloc, modules, count),
+        Way::Stream(modules) => streams::run(alloc, modules, count, false),
+        Way::ListingStream(modules) => streams::run(alloc, modules, count, true),
         Way::ActiveTask => beside::run(rt, alloc, count),
     }
 }

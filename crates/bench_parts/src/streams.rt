@@ -4,11 +4,11 @@ ghost use Rattle.module_stream.specs.Streams.{has_started};
 
 use crate::messages::message_of;
 use ev_types::NoMemory;
-use module_stream::{Module, PassTask, Stream};
+use module_stream::{Module, PassTask, Passed, Stream};
 use std::alloc::Global;
 
-/// Puts a message through a stream of so many passing modules, so many times, and tells how often it came out.
-pub fn run(alloc: Global, modules: u32, count: u64) -> Result<u64, NoMemory> {
+/// Puts a message through a stream of so many passing modules, so many times, and tells how often it came out: in a list, or alone.
+pub fn run(alloc: Global, modules: u32, count: u64, listed: bool) -> Result<u64, NoMemory> {
     let mut stream = Stream::new(alloc);
     for name in 0..modules {
         let module = Module {
@@ -18,7 +18,11 @@ pub fn run(alloc: Global, modules: u32, count: u64) -> Result<u64, NoMemory> {
         };
         push(&mut stream, module)?;
     }
-    put_again(alloc, stream, count)
+    if listed {
+        put_again(alloc, stream, count)
+    } else {
+        pass_again(alloc, stream, count)
+    }
 }
 
 /// Pushes a module.
@@ -32,7 +36,7 @@ fn push(stream: &mut Stream, module: Module) -> Result<(), NoMemory>
     }
 }
 
-/// Puts a message through a stream, so many times, and tells how often it came out.
+/// Puts a message through a stream, so many times, and tells how often it came out in a list.
 fn put_again(alloc: Global, mut stream: Stream, count: u64) -> Result<u64, NoMemory> {
     let mut message = message_of(alloc)?;
     let mut passed = 0u64;
@@ -43,6 +47,23 @@ fn put_again(alloc: Global, mut stream: Stream, count: u64) -> Result<u64, NoMem
         match given.into_vec().pop() {
             Some(next) => message = next,
             None => return Ok(passed),
+        }
+        passed = passed.saturating_add(1);
+    }
+    Ok(passed)
+}
+
+/// Passes a message through a stream, so many times, and tells how often it came out.
+fn pass_again(alloc: Global, mut stream: Stream, count: u64) -> Result<u64, NoMemory> {
+    let mut message = message_of(alloc)?;
+    let mut passed = 0u64;
+    for _ in 0..count {
+        let Ok(given) = stream.pass(message) else {
+            return Err(NoMemory);
+        };
+        match given {
+            Passed::One(next) => message = next,
+            Passed::Many(_) => return Ok(passed),
         }
         passed = passed.saturating_add(1);
     }

@@ -1,6 +1,5 @@
 -- Steps of the armed timers.
-use Rattle.std.proofs.Common.{ℕ, zero, suc, ◌≡◌, ◌+◌, ◌*◌, ◌/◌, ◌<◌, ◌≤◌, Bool, false, List, [], ◌∷◌, length, drop, get_or, refl, ap, ◌∙◌, drop-cons, add-one, cond, Some, None, arith}
-use Rattle.std.specs.List.{find}
+use Rattle.std.proofs.Common.{ℕ, ◌≡◌, ◌+◌, ◌*◌, ◌/◌, ◌<◌, ◌≤◌, false, List, ◌∷◌, length, drop, get_or, ap, ◌∙◌, drop-cons, add-one}
 use Rattle.std.proofs.lemmas.Bool.{cond-false}
 use Rattle.std.proofs.Math.Nat.{div-mul-le_self}
 use Rattle.reactor_summary.specs.declared.parts.ArmedTimer.{ArmedTimer}

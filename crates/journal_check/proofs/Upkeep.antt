@@ -15,7 +15,7 @@ use Rattle.reactor_summary.specs.Summary as S
 use Rattle.reactor_summary.specs.Summary.{Summary}
 use Rattle.reactor_summary.proofs.Lists.{some_is}
 use Rattle.journal_check.specs.Index.{pair_cmp}
-use Rattle.journal_check.specs.Fronts.{front, front_key, key_of, number_of, pick_number, IsUpToDate, IsAbout, Adds, Drops}
+use Rattle.journal_check.specs.Fronts.{front, front_key, key_of, number_of, pick_number, IsUpToDate, IsAbout, Adds, Drops, Replaces}
 use Rattle.journal_check.specs.Sound.{IsSound}
 use Rattle.journal_check.proofs.Keyed.{any_member}
 use Rattle.journal_check.proofs.Timed.{pair_exact, pair_same}
@@ -178,6 +178,20 @@ kept_one {N} e s handle before after fronts less more closing marked waits sound
         either : (b : Bool) → cond b true (less k) ≡ true
         either true = refl
         either false = h
+
+-- a set that has a key has it in its own place
+pub replaces_itself : (o : Option (ℕ × ℕ)) (has : ℕ × ℕ → Bool) → ((k : ℕ × ℕ) → o ≡ Some k → has k ≡ true) → Replaces o o has has
+replaces_itself None has there = record { less = has; drops = λ q. refl; adds = λ q. refl }
+replaces_itself (Some k) has there = record { less = λ q. cond (is_eq (pair_cmp k q)) false (has q); drops = λ q. refl; adds = λ q. same q }
+  where
+    same : (q : ℕ × ℕ) → has q ≡ cond (is_eq (pair_cmp k q)) true (cond (is_eq (pair_cmp k q)) false (has q))
+    same q =
+        ⊎_elim
+        (λ (t : is_eq (pair_cmp k q) ≡ true).
+        ap has (sym (pair_exact k q (is_equal (pair_cmp k q) t))) ∙ (there k refl ∙ sym (cond-true (is_eq (pair_cmp k q)) true (cond (is_eq (pair_cmp k q)) false (has q)) t)))
+        (λ (f : is_eq (pair_cmp k q) ≡ false).
+        sym (cond-false (is_eq (pair_cmp k q)) true (cond (is_eq (pair_cmp k q)) false (has q)) f ∙ cond-false (is_eq (pair_cmp k q)) false (has q) f))
+        (cases_Bool (is_eq (pair_cmp k q)))
 
 -- ---- what the sets say
 

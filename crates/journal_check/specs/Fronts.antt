@@ -74,3 +74,9 @@ Adds (Some k) has later = (q : ℕ × ℕ) → later q ≡ (if is_eq (pair_cmp k
 abbrev pub Drops : Option (ℕ × ℕ) → (ℕ × ℕ → Bool) → (ℕ × ℕ → Bool) → Type 0
 Drops None has later = (q : ℕ × ℕ) → later q ≡ has q
 Drops (Some k) has later = (q : ℕ × ℕ) → later q ≡ (if is_eq (pair_cmp k q) then false else has q)
+
+-- a set with one key in the place of another, where there are such
+pub record Replaces (before after : Option (ℕ × ℕ)) (has later : ℕ × ℕ → Bool) : Type 0 where
+  pub less : ℕ × ℕ → Bool
+  pub drops : Drops before has less
+  pub adds : Adds after less later

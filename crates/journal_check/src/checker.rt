@@ -1,6 +1,6 @@
 //! The summary of the entries that were read, with what is to be started next and which handles wait for their close.
 
-ghost use Rattle.std.specs.Prelude.{◌≡◌, ◌<◌, ◌+◌, ◌^◌, [], true, false, OnOk, ℕ, if◌then◌else◌};
+ghost use Rattle.std.specs.Prelude.{◌≡◌, ◌<◌, ◌+◌, ◌^◌, [], true, false, Some, OnOk, ℕ, if◌then◌else◌};
 ghost use Rattle.std.specs.BTreeSet.{contains};
 ghost use Rattle.std.specs.Ordering.{nat_cmp, is_eq};
 ghost use Rattle.reactor_journal.specs.declared.entry.Entry.{Entry};
@@ -47,6 +47,32 @@ fn add_key(keys: &mut BTreeSet<(u128, u64)>, key: Option<(u128, u64)>) -> Result
     Ok(())
 }
 
+/// Whether both are the same key, or there is none.
+fn is_same(a: Option<(u128, u64)>, b: Option<(u128, u64)>) -> bool
+    ensures { result ≡ true → a ≡ b }
+{
+    match (a, b) {
+        (None, None) => true,
+        (Some(x), Some(y)) => x.0 == y.0 && x.1 == y.1,
+        _ => false,
+    }
+}
+
+/// Puts a key in the place of another, where they are not the same.
+fn replace_key(
+    keys: &mut BTreeSet<(u128, u64)>,
+    before: Option<(u128, u64)>,
+    after: Option<(u128, u64)>,
+) -> Result<(), NoMemory>
+    ensures { ((key : ℕ × ℕ) → before ≡ Some key → contains pair_cmp keys.old key ≡ true) → OnOk result (K.Replaces before after (contains pair_cmp keys.old) (contains pair_cmp keys.new)) }
+{
+    if is_same(before, after) {
+        return Ok(());
+    }
+    drop_key(keys, before);
+    add_key(keys, after)
+}
+
 /// Puts a handle in or takes it out.
 fn mark(handles: &mut BTreeSet<u64>, handle: Handle, there: bool) -> Result<(), NoMemory>
     ensures { OnOk result ((x : ℕ) → contains nat_cmp handles.new x ≡ (if is_eq (nat_cmp handle.0 x) then there else contains nat_cmp handles.old x)) }
@@ -57,6 +83,21 @@ fn mark(handles: &mut BTreeSet<u64>, handle: Handle, there: bool) -> Result<(), 
         let _ = handles.remove(&handle.0);
     }
     Ok(())
+}
+
+/// Puts a handle in or takes it out, where that changes something.
+fn mark_changed(
+    handles: &mut BTreeSet<u64>,
+    handle: Handle,
+    before: bool,
+    after: bool,
+) -> Result<(), NoMemory>
+    ensures { contains nat_cmp handles.old handle.0 ≡ before → OnOk result ((x : ℕ) → contains nat_cmp handles.new x ≡ (if is_eq (nat_cmp handle.0 x) then after else contains nat_cmp handles.old x)) }
+{
+    if before == after {
+        return Ok(());
+    }
+    mark(handles, handle, after)
 }
 
 impl Checker {
@@ -110,13 +151,12 @@ impl Checker {
         ensures index { IsUpToDate self.old.machine (contains pair_cmp self.old.fronts) (contains nat_cmp self.old.closing) → IsSound self.old.machine → IsNext self.old.machine entry.now → IsSound (S.step self.old.machine entry.now) → K.IsAbout self.old.machine entry.now (Some handle) → OnOk result (IsUpToDate self.new.machine (contains pair_cmp self.new.fronts) (contains nat_cmp self.new.closing)) }
     {
         let before = self.machine.front_key(handle);
-        drop_key(&mut self.fronts, before);
+        let waited = self.machine.waits(handle);
         self.machine.step(entry)?;
         let after = self.machine.front_key(handle);
-        add_key(&mut self.fronts, after)?;
+        replace_key(&mut self.fronts, before, after)?;
         let waits = self.machine.waits(handle);
-        mark(&mut self.closing, handle, waits)?;
-        Ok(())
+        mark_changed(&mut self.closing, handle, waited, waits)
     }
 
     /// Reads one more entry, which may follow.

@@ -10,15 +10,15 @@ ghost use Rattle.reactor_summary.specs.declared.parts.LiveHandle.{LiveHandle};
 ghost use Rattle.journal_check.specs.Numbered.{handle_number, IsNumbered, IsTheOne, passes};
 
 use ev_types::{Handle, Kind, Mask, NoMemory};
+use number_map::NumberMap;
 use reactor_summary::{LiveHandle, has_kind};
 use std::alloc::Global;
-use std::collections::BTreeMap;
 use std::marker::Model;
 
 /// The live handles, each at its number.
 #[derive(Drop)]
 pub struct Handles {
-    live: BTreeMap<u64, LiveHandle>,
+    live: NumberMap<LiveHandle>,
 }
 
 impl Model for Handles {
@@ -35,7 +35,7 @@ impl Handles {
         ensures { result ≡ [] }
     {
         Handles {
-            live: BTreeMap::new(alloc),
+            live: NumberMap::new(alloc),
         }
     }
 
@@ -44,7 +44,7 @@ impl Handles {
         ensures found { IfSome result (IsTheOne handle.0 self.now) }
         ensures none { result ≡ None → list_any (λ h. handle.0 == h.handle.0) self.now ≡ false }
     {
-        self.live.get(&handle.0).copied()
+        self.live.get(handle.0)
     }
 
     /// Whether the handle is alive.
@@ -144,6 +144,6 @@ impl Handles {
     pub fn close(&mut self, handle: Handle)
         ensures { self.new ≡ filter (λ h. not (handle.0 == h.handle.0)) self.old }
     {
-        let _ = self.live.remove(&handle.0);
+        let _ = self.live.remove(handle.0);
     }
 }

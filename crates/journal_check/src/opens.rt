@@ -2,26 +2,25 @@
 
 ghost use Rattle.std.specs.Prelude.{◌≡◌, ◌<◌, ◌+◌, ◌^◌, ◌==◌, ◌++◌, ◌∷◌, [], not, filter, false, OnOk, ℕ, List, option_map};
 ghost use Rattle.std.specs.List.{list_any, find};
-ghost use Rattle.std.specs.BTreeMap.{get};
 ghost use Rattle.std.specs.Map.{values_of};
-ghost use Rattle.std.specs.Ordering.{nat_cmp};
+ghost use Rattle.number_map.specs.Content.{found};
 ghost use Rattle.reactor_summary.specs.declared.parts.OpenEvent.{OpenEvent};
 ghost use Rattle.journal_check.specs.Fronts as K;
 ghost use Rattle.journal_check.specs.Opened.{IsOpenIndex};
 
 use ev_types::{Handle, NoMemory};
+use number_map::NumberMap;
 use reactor_summary::OpenEvent;
 use std::alloc::Global;
-use std::collections::BTreeMap;
 use std::marker::Model;
 
-/// The open events by the number of their start and their own. The number of an event leads to that of its start, and
+/// The open events by the number of their start. The number of an event leads to that of its start, and
 /// its handle to its number; either may lead to an event that is no longer open.
 #[derive(Drop)]
 pub struct Opens {
-    started: BTreeMap<(u64, u64), OpenEvent>,
-    starts: BTreeMap<u64, u64>,
-    events: BTreeMap<u64, u64>,
+    started: NumberMap<OpenEvent>,
+    starts: NumberMap<u64>,
+    events: NumberMap<u64>,
     next: u64,
 }
 
@@ -30,7 +29,7 @@ impl Model for Opens {
 
     ghost view = { λ t. values_of t.started.entries };
 
-    ghost invariant = { λ t. IsOpenIndex t.started.entries (get nat_cmp t.starts) (get nat_cmp t.events) t.next };
+    ghost invariant = { λ t. IsOpenIndex t.started.entries (found t.starts) (found t.events) t.next };
 }
 
 impl Opens {
@@ -39,9 +38,9 @@ impl Opens {
         ensures { result ≡ [] }
     {
         Opens {
-            started: BTreeMap::new(alloc),
-            starts: BTreeMap::new(alloc),
-            events: BTreeMap::new(alloc),
+            started: NumberMap::new(alloc),
+            starts: NumberMap::new(alloc),
+            events: NumberMap::new(alloc),
             next: 0,
         }
     }
@@ -50,9 +49,9 @@ impl Opens {
     pub fn find(&self, event: u64) -> Option<OpenEvent>
         ensures { result ≡ find (λ o. o.event == event) self.now }
     {
-        match self.starts.get(&event).copied() {
+        match self.starts.get(event) {
             None => None,
-            Some(start) => self.started.get(&(start, event)).copied(),
+            Some(start) => self.started.get(start),
         }
     }
 
@@ -80,7 +79,7 @@ impl Opens {
     pub fn is_busy(&self, handle: Handle) -> bool
         ensures { result ≡ list_any (λ o. o.handle.0 == handle.0) self.now }
     {
-        match self.events.get(&handle.0).copied() {
+        match self.events.get(handle.0) {
             None => false,
             Some(event) => match self.find(event) {
                 None => false,
@@ -93,8 +92,8 @@ impl Opens {
     pub fn settle(&mut self, event: u64)
         ensures { self.new ≡ filter (λ o. not (event == o.event)) self.old }
     {
-        if let Some(start) = self.starts.get(&event).copied() {
-            let _ = self.started.remove(&(start, event));
+        if let Some(start) = self.starts.get(event) {
+            let _ = self.started.remove(start);
         }
     }
 
@@ -105,7 +104,7 @@ impl Opens {
         ensures same { list_any (λ o. o.handle.0 == handle.0) self.old ≡ false → self.new ≡ self.old }
     {
         if self.is_busy(handle) {
-            if let Some(event) = self.events.get(&handle.0).copied() {
+            if let Some(event) = self.events.get(handle.0) {
                 self.settle(event);
             }
         }
@@ -120,10 +119,10 @@ impl Opens {
         let Some(next) = start.checked_add(1) else {
             return Err(NoMemory);
         };
+        self.next = next;
         self.starts.insert(o.event, start)?;
         self.events.insert(o.handle.0, o.event)?;
-        self.next = next;
-        self.started.insert((start, o.event), o)?;
+        self.started.insert(start, o)?;
         Ok(())
     }
 

@@ -2,10 +2,9 @@
 
 ghost use Rattle.std.specs.Prelude.{◌≡◌, ◌<◌, ◌≤◌, ◌==◌, ◌&&◌, not, filter, true, false, [], OnOk, ℕ, List, Some, None, IfSome, Bool, slice_get, option_map};
 ghost use Rattle.std.specs.List.{list_any, find};
-ghost use Rattle.std.specs.BTreeMap.{get};
 ghost use Rattle.std.specs.BTreeSet.{contains};
 ghost use Rattle.std.specs.Map.{values_of};
-ghost use Rattle.std.specs.Ordering.{nat_cmp};
+ghost use Rattle.number_map.specs.Content.{found};
 ghost use Rattle.reactor_journal.specs.Past as P;
 ghost use Rattle.reactor_summary.specs.Summary as S;
 ghost use Rattle.reactor_summary.specs.declared.parts.ArmedTimer.{ArmedTimer};
@@ -13,6 +12,7 @@ ghost use Rattle.journal_check.specs.Fronts as K;
 ghost use Rattle.journal_check.specs.Index.{pair_cmp, IsIndexed, is_idle};
 
 use ev_types::{Handle, NoMemory};
+use number_map::NumberMap;
 use reactor_summary::{ArmedTimer, DueTimer};
 use std::alloc::Global;
 use std::collections::{BTreeMap, BTreeSet};
@@ -23,7 +23,7 @@ use std::marker::Model;
 #[derive(Drop)]
 pub struct Timers {
     order: BTreeMap<(u128, u64), ArmedTimer>,
-    numbered: BTreeMap<u64, ArmedTimer>,
+    numbered: NumberMap<ArmedTimer>,
     owned: BTreeSet<(u64, u64)>,
 }
 
@@ -32,7 +32,7 @@ impl Model for Timers {
 
     ghost view = { λ t. values_of t.order.entries };
 
-    ghost invariant = { λ t. IsIndexed t.order.entries (get nat_cmp t.numbered) (contains pair_cmp t.owned) };
+    ghost invariant = { λ t. IsIndexed t.order.entries (found t.numbered) (contains pair_cmp t.owned) };
 }
 
 /// The least of deadline + k * every, from k = 1 on, that is above the moment. It may be beyond 64 bits.
@@ -59,15 +59,15 @@ fn first_owned(owned: &BTreeSet<(u64, u64)>, handle: Handle) -> Option<u64>
 /// Takes a timer away that leads to one of the handle.
 fn disarm_of(
     order: &mut BTreeMap<(u128, u64), ArmedTimer>,
-    numbered: &BTreeMap<u64, ArmedTimer>,
+    numbered: &NumberMap<ArmedTimer>,
     handle: Handle,
     timer: u64,
 )
-    requires { (owns : ℕ × ℕ → Bool) × IsIndexed order.old.entries (get nat_cmp numbered.now) owns }
+    requires { (owns : ℕ × ℕ → Bool) × IsIndexed order.old.entries (found numbered.now) owns }
     ensures gone { values_of order.new.entries ≡ filter (λ a. not (a.handle.0 == handle.0 && a.timer == timer)) (values_of order.old.entries) }
-    ensures left { (owns : ℕ × ℕ → Bool) → IsIndexed order.old.entries (get nat_cmp numbered.now) owns → IsIndexed order.new.entries (get nat_cmp numbered.now) owns }
+    ensures left { (owns : ℕ × ℕ → Bool) → IsIndexed order.old.entries (found numbered.now) owns → IsIndexed order.new.entries (found numbered.now) owns }
 {
-    if let Some(a) = numbered.get(&timer).copied() {
+    if let Some(a) = numbered.get(timer) {
         if a.handle.0 == handle.0 {
             let _ = order.remove(&(a.deadline, timer));
         }
@@ -81,7 +81,7 @@ impl Timers {
     {
         Timers {
             order: BTreeMap::new(alloc),
-            numbered: BTreeMap::new(alloc),
+            numbered: NumberMap::new(alloc),
             owned: BTreeSet::new(alloc),
         }
     }
@@ -90,7 +90,7 @@ impl Timers {
     pub fn is_armed(&self, timer: u64) -> bool
         ensures { result ≡ list_any (λ a. a.timer == timer) self.now }
     {
-        match self.numbered.get(&timer).copied() {
+        match self.numbered.get(timer) {
             None => false,
             Some(a) => self.order.contains_key(&(a.deadline, timer)),
         }
@@ -140,7 +140,7 @@ impl Timers {
     pub fn disarm(&mut self, timer: u64)
         ensures { self.new ≡ S.without_timer timer self.old }
     {
-        if let Some(a) = self.numbered.get(&timer).copied() {
+        if let Some(a) = self.numbered.get(timer) {
             let _ = self.order.remove(&(a.deadline, timer));
         }
     }
@@ -202,7 +202,7 @@ impl Timers {
     pub fn handle_of(&self, timer: u64) -> Option<Handle>
         ensures { result ≡ option_map K.timer_handle (find (λ a. a.timer == timer) self.now) }
     {
-        match self.numbered.get(&timer).copied() {
+        match self.numbered.get(timer) {
             None => None,
             Some(a) => match self.order.get(&(a.deadline, timer)) {
                 None => None,

@@ -14,16 +14,17 @@ ghost use Rattle.journal_check.specs.Queue.{IsQueued, IsLeast, IsOne, IsFront, I
 
 use crate::words::{lane_of, timer_of};
 use ev_types::{Handle, Mask, NoMemory};
+use number_map::NumberMap;
 use reactor_summary::WaitingEvent;
 use std::alloc::Global;
-use std::collections::{BTreeMap, BTreeSet};
+use std::collections::BTreeSet;
 use std::marker::Model;
 
 /// The waiting events by number. A set has the lane and number of each, so that those of a handle stand by class,
 /// and another the timer and number of each timeout.
 #[derive(Drop)]
 pub struct Waiting {
-    events: BTreeMap<u64, WaitingEvent>,
+    events: NumberMap<WaitingEvent>,
     lanes: BTreeSet<(u128, u64)>,
     timers: BTreeSet<(u128, u64)>,
 }
@@ -78,7 +79,7 @@ impl Waiting {
         ensures { result ≡ [] }
     {
         Waiting {
-            events: BTreeMap::new(alloc),
+            events: NumberMap::new(alloc),
             lanes: BTreeSet::new(alloc),
             timers: BTreeSet::new(alloc),
         }
@@ -88,7 +89,7 @@ impl Waiting {
     pub fn take(&mut self, event: u64)
         ensures { self.new ≡ filter (λ w. not (event == w.event)) self.old }
     {
-        if let Some(w) = self.events.remove(&event) {
+        if let Some(w) = self.events.remove(event) {
             delist(&mut self.lanes, &mut self.timers, &w);
         }
     }
@@ -146,7 +147,7 @@ impl Waiting {
     pub fn find(&self, event: u64) -> Option<WaitingEvent>
         ensures { result ≡ find (λ w. w.event == event) self.now }
     {
-        self.events.get(&event).copied()
+        self.events.get(event)
     }
 
     /// Its handle.
@@ -176,7 +177,7 @@ impl Waiting {
         let low = handle.0 as u128 * 5;
         match first_between(&self.lanes, low, low + 5) {
             None => None,
-            Some(event) => self.events.get(&event).copied(),
+            Some(event) => self.events.get(event),
         }
     }
 
@@ -227,7 +228,7 @@ impl Waiting {
 
 /// Adds an event that is not there, with its keys.
 fn put_in(
-    events: &mut BTreeMap<u64, WaitingEvent>,
+    events: &mut NumberMap<WaitingEvent>,
     lanes: &mut BTreeSet<(u128, u64)>,
     timers: &mut BTreeSet<(u128, u64)>,
     w: WaitingEvent,

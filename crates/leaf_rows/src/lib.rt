@@ -9,6 +9,8 @@ mod check;
 #[cfg(test)]
 mod journal;
 #[cfg(test)]
+mod numbers;
+#[cfg(test)]
 mod one_connection;
 #[cfg(test)]
 mod played;

@@ -11,6 +11,13 @@ use std::marker::Model;
 /// those of its blocks, joined.
 #[derive(Drop)]
 pub struct Message {
+    // In a box, so that a message that is passed on moves as a pointer.
+    content: Box<Content>,
+}
+
+/// What a message has.
+#[derive(Drop)]
+struct Content {
     blocks: Vec<Block>,
     priority: u32,
     total: u64,
@@ -22,10 +29,10 @@ impl Model for Message {
 
     ghost Value = { MessageState };
 
-    ghost view = { λ m. record { priority = m.priority; blocks = m.blocks.items } };
+    ghost view = { λ m. record { priority = m.content.value.priority; blocks = m.content.value.blocks.items } };
 
-    ghost invariant = { λ m. (m.total ≡ length (bytes_in m.blocks.items))
-        × (m.total ≤ 1048576 * vec_len m.blocks) × (1 ≤ vec_len m.blocks) × (vec_len m.blocks ≤ 1024) };
+    ghost invariant = { λ m. (m.content.value.total ≡ length (bytes_in m.content.value.blocks.items))
+        × (m.content.value.total ≤ 1048576 * vec_len m.content.value.blocks) × (1 ≤ vec_len m.content.value.blocks) × (vec_len m.content.value.blocks ≤ 1024) };
 }
 
 impl Message {
@@ -35,16 +42,21 @@ impl Message {
         ensures refused { IfErr result (λ refusal. refusal.0 ≡ first) }
     {
         let total = first.length() as u64;
-        let mut blocks = match Vec::with_capacity(alloc, 1) {
+        let blocks = match Vec::with_capacity(alloc, 1) {
             Ok(blocks) => blocks,
             Err(_) => return Err((first, NoMemory)),
         };
-        match blocks.push(first) {
-            Ok(()) => Ok(Message {
-                blocks,
-                priority,
-                total,
-            }),
+        let content = Content {
+            blocks,
+            priority,
+            total,
+        };
+        let mut content = match Box::new(alloc, content) {
+            Ok(content) => content,
+            Err(_) => return Err((first, NoMemory)),
+        };
+        match content.blocks.push(first) {
+            Ok(()) => Ok(Message { content }),
             Err(refused) => Err((refused.value, NoMemory)),
         }
     }
@@ -57,9 +69,9 @@ impl Message {
         ensures refused { IfErr result (λ refusal. (refusal.0 ≡ b) × (self.new ≡ self.old)) }
     {
         let length = b.length() as u64;
-        match self.blocks.push(b) {
+        match self.content.blocks.push(b) {
             Ok(()) => {
-                self.total += length;
+                self.content.total += length;
                 Ok(())
             }
             Err(refused) => Err((refused.value, NoMemory)),
@@ -71,14 +83,14 @@ impl Message {
         ensures length { result ≡ length (bytes_of self.now) }
         ensures within { result ≤ 2 ^ 30 }
     {
-        self.total
+        self.content.total
     }
 
     /// The priority: a higher number goes first.
     pub fn priority(&self) -> u32
         ensures { result ≡ self.now.priority }
     {
-        self.priority
+        self.content.priority
     }
 
     /// The blocks, one to 1,024.
@@ -87,6 +99,6 @@ impl Message {
         ensures some { 1 ≤ length result.now }
         ensures within { length result.now ≤ 1024 }
     {
-        self.blocks.as_slice()
+        self.content.blocks.as_slice()
     }
 }

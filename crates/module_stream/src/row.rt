@@ -8,7 +8,6 @@ use crate::passed::Passed;
 use crate::task::Task;
 use ev_types::NoMemory;
 use message_block::Message;
-use std::alloc::Global;
 
 /// Puts a message into a task.
 fn pass_into(task: &mut Box<dyn Task>, message: Message) -> Result<Passed, NoMemory>
@@ -110,17 +109,12 @@ pub(crate) fn finish_through(
     Ok(messages)
 }
 
-/// Puts one message through tasks.
-pub(crate) fn put_one(
-    alloc: Global,
-    tasks: &mut Vec<Box<dyn Task>>,
-    message: Message,
-) -> Result<Messages, NoMemory>
-    ensures given { IfOk result (λ out. Comes (through (λ task. (⟦<dyn Task as Task>⟧ task.vtable).gives task.value) tasks.old.items) (message ∷ []) out
+/// Passes one message through tasks.
+pub(crate) fn pass_one(tasks: &mut Vec<Box<dyn Task>>, message: Message) -> Result<Passed, NoMemory>
+    ensures given { IfOk result (λ out. Comes (through (λ task. (⟦<dyn Task as Task>⟧ task.vtable).gives task.value) tasks.old.items) (message ∷ []) (passed_on out)
         (through (λ task. (⟦<dyn Task as Task>⟧ task.vtable).gives task.value) tasks.new.items)) }
     ensures count { vec_len tasks.new ≡ vec_len tasks.old }
 {
     let passed = put_through(tasks, message)?;
-    let messages = passed.into_messages(alloc)?;
-    Ok(messages)
+    Ok(passed)
 }

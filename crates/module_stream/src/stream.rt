@@ -1,9 +1,11 @@
 //! Streams of modules.
 ghost use Rattle.std.specs.Prelude.{◌≡◌, ◌≤◌, ◌+◌, true, false, [], ◌∷◌, IfOk, OnOk, IfErr, IfSome, IfNone, vec_len, vec_capacity};
 ghost use Rattle.module_stream.specs.Composition.{Comes, through};
+ghost use Rattle.module_stream.specs.Passing.{passed_on};
 
 use crate::messages::Messages;
-use crate::row::{finish_through, put_one};
+use crate::passed::Passed;
+use crate::row::{finish_through, pass_one};
 use crate::task::Task;
 use ev_types::NoMemory;
 use message_block::Message;
@@ -153,11 +155,31 @@ impl Stream {
         ensures stays { OnOk result ((is_spent self.old ≡ false) × (is_spent self.new ≡ false)) }
         ensures refused { IfErr result (λ why. RefusesMessage self.old why self.new) }
     {
+        let passed = self.pass(m)?;
+        match passed.into_messages(*self.names.allocator()) {
+            Ok(out) => Ok(out),
+            Err(NoMemory) => {
+                self.spent = true;
+                Err(StreamRefused::NoMemory)
+            }
+        }
+    }
+
+    /// Puts a message at the head as `put` does. Where one message leaves the last task, no list is made for it.
+    pub fn pass(&mut self, m: Message) -> Result<Passed, StreamRefused>
+        ensures given { IfOk result (λ out. Comes (through (λ task. (⟦<dyn Task as Task>⟧ task.vtable).gives task.value) (writers_of self.old)) (m ∷ [])
+            (passed_on out) (through (λ task. (⟦<dyn Task as Task>⟧ task.vtable).gives task.value) (writers_of self.new))) }
+        ensures names { names_of self.new ≡ names_of self.old }
+        ensures readers { readers_of self.new ≡ readers_of self.old }
+        ensures started { has_started self.new ≡ true }
+        ensures stays { OnOk result ((is_spent self.old ≡ false) × (is_spent self.new ≡ false)) }
+        ensures refused { IfErr result (λ why. RefusesMessage self.old why self.new) }
+    {
         if self.spent {
             return Err(StreamRefused::Spent);
         }
         self.started = true;
-        match put_one(*self.names.allocator(), &mut self.writers, m) {
+        match pass_one(&mut self.writers, m) {
             Ok(out) => Ok(out),
             Err(NoMemory) => {
                 self.spent = true;
@@ -176,11 +198,31 @@ impl Stream {
         ensures stays { OnOk result ((is_spent self.old ≡ false) × (is_spent self.new ≡ false)) }
         ensures refused { IfErr result (λ why. RefusesMessage self.old why self.new) }
     {
+        let passed = self.pass_up(m)?;
+        match passed.into_messages(*self.names.allocator()) {
+            Ok(out) => Ok(out),
+            Err(NoMemory) => {
+                self.spent = true;
+                Err(StreamRefused::NoMemory)
+            }
+        }
+    }
+
+    /// Puts a message at the tail as `put_up` does. Where one message leaves the last task, no list is made for it.
+    pub fn pass_up(&mut self, m: Message) -> Result<Passed, StreamRefused>
+        ensures given { IfOk result (λ out. Comes (through (λ task. (⟦<dyn Task as Task>⟧ task.vtable).gives task.value) (readers_of self.old)) (m ∷ [])
+            (passed_on out) (through (λ task. (⟦<dyn Task as Task>⟧ task.vtable).gives task.value) (readers_of self.new))) }
+        ensures names { names_of self.new ≡ names_of self.old }
+        ensures writers { writers_of self.new ≡ writers_of self.old }
+        ensures started { has_started self.new ≡ true }
+        ensures stays { OnOk result ((is_spent self.old ≡ false) × (is_spent self.new ≡ false)) }
+        ensures refused { IfErr result (λ why. RefusesMessage self.old why self.new) }
+    {
         if self.spent {
             return Err(StreamRefused::Spent);
         }
         self.started = true;
-        match put_one(*self.names.allocator(), &mut self.readers, m) {
+        match pass_one(&mut self.readers, m) {
             Ok(out) => Ok(out),
             Err(NoMemory) => {
                 self.spent = true;

@@ -77,6 +77,10 @@ fn messages(rt: HostRuntime) -> Result<(), Fail> {
         sizes(stream.put_up(message_of(alloc, b"up", 1)?)),
         Ok((1, 1, 2))
     );
+    let passed = stream.pass(message_of(alloc, b"past", 1)?)?;
+    assert_eq!(rt; sizes(Ok(passed.into_messages(alloc)?)), Ok((1, 1, 4)));
+    let passed = stream.pass_up(message_of(alloc, b"back", 1)?)?;
+    assert_eq!(rt; sizes(Ok(passed.into_messages(alloc)?)), Ok((1, 1, 4)));
     assert_eq!(rt; sizes(stream.finish()), Ok((0, 0, 0)));
     assert_eq!(rt;
         sizes(stream.put(message_of(alloc, b"late", 1)?)),

@@ -4,3 +4,4 @@ pub mod Members
 pub mod Swaps
 pub mod Contents
 pub mod Rows
+pub mod Merged

@@ -1,34 +1,43 @@
-//! A timer queue over a sorted `Vec`.
-ghost use Rattle.std.specs.Prelude.{◌≡◌, ◌+◌, ◌-◌, ◌<◌, ◌≤◌, [], true, length, drop, insert, remove, vec_len, vec_capacity};
-ghost use Rattle.timer_queue.specs.Timers.{is_rising, with_timer};
-ghost use Rattle.timer_queue.specs.Sorted.{Found};
+//! A timer queue over two sorted rows.
+ghost use Rattle.std.specs.Prelude.{◌≡◌, ◌+◌, ◌-◌, ◌<◌, ◌≤◌, ◌++◌, ◌∷◌, List, [], true, length, IfSome, IfNone};
+ghost use Rattle.std.specs.List.Sorted.{IsPermutation};
+ghost use Rattle.timer_queue.specs.declared.timer.Timer.{Timer};
+ghost use Rattle.timer_queue.specs.Timers.{AreApart, IsSchedule};
+ghost use Rattle.timer_queue.specs.Sorted.{AreRows, recent_first};
 
+use crate::row::Row;
 use crate::{Timer, TimerQueue};
 use ev_types::{Handle, NoMemory};
 use std::alloc::Global;
 use std::marker::Model;
+use std::mem;
 
-/// A timer queue that is a sorted list: a place is found by bisection, and what stands behind it moves. A timer that comes due last is
-/// put in, and the first taken out, without moving any other.
+/// How many timers stand apart before the list takes them in.
+const RECENT: usize = 1_024;
+
+/// A timer queue that is a sorted list. Timers that were scheduled last stand in a short row of their own, so that few move where one
+/// is put in; where that is full, both are put together.
 #[derive(Drop)]
 pub struct SortedTimers {
-    // From `head` on in rising order of (deadline, timer). Those before it have been taken out.
-    timers: Vec<Timer>,
-    head: usize,
-    // How many timers fit. There are places for twice as many, so that those of timers taken out are seldom closed up.
+    list: Row,
+    recent: Row,
+    // Where both are put together. Else it is empty.
+    merged: Row,
+    // How many timers fit.
     room: usize,
 }
 
 impl Model for SortedTimers {
-    ghost use Rattle.std.specs.Prelude.{◌≡◌, ◌-◌, drop, length, vec_capacity};
-    ghost use Rattle.timer_queue.specs.Sorted.{IsSorted};
+    ghost use Rattle.std.specs.Prelude.{◌-◌, ◌+◌, ◌++◌, length};
     ghost use Rattle.timer_queue.specs.Content.{Content};
+    ghost use Rattle.timer_queue.specs.Timers.{in_order};
+    ghost use Rattle.timer_queue.specs.Sorted.{AreRows};
 
     ghost Value = { Content };
 
-    ghost view = { λ q. record { timers = drop q.head q.timers.items; spare = q.room - (length q.timers.items - q.head) } };
+    ghost view = { λ q. record { timers = in_order (q.recent.timers ++ q.list.timers); spare = q.room - (length q.recent.timers + length q.list.timers) } };
 
-    ghost invariant = { λ q. IsSorted q.timers.items q.head q.room (vec_capacity q.timers) };
+    ghost invariant = { λ q. AreRows q.recent.timers q.list.timers q.merged.timers q.room q.list.spare q.merged.spare };
 }
 
 impl SortedTimers {
@@ -37,8 +46,9 @@ impl SortedTimers {
         ensures timers { result.timers ≡ [] }
     {
         SortedTimers {
-            timers: Vec::new(alloc),
-            head: 0,
+            list: Row::new(alloc),
+            recent: Row::new(alloc),
+            merged: Row::new(alloc),
             room: 0,
         }
     }
@@ -50,129 +60,95 @@ impl TimerQueue for SortedTimers {
     ghost spare = { λ q. q.spare };
 
     fn reserve(&mut self, n: usize) -> Result<(), NoMemory> {
-        let held = self.timers.len() - self.head;
+        let held = self.recent.len() + self.list.len();
         if n <= self.room - held {
             return Ok(());
         }
         let Some(end) = held.checked_add(n) else {
             return Err(NoMemory);
         };
-        let Some(places) = end.checked_mul(2) else {
-            return Err(NoMemory);
-        };
-        close_up(&mut self.timers, self.head);
-        self.head = 0;
-        self.timers.reserve(places - held)?;
-        self.room = self.timers.capacity() / 2;
+        self.recent.reserve(RECENT)?;
+        self.merged.reserve(end)?;
+        self.list.reserve(end - self.list.len())?;
+        self.room = end;
         Ok(())
     }
 
     fn schedule(&mut self, t: Timer) {
-        if self.timers.len() >= self.timers.capacity() {
-            close_up(&mut self.timers, self.head);
-            self.head = 0;
+        if self.recent.spare() > 0 {
+            self.recent.schedule(t);
+            return;
         }
-        put_in(&mut self.timers, self.head, t);
+        put_together(&mut self.recent, &mut self.list, &mut self.merged);
+        self.list.schedule(t);
     }
 
     fn cancel(&mut self, timer: u64) -> bool {
-        let Some(place) = position_of(&self.timers[self.head..], timer) else {
-            return false;
-        };
-        self.head = take_at(&mut self.timers, self.head, place);
-        true
+        self.recent.cancel(timer) || self.list.cancel(timer)
     }
 
     fn cancel_all(&mut self, handle: Handle) {
-        close_up(&mut self.timers, self.head);
-        self.head = 0;
-        self.timers.retain(|t| t.handle.0 != handle.0);
+        self.recent.cancel_all(handle);
+        self.list.cancel_all(handle);
     }
 
     fn earliest(&self) -> Option<u64> {
-        self.timers.get(self.head).map(|t| t.deadline)
+        if is_recent_first(&self.recent, &self.list) {
+            self.recent.earliest()
+        } else {
+            self.list.earliest()
+        }
     }
 
     fn pop_due(&mut self, now: u64) -> Option<Timer> {
-        let t = *self.timers.get(self.head)?;
-        if now < t.deadline {
-            return None;
+        if is_recent_first(&self.recent, &self.list) {
+            self.recent.pop_due(now)
+        } else {
+            self.list.pop_due(now)
         }
-        self.head += 1;
-        Some(t)
     }
 }
 
-// Takes the first places away.
-fn close_up(timers: &mut Vec<Timer>, head: usize)
-    requires { head ≤ length timers.old.items }
-    ensures items { timers.new.items ≡ drop head timers.old.items }
-    ensures capacity { vec_capacity timers.new ≡ vec_capacity timers.old }
+// Whether the first timer of both rows is one of the recent ones.
+fn is_recent_first(recent: &Row, list: &Row) -> bool
+    ensures { result ≡ recent_first recent.now.timers list.now.timers }
 {
-    let held = timers.len() - head;
-    timers.rotate_left(head);
-    timers.truncate(held);
-}
-
-// Where a timer stands among these.
-fn place_for(timers: &[Timer], t: &Timer) -> usize
-    requires { is_rising timers.now ≡ true }
-    ensures within { result ≤ length timers.now }
-    ensures place { insert timers.now result t.now ≡ with_timer t.now timers.now }
-{
-    let Some(last) = timers.last() else {
-        return 0;
-    };
-    if t.comes_before(last) {
-        return timers.partition_point(|u| !t.comes_before(u));
-    }
-    timers.len()
-}
-
-// Puts a timer in among those from `head` on.
-fn put_in(timers: &mut Vec<Timer>, head: usize, t: Timer)
-    requires room { vec_len timers.old < vec_capacity timers.old }
-    requires within { head ≤ length timers.old.items }
-    requires rising { is_rising (drop head timers.old.items) ≡ true }
-    ensures items { drop head timers.new.items ≡ with_timer t (drop head timers.old.items) }
-    ensures len { length timers.new.items ≡ length timers.old.items + 1 }
-    ensures capacity { vec_capacity timers.new ≡ vec_capacity timers.old }
-{
-    let place = place_for(&timers[head..], &t);
-    match timers.insert(head + place, t) {
-        Ok(()) => {}
-        Err(_) => unreachable!(),
+    match (recent.first(), list.first()) {
+        (Some(r), Some(l)) => r.comes_before(&l),
+        (Some(_), None) => true,
+        _ => false,
     }
 }
 
-// The place of the timer of this number.
-fn position_of(timers: &[Timer], timer: u64) -> Option<usize>
-    ensures { Found timer timers.now result }
+// Takes the first timer of both rows out.
+fn take_either(recent: &mut Row, list: &mut Row) -> Option<Timer>
+    ensures taken { IfSome result (λ t. IsPermutation (recent.old.timers ++ list.old.timers) (t ∷ (recent.new.timers ++ list.new.timers))) }
+    ensures none { IfNone result (recent.old.timers ++ list.old.timers ≡ []) }
+    ensures recent { IfNone result (recent.new.timers ≡ []) }
+    ensures list { IfNone result (list.new.timers ≡ []) }
+    ensures room { list.new.spare + length list.new.timers ≡ list.old.spare + length list.old.timers }
 {
-    timers.iter().position(|t| t.timer == timer)
-}
-
-// Moves those before a place back by one, over the timer that stands there.
-fn pull_back(timers: &mut [Timer], head: usize, place: usize)
-    requires { head + place < length timers.old }
-    ensures { drop (head + 1) timers.new ≡ remove (drop head timers.old) place }
-{
-    timers[head..head + place + 1].rotate_right(1);
-}
-
-// Takes the timer at a place from `head` on out, and moves the fewer of those before it and those behind it. The answer is where the
-// rest begins.
-fn take_at(timers: &mut Vec<Timer>, head: usize, place: usize) -> usize
-    requires { head + place < length timers.old.items }
-    ensures items { drop result timers.new.items ≡ remove (drop head timers.old.items) place }
-    ensures within { result ≤ length timers.new.items }
-    ensures len { length timers.new.items - result + 1 ≡ length timers.old.items - head }
-    ensures capacity { vec_capacity timers.new ≡ vec_capacity timers.old }
-{
-    if place < (timers.len() - head) / 2 {
-        pull_back(timers, head, place);
-        return head + 1;
+    if is_recent_first(recent, list) {
+        recent.take_first()
+    } else {
+        list.take_first()
     }
-    timers.remove(head + place);
-    head
+}
+
+// Puts the timers of both rows together in the second.
+fn put_together(recent: &mut Row, list: &mut Row, merged: &mut Row)
+    requires apart { AreApart (recent.old.timers ++ list.old.timers) }
+    requires empty { merged.old.timers ≡ [] }
+    requires room { length recent.old.timers + length list.old.timers ≤ merged.old.spare }
+    ensures recent { recent.new.timers ≡ [] }
+    ensures merged { merged.new.timers ≡ [] }
+    ensures list { IsPermutation (recent.old.timers ++ list.old.timers) list.new.timers }
+    ensures rises { IsSchedule list.new.timers }
+    ensures room { list.new.spare + length list.new.timers ≡ merged.old.spare }
+    ensures merged_room { merged.new.spare ≡ list.old.spare + length list.old.timers }
+{
+    while let Some(t) = take_either(recent, list) {
+        merged.schedule(t);
+    }
+    mem::swap(list, merged);
 }

@@ -1,9 +1,8 @@
 use Rattle.std.proofs.Common.{◌≡◌, ◌==◌, ◌+◌, Bool, true, not, refl, ap, ◌∙◌, subst, arith, cond}
-use Rattle.std.specs.BTreeMap.{get}
 use Rattle.std.specs.BTreeSet.{contains, btree_set_len}
 use Rattle.std.specs.List.{filter}
-use Rattle.std.specs.Ordering.{nat_cmp}
 use Rattle.reactor_summary.specs.declared.parts.ArmedTimer.{ArmedTimer}
+use Rattle.number_map.specs.Content.{found}
 use Rattle.journal_check.specs.Index.{pair_cmp}
 use Rattle.journal_check.proofs.Timed.{disarming_more, disarmed}
 use Rattle.journal_check.proofs.timers.Timers.disarm_all.Goals as goal
@@ -23,7 +22,7 @@ loop-timer-smaller c =
 
 pub loop-timer-preserved : goal.loop-timer-preserved
 loop-timer-preserved c =
-    disarming_more c.args.handle.0 c.in-Some.timer c.self.inside.order.entries c.loop-timer.self-inside.order.entries c.disarm_of.new.order.entries (get nat_cmp c.loop-timer.self-inside.numbered)
+    disarming_more c.args.handle.0 c.in-Some.timer c.self.inside.order.entries c.loop-timer.self-inside.order.entries c.disarm_of.new.order.entries (found c.loop-timer.self-inside.numbered)
     (contains pair_cmp c.loop-timer.self-inside.owned) (contains pair_cmp c.remove.new.self) c.disarm_of.ensures.gone (c.disarm_of.ensures.left (contains pair_cmp c.loop-timer.self-inside.owned) c.loop-timer.invariant.indexed)
     c.remove.ensures.updates.2 c.loop-timer.invariant
 
@@ -32,6 +31,6 @@ invariant_of-self c = c.loop-timer.invariant.indexed
 
 pub returns : goal.returns
 returns c =
-    disarmed c.args.handle.0 c.self.inside.order.entries c.loop-timer.self-inside.order.entries (get nat_cmp c.loop-timer.self-inside.numbered) (contains pair_cmp c.loop-timer.self-inside.owned)
+    disarmed c.args.handle.0 c.self.inside.order.entries c.loop-timer.self-inside.order.entries (found c.loop-timer.self-inside.numbered) (contains pair_cmp c.loop-timer.self-inside.owned)
     (c.first_owned.ensures.none c.in_default.is) c.loop-timer.invariant
     ∙ ap (filter (λ (a : ArmedTimer). not (a.handle.0 == c.args.handle.0))) c.self.view_is

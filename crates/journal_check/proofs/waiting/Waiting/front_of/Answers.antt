@@ -18,6 +18,6 @@ returns-in-None c =
 
 pub returns-in-Some : goal.returns-in-Some
 returns-in-Some c =
-    subst (IsFront c.args.handle.0 c.args.self.now) (sym (c.copied.ensures ∙ c.get.ensures.value))
+    subst (IsFront c.args.handle.0 c.args.self.now) (sym (c.get.ensures.value))
     (subst (λ (xs : List WaitingEvent). IsFront c.args.handle.0 xs (lookup (is_at (nat_cmp c.in-Some.event)) c.self.inside.events.entries)) c.self.view_is
     (front_found c.args.handle.0 c.in-Some.event c.self.inside.events.entries (contains pair_cmp c.self.inside.lanes) (contains pair_cmp c.self.inside.timers) c.self.invariant c.in-Some.ensures.found))

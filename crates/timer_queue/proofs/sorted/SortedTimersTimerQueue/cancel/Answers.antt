@@ -1,47 +1,52 @@
-use Rattle.std.proofs.Common.{◌≡◌, ◌==◌, length, drop, not, false, Some, None, ap, ◌∙◌, sym, subst, arith}
-use Rattle.std.proofs.lemmas.List.Folds.{list_any_at, list_any_none}
+use Rattle.std.proofs.Common.{◌≡◌, ◌+◌, ◌-◌, ◌==◌, ◌||◌, ◌++◌, not, Bool, cond, length, List, sym, ap, ◌∙◌, arith}
 use Rattle.timer_queue.specs.declared.timer.Timer.{Timer}
-use Rattle.timer_queue.specs.Timers.{is_scheduled, without_timer, IsSchedule}
-use Rattle.timer_queue.specs.Sorted.{Found}
-use Rattle.timer_queue.proofs.Schedules.{schedule_filtered, without_timer-fresh}
-use Rattle.timer_queue.proofs.Rows.{from_place, remove_numbered, length-filter_le}
+use Rattle.timer_queue.specs.Content.{Content}
+use Rattle.timer_queue.specs.Timers.{in_order, is_scheduled, without_timer}
+use Rattle.timer_queue.proofs.Merged.{scheduled_both, filtered_both, cancelled_recent, rows_cancelled_recent, rows_cancelled_list, left_of}
 use Rattle.timer_queue.proofs.sorted.SortedTimersTimerQueue.cancel.Goals as goal
 
-absent : (c : goal.In_default) → is_scheduled c.args.timer c.args.self.now.timers ≡ false
-absent c =
-    let live = drop c.self.inside.head c.self.inside.timers.items in
-    let f : Found c.args.timer live None = subst (λ r. Found c.args.timer live r) c.in_default.is (rw (from_place c.self.inside.timers.items c.self.inside.head) at (rw c.deref.ensures.value at c.position_of.ensures)) in
-    sym (ap (λ q. is_scheduled c.args.timer q.timers) c.self.view_is) ∙ list_any_none (λ t. t.timer == c.args.timer) live (λ k d l. f k d (omega arith) l)
-
-pub returns-in_default-clause-found : goal.returns-in_default-clause-found
-returns-in_default-clause-found c = sym (absent c)
-
-pub returns-in_default-clause-timers : goal.returns-in_default-clause-timers
-returns-in_default-clause-timers c = sym (without_timer-fresh c.args.timer c.args.self.now.timers (absent c))
-
-found : (c : goal.After-self-1) → Found c.args.timer (drop c.self.inside.head c.self.inside.timers.items) (Some c.in-Some.place)
-found c =
-    let live = drop c.self.inside.head c.self.inside.timers.items in
-    subst (λ r. Found c.args.timer live r) c.in-Some.is (rw (from_place c.self.inside.timers.items c.self.inside.head) at (rw c.deref.ensures.value at c.position_of.ensures))
-
-taken : (c : goal.After-self-1) → drop c.take_at-self-inside.result c.take_at-self-inside.new.timers.items ≡ without_timer c.args.timer (drop c.self.inside.head c.self.inside.timers.items)
-taken c =
-    let f = found c in
-    c.take_at-self-inside.ensures.items ∙ remove_numbered c.args.timer (drop c.self.inside.head c.self.inside.timers.items) c.in-Some.place c.self.invariant.schedule.once f.0 f.1
-
 pub invariant_of-self : goal.invariant_of-self
-invariant_of-self c = record {
-  schedule = subst IsSchedule (sym (taken c)) (schedule_filtered _ _ c.self.invariant.schedule);
-  within = c.take_at-self-inside.ensures.within;
-  fits = omega (arith, ap length (taken c), length-filter_le (λ t. not (t.timer == c.args.timer)) (drop c.self.inside.head c.self.inside.timers.items), c.self.invariant.fits);
-  places = omega (arith, c.take_at-self-inside.ensures.capacity, c.self.invariant.places);
-}
+invariant_of-self c =
+    rows_cancelled_recent c.args.timer c.self.inside.recent.timers c.cancel.new.self.timers c.self.inside.list.timers c.self.inside.merged.timers c.self.inside.room c.self.inside.list.spare c.self.inside.merged.spare c.cancel.ensures.timers (sym c.cancel.ensures.found ∙ c.if-cancel.true) c.self.invariant
 
-pub returns-clause-found : goal.returns-clause-found
-returns-clause-found c =
-    let f = found c in
-    let none : Timer = record { deadline = 0; timer = 0; handle = record { 0 = 0 }; every = 0 } in
-    sym (list_any_at (λ t. t.timer == c.args.timer) (drop c.self.inside.head c.self.inside.timers.items) c.in-Some.place none f.0 (f.1 none)) ∙ ap (λ q. is_scheduled c.args.timer q.timers) c.self.view_is
+pub invariant_of-self-else-cancel : goal.invariant_of-self-else-cancel
+invariant_of-self-else-cancel c =
+    let fewer : length c.cancel-else-cancel.new.self.timers + cond c.cancel-else-cancel.result 1 0 ≡ length c.self.inside.list.timers = ap (λ (xs : List Timer). length xs + cond c.cancel-else-cancel.result 1 0) c.cancel-else-cancel.ensures.timers ∙ left_of c.args.timer c.self.inside.list.timers c.self.invariant.list_rises c.cancel-else-cancel.result c.cancel-else-cancel.ensures.found in
+    rows_cancelled_list c.args.timer c.self.inside.recent.timers c.cancel.new.self.timers c.self.inside.list.timers c.cancel-else-cancel.new.self.timers c.self.inside.merged.timers c.self.inside.room c.self.inside.list.spare c.cancel-else-cancel.new.self.spare c.self.inside.merged.spare c.cancel.ensures.timers c.cancel-else-cancel.ensures.timers (sym c.cancel.ensures.found ∙ c.if-cancel.false) (omega (arith, fewer, c.cancel-else-cancel.ensures.spare)) c.self.invariant
 
-pub returns-clause-timers : goal.returns-clause-timers
-returns-clause-timers c = taken c ∙ ap (λ q. without_timer c.args.timer q.timers) c.self.view_is
+pub returns-then-cancel-clause-found : goal.returns-then-cancel-clause-found
+returns-then-cancel-clause-found c =
+    c.if-cancel.true
+    ∙ (ap (λ (found : Bool). found || is_scheduled c.args.timer c.self.inside.list.timers) (sym (sym c.cancel.ensures.found ∙ c.if-cancel.true))
+    ∙ (sym (scheduled_both c.args.timer c.self.inside.recent.timers c.self.inside.list.timers) ∙ ap (λ (v : Content). is_scheduled c.args.timer v.timers) c.self.view_is))
+
+pub returns-then-cancel-clause-timers : goal.returns-then-cancel-clause-timers
+returns-then-cancel-clause-timers c =
+    ap (λ (xs : List Timer). in_order (xs ++ c.self.inside.list.timers)) c.cancel.ensures.timers
+    ∙ (cancelled_recent c.args.timer c.self.inside.recent.timers c.self.inside.list.timers c.self.invariant.apart (sym c.cancel.ensures.found ∙ c.if-cancel.true) ∙ ap (λ (v : Content). without_timer c.args.timer v.timers) c.self.view_is)
+
+pub returns-then-cancel-clause-spare : goal.returns-then-cancel-clause-spare
+returns-then-cancel-clause-spare c =
+    let fewer : length c.cancel.new.self.timers + cond c.cancel.result 1 0 ≡ length c.self.inside.recent.timers = ap (λ (xs : List Timer). length xs + cond c.cancel.result 1 0) c.cancel.ensures.timers ∙ left_of c.args.timer c.self.inside.recent.timers c.self.invariant.recent_rises c.cancel.result c.cancel.ensures.found in
+    let spare : c.self.inside.room - (length c.self.inside.recent.timers + length c.self.inside.list.timers) ≡ c.args.self.now.spare = ap (λ (v : Content). v.spare) c.self.view_is in
+    omega (arith, fewer, spare, c.self.invariant.fits)
+
+pub returns-else-cancel-clause-found : goal.returns-else-cancel-clause-found
+returns-else-cancel-clause-found c =
+    c.cancel-else-cancel.ensures.found
+    ∙ (ap (λ (found : Bool). found || is_scheduled c.args.timer c.self.inside.list.timers) (sym (sym c.cancel.ensures.found ∙ c.if-cancel.false))
+    ∙ (sym (scheduled_both c.args.timer c.self.inside.recent.timers c.self.inside.list.timers) ∙ ap (λ (v : Content). is_scheduled c.args.timer v.timers) c.self.view_is))
+
+pub returns-else-cancel-clause-timers : goal.returns-else-cancel-clause-timers
+returns-else-cancel-clause-timers c =
+    ap (λ (xs : List Timer). in_order (xs ++ c.cancel-else-cancel.new.self.timers)) c.cancel.ensures.timers
+    ∙ (ap (λ (xs : List Timer). in_order (without_timer c.args.timer c.self.inside.recent.timers ++ xs)) c.cancel-else-cancel.ensures.timers
+    ∙ (filtered_both (λ t. not (t.timer == c.args.timer)) c.self.inside.recent.timers c.self.inside.list.timers c.self.invariant.apart ∙ ap (λ (v : Content). without_timer c.args.timer v.timers) c.self.view_is))
+
+pub returns-else-cancel-clause-spare : goal.returns-else-cancel-clause-spare
+returns-else-cancel-clause-spare c =
+    let none : length c.cancel.new.self.timers + cond c.cancel.result 1 0 ≡ length c.self.inside.recent.timers = ap (λ (xs : List Timer). length xs + cond c.cancel.result 1 0) c.cancel.ensures.timers ∙ left_of c.args.timer c.self.inside.recent.timers c.self.invariant.recent_rises c.cancel.result c.cancel.ensures.found in
+    let same : length c.cancel.new.self.timers + 0 ≡ length c.self.inside.recent.timers = ap (λ (found : Bool). length c.cancel.new.self.timers + cond found 1 0) (sym c.if-cancel.false) ∙ none in
+    let fewer : length c.cancel-else-cancel.new.self.timers + cond c.cancel-else-cancel.result 1 0 ≡ length c.self.inside.list.timers = ap (λ (xs : List Timer). length xs + cond c.cancel-else-cancel.result 1 0) c.cancel-else-cancel.ensures.timers ∙ left_of c.args.timer c.self.inside.list.timers c.self.invariant.list_rises c.cancel-else-cancel.result c.cancel-else-cancel.ensures.found in
+    let spare : c.self.inside.room - (length c.self.inside.recent.timers + length c.self.inside.list.timers) ≡ c.args.self.now.spare = ap (λ (v : Content). v.spare) c.self.view_is in
+    omega (arith, same, fewer, spare, c.self.invariant.fits)

@@ -1,42 +1,57 @@
-use Rattle.std.proofs.Common.{◌≡◌, ◌+◌, ◌-◌, ◌≤◌, ℕ, List, length, drop, false, sym, ap, ◌∙◌, subst, arith}
-use Rattle.std.proofs.lemmas.List.{length-drop}
-use Rattle.std.specs.Vec.{vec_capacity}
+use Rattle.std.proofs.Common.{◌≡◌, ◌+◌, ◌-◌, ◌≤◌, ◌++◌, length, List, ap, ◌∙◌, arith, length-append}
+use Rattle.std.proofs.lemmas.List.Sorted.{length_permutation}
 use Rattle.timer_queue.specs.declared.timer.Timer.{Timer}
-use Rattle.timer_queue.specs.Timers.{is_scheduled, with_timer, IsSchedule}
-use Rattle.timer_queue.specs.Sorted.{IsSorted}
-use Rattle.timer_queue.proofs.Schedules.{schedule_with, length-with_timer}
+use Rattle.timer_queue.specs.Content.{Content}
+use Rattle.timer_queue.specs.Timers.{in_order, is_scheduled, with_timer}
+use Rattle.timer_queue.proofs.Schedules.{length-with_timer}
+use Rattle.timer_queue.proofs.Merged.{fresh_in_recent, rows_added, added_recent, fresh_in_whole, room_in_whole, added_whole, rows_whole}
 use Rattle.timer_queue.proofs.sorted.SortedTimersTimerQueue.schedule.Goals as goal
-use Rattle.timer_queue.proofs.sorted.SortedTimersTimerQueue.schedule.Goals.{then-len-capacity, else-len-capacity}
 
-sorted_with : (t : Timer) (old items : List Timer) (head room capacity : ℕ) → IsSchedule old → is_scheduled t.timer old ≡ false → length old + 1 ≤ room → drop head items ≡ with_timer t old → head ≤ length items → room ≤ capacity → IsSorted items head room capacity
-sorted_with t old items head room capacity sched fresh less is within places = record {
-  schedule = subst IsSchedule (sym is) (schedule_with t old fresh sched);
-  within = within;
-  fits = omega (arith, less, ap length is, length-with_timer t old);
-  places = places;
-}
+pub schedule-requires-clause-fresh : goal.schedule-requires-clause-fresh
+schedule-requires-clause-fresh c = fresh_in_recent c.args.t c.self.inside.recent.timers c.self.inside.list.timers (ap (λ (v : Content). is_scheduled c.args.t.timer v.timers) c.self.view_is ∙ c.requires.fresh)
 
 pub invariant_of-self : goal.invariant_of-self
 invariant_of-self c =
-    let live : List Timer = drop c.self.inside.head c.self.inside.timers.items in
-    let fresh : is_scheduled c.args.t.timer live ≡ false = ap (λ q. is_scheduled c.args.t.timer q.timers) c.self.view_is ∙ c.requires.fresh in
-    let spare : c.self.inside.room - (length c.self.inside.timers.items - c.self.inside.head) ≡ c.args.self.now.spare = ap (λ q. q.spare) c.self.view_is in
-    let less : length live + 1 ≤ c.self.inside.room = omega (arith, spare, c.requires.room, length-drop c.self.inside.head c.self.inside.timers.items) in
-    elim c.if-len-capacity.branch [
-      | then-len-capacity w ↦
-          let same : c.if-len-capacity.self-inside.timers ≡ w.close_up.new.timers = ap (λ s. s.timers) w.self-inside-is in
-          let front : c.if-len-capacity.self-inside.head ≡ 0 = ap (λ s. s.head) w.self-inside-is in
-          let room : c.if-len-capacity.self-inside.room ≡ c.self.inside.room = ap (λ s. s.room) w.self-inside-is in
-          let held : drop c.if-len-capacity.self-inside.head c.if-len-capacity.self-inside.timers.items ≡ live = ap (λ h. drop h c.if-len-capacity.self-inside.timers.items) front ∙ ap (λ v. v.items) same ∙ w.close_up.ensures.items in
-          sorted_with c.args.t live c.put_in.new.timers.items c.if-len-capacity.self-inside.head c.if-len-capacity.self-inside.room (vec_capacity c.put_in.new.timers) c.self.invariant.schedule fresh (omega (arith, less, room))
-          (c.put_in.ensures.items ∙ ap (λ xs. with_timer c.args.t xs) held) (omega (arith, front))
-          (omega (arith, room, c.self.invariant.places, c.put_in.ensures.capacity, ap (λ v. vec_capacity v) same, w.close_up.ensures.capacity))
-      | else-len-capacity w ↦
-          let front : c.if-len-capacity.self-inside.head ≡ c.self.inside.head = ap (λ s. s.head) w.self-inside-is in
-          let room : c.if-len-capacity.self-inside.room ≡ c.self.inside.room = ap (λ s. s.room) w.self-inside-is in
-          let same : c.if-len-capacity.self-inside.timers ≡ c.self.inside.timers = ap (λ s. s.timers) w.self-inside-is in
-          let held : drop c.if-len-capacity.self-inside.head c.if-len-capacity.self-inside.timers.items ≡ live = ap (λ h. drop h c.if-len-capacity.self-inside.timers.items) front ∙ ap (λ v. drop c.self.inside.head v.items) same in
-          sorted_with c.args.t live c.put_in.new.timers.items c.if-len-capacity.self-inside.head c.if-len-capacity.self-inside.room (vec_capacity c.put_in.new.timers) c.self.invariant.schedule fresh (omega (arith, less, room))
-          (c.put_in.ensures.items ∙ ap (λ xs. with_timer c.args.t xs) held) (omega (arith, front, c.self.invariant.within, c.put_in.ensures.len, ap (λ v. length v.items) same))
-          (omega (arith, room, c.self.invariant.places, c.put_in.ensures.capacity, ap (λ v. vec_capacity v) same))
-    ]
+    let spare : c.self.inside.room - (length c.self.inside.recent.timers + length c.self.inside.list.timers) ≡ c.args.self.now.spare = ap (λ (v : Content). v.spare) c.self.view_is in
+    let fits : length c.self.inside.recent.timers + length c.self.inside.list.timers + 1 ≤ c.self.inside.room = omega (arith, spare, c.requires.room) in
+    rows_added c.args.t c.self.inside.recent.timers c.schedule.new.self.timers c.self.inside.list.timers c.self.inside.merged.timers c.self.inside.room c.self.inside.list.spare c.self.inside.merged.spare c.schedule.ensures.timers fits (ap (λ (v : Content). is_scheduled c.args.t.timer v.timers) c.self.view_is ∙ c.requires.fresh) c.self.invariant
+
+pub returns-then-spare-gt0-clause-timers : goal.returns-then-spare-gt0-clause-timers
+returns-then-spare-gt0-clause-timers c =
+    ap (λ (xs : List Timer). in_order (xs ++ c.self.inside.list.timers)) c.schedule.ensures.timers
+    ∙ (added_recent c.args.t c.self.inside.recent.timers c.self.inside.list.timers c.self.invariant.apart (ap (λ (v : Content). is_scheduled c.args.t.timer v.timers) c.self.view_is ∙ c.requires.fresh) ∙ ap (λ (v : Content). with_timer c.args.t v.timers) c.self.view_is)
+
+pub returns-then-spare-gt0-clause-spare : goal.returns-then-spare-gt0-clause-spare
+returns-then-spare-gt0-clause-spare c =
+    let spare : c.self.inside.room - (length c.self.inside.recent.timers + length c.self.inside.list.timers) ≡ c.args.self.now.spare = ap (λ (v : Content). v.spare) c.self.view_is in
+    let fits : length c.self.inside.recent.timers + length c.self.inside.list.timers + 1 ≤ c.self.inside.room = omega (arith, spare, c.requires.room) in
+    omega (arith, spare, fits, ap length c.schedule.ensures.timers, length-with_timer c.args.t c.self.inside.recent.timers)
+
+pub schedule-requires-2-clause-room : goal.schedule-requires-2-clause-room
+schedule-requires-2-clause-room c =
+    let spare : c.self.inside.room - (length c.self.inside.recent.timers + length c.self.inside.list.timers) ≡ c.args.self.now.spare = ap (λ (v : Content). v.spare) c.self.view_is in
+    let fits : length c.self.inside.recent.timers + length c.self.inside.list.timers + 1 ≤ c.self.inside.room = omega (arith, spare, c.requires.room) in
+    room_in_whole c.self.inside.recent.timers c.self.inside.list.timers c.put_together.new.list.timers c.self.inside.room c.self.inside.merged.spare c.put_together.new.list.spare fits c.self.invariant.merged_room c.put_together.ensures.room (record { timers = c.put_together.ensures.list; rises = c.put_together.ensures.rises })
+
+pub schedule-requires-2-clause-fresh : goal.schedule-requires-2-clause-fresh
+schedule-requires-2-clause-fresh c = fresh_in_whole c.args.t c.self.inside.recent.timers c.self.inside.list.timers c.put_together.new.list.timers (ap (λ (v : Content). is_scheduled c.args.t.timer v.timers) c.self.view_is ∙ c.requires.fresh) (record { timers = c.put_together.ensures.list; rises = c.put_together.ensures.rises })
+
+pub invariant_of-self-2 : goal.invariant_of-self-2
+invariant_of-self-2 c =
+    let spare : c.self.inside.room - (length c.self.inside.recent.timers + length c.self.inside.list.timers) ≡ c.args.self.now.spare = ap (λ (v : Content). v.spare) c.self.view_is in
+    let fits : length c.self.inside.recent.timers + length c.self.inside.list.timers + 1 ≤ c.self.inside.room = omega (arith, spare, c.requires.room) in
+    rows_whole c.args.t c.self.inside.recent.timers c.self.inside.list.timers c.put_together.new.list.timers c.put_together.new.recent.timers c.put_together.new.merged.timers c.self.inside.room c.self.inside.merged.spare c.put_together.new.list.spare c.put_together.new.merged.spare
+    c.put_together.ensures.recent c.put_together.ensures.merged fits c.self.invariant.merged_room c.put_together.ensures.room (omega (arith, c.put_together.ensures.merged_room, c.self.invariant.list_room)) (ap (λ (v : Content). is_scheduled c.args.t.timer v.timers) c.self.view_is ∙ c.requires.fresh) c.self.invariant.apart (record { timers = c.put_together.ensures.list; rises = c.put_together.ensures.rises })
+    c.schedule-2.new.self.timers c.schedule-2.new.self.spare c.schedule-2.ensures.timers c.schedule-2.ensures.spare
+
+pub returns-clause-timers : goal.returns-clause-timers
+returns-clause-timers c =
+    ap (λ (xs : List Timer). in_order (xs ++ c.schedule-2.new.self.timers)) c.put_together.ensures.recent
+    ∙ (ap in_order c.schedule-2.ensures.timers
+    ∙ (added_whole c.args.t c.self.inside.recent.timers c.self.inside.list.timers c.put_together.new.list.timers c.self.invariant.apart (ap (λ (v : Content). is_scheduled c.args.t.timer v.timers) c.self.view_is ∙ c.requires.fresh) (record { timers = c.put_together.ensures.list; rises = c.put_together.ensures.rises }) ∙ ap (λ (v : Content). with_timer c.args.t v.timers) c.self.view_is))
+
+pub returns-clause-spare : goal.returns-clause-spare
+returns-clause-spare c =
+    let spare : c.self.inside.room - (length c.self.inside.recent.timers + length c.self.inside.list.timers) ≡ c.args.self.now.spare = ap (λ (v : Content). v.spare) c.self.view_is in
+    let fits : length c.self.inside.recent.timers + length c.self.inside.list.timers + 1 ≤ c.self.inside.room = omega (arith, spare, c.requires.room) in
+    omega (arith, spare, fits, ap length c.put_together.ensures.recent, ap length c.schedule-2.ensures.timers, length-with_timer c.args.t c.put_together.new.list.timers, length_permutation (c.self.inside.recent.timers ++ c.self.inside.list.timers) c.put_together.new.list.timers c.put_together.ensures.list, length-append c.self.inside.recent.timers c.self.inside.list.timers)

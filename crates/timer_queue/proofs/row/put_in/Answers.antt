@@ -2,7 +2,7 @@ use Rattle.std.proofs.Common.{◌≡◌, ◌-◌, length, take, drop, ap, ◌∙
 use Rattle.std.specs.List.{insert}
 use Rattle.timer_queue.specs.Timers.{is_rising, with_timer}
 use Rattle.timer_queue.proofs.Rows.{from_place, insert_behind}
-use Rattle.timer_queue.proofs.sorted.put_in.Goals as goal
+use Rattle.timer_queue.proofs.row.put_in.Goals as goal
 
 pub place_for-place-requires : goal.place_for-place-requires
 place_for-place-requires c =

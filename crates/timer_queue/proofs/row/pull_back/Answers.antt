@@ -1,7 +1,7 @@
 use Rattle.std.proofs.Common.{◌+◌, ◌-◌, arith}
 use Rattle.timer_queue.specs.declared.timer.Timer.{Timer}
 use Rattle.timer_queue.proofs.Rows.{pulled}
-use Rattle.timer_queue.proofs.sorted.pull_back.Goals as goal
+use Rattle.timer_queue.proofs.row.pull_back.Goals as goal
 
 pub returns : goal.returns
 returns c =

@@ -3,7 +3,7 @@ use Rattle.std.proofs.lemmas.List.Sorted.{IsPartitionPoint-from_clause}
 use Rattle.std.specs.List.Sorted.{IsPartitionPoint}
 use Rattle.timer_queue.specs.Timers.{comes_before}
 use Rattle.timer_queue.proofs.Rows.{rising_parted, rising_insert, put_last}
-use Rattle.timer_queue.proofs.sorted.place_for.Goals as goal
+use Rattle.timer_queue.proofs.row.place_for.Goals as goal
 
 pub returns-then-comes_before-clause-place : goal.returns-then-comes_before-clause-place
 returns-then-comes_before-clause-place c =
