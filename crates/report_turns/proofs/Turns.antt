@@ -1,18 +1,17 @@
 -- Events of a handle, its reports and its turns.
 use Rattle.std.proofs.Common.{ℕ, zero, suc, ◌≡◌, ◌≢◌, ◌==◌, ◌<◌, ◌+◌, Bool, true, false, not, cond, ◌&&◌, ◌||◌, List, [], ◌∷◌, ◌++◌, length, refl, sym, ap, ◌∙◌, subst, arith, Option, Some, None, is_some, option_map, ⊎_elim}
-use Rattle.std.proofs.lemmas.Bool.{false≢true, and_parts, and_from, or_parts, not-true, both_ways, cases_Bool, cond-true, cond-false, eqb-true, eq-eqb, ne_eqb, cases_eq}
+use Rattle.std.proofs.lemmas.Bool.{false≢true, and_parts, and_from, or_parts, not-true, both_ways, cases_Bool, eqb-true, eq-eqb, ne_eqb, cases_eq}
 use Rattle.std.specs.List.{list_any}
 use Rattle.ev_types.specs.declared.upcall.Answer.{Answer}
 use Rattle.ev_types.specs.declared.upcall.Answer.TheVariants.{Keep, Again, Close}
-use Rattle.ev_types.specs.declared.upcall.Upcall.{Upcall}
 use Rattle.reactor_journal.specs.Event.{Event, Item, Timer}
 use Rattle.reactor_journal.specs.declared.entry.Entry.{Entry}
 use Rattle.reactor_journal.specs.declared.entry.Entry.TheVariants.{Opened, Scheduled, Cancelled, Polled, Due, Ready, Posted, Stale, Started, Returned, Masked, Suspended, Resumed, Refused, Removed, Closed, Ended}
-use Rattle.reactor_journal.specs.Past.{count, count_below, upcall_of, class_of, belongs_to, only_if_alive, event_at, event_made, timer_of, timeout_of, was_opened, was_removed, was_started, was_returned, was_taken, is_alive, is_event, is_waiting, is_open, is_busy, is_suspended, is_able, may_run, is_pick, ends, drops, drops_it, returns, starts, had, items_made, item_of, started_at}
+use Rattle.reactor_journal.specs.Past.{count, count_below, belongs_to, only_if_alive, event_at, event_made, timer_of, timeout_of, was_opened, was_removed, was_started, was_returned, was_taken, is_alive, is_event, is_open, is_busy, is_suspended, is_able, may_run, is_pick, ends, drops_it, returns, had, items_made, item_of, started_at}
 use Rattle.reactor_journal.specs.Follow.{may_follow, is_legal}
 use Rattle.reactor_journal.proofs.Basics.{event_at-last, event_at-other, event_at-before, event_at-within, belongs_is_event}
-use Rattle.reactor_journal.proofs.Alive.{alive_not_removed, alive_was_opened}
-use Rattle.reactor_journal.proofs.Live.{same_below, one_fewer}
+use Rattle.reactor_journal.proofs.Alive.{alive_not_removed}
+use Rattle.reactor_journal.proofs.Live.{same_below}
 use Rattle.reactor_journal.proofs.OneOpen.{started_is_event}
 use Rattle.reactor_journal.proofs.Steps.{returned_was_started, open_is_event, busy_event, open_from, open_parts}
 use Rattle.reactor_journal.proofs.Picking.{pick_some}

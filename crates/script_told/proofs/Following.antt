@@ -1,6 +1,6 @@
 -- A journal that follows a script to its end.
-use Rattle.std.proofs.Common.{ℕ, zero, suc, ◌≡◌, ◌≢◌, ◌==◌, ◌+◌, ◌⊎◌, inl, inr, Bool, true, false, not, cond, ◌&&◌, ◌||◌, List, [], ◌∷◌, ◌++◌, map, refl, sym, ap, ◌∙◌, subst, arith, Option, Some, None, ⊎_elim}
-use Rattle.std.proofs.lemmas.Bool.{false≢true, and_parts, and_from, or_parts, not-true, both_ways, cases_Bool, cond-true, cond-false, eqb-true, eq-eqb, ne_eqb}
+use Rattle.std.proofs.Common.{ℕ, suc, ◌≡◌, ◌==◌, ◌+◌, ◌⊎◌, inl, inr, Bool, true, false, not, cond, ◌&&◌, ◌||◌, List, [], ◌∷◌, ◌++◌, map, refl, sym, ap, ◌∙◌, subst, arith, ⊎_elim}
+use Rattle.std.proofs.lemmas.Bool.{false≢true, and_parts, and_from, or_parts, both_ways, cases_Bool, eqb-true}
 use Rattle.std.specs.List.{list_any, list_all, filter}
 use Rattle.ev_types.specs.declared.upcall.Kind.{Kind}
 use Rattle.ev_types.specs.declared.upcall.Kind.TheVariants.{Read, Write, Except}
@@ -10,7 +10,7 @@ use Rattle.ev_base.specs.Terms.{StepEnd, Step, Group}
 use Rattle.ev_base.specs.declared.net.Report.{Report}
 use Rattle.reactor_journal.specs.declared.entry.Entry.{Entry}
 use Rattle.reactor_journal.specs.declared.entry.Entry.TheVariants.{Opened, Scheduled, Cancelled, Polled, Due, Ready, Posted, Stale, Started, Returned, Masked, Suspended, Resumed, Refused, Removed, Closed, Ended}
-use Rattle.reactor_journal.specs.Past.{count, upcall_of, mask_of, has_kind, opens, ends, event_at, is_alive, was_opened, was_removed, was_closed, waits_for_closed}
+use Rattle.reactor_journal.specs.Past.{count, upcall_of, mask_of, has_kind, ends, event_at, is_alive, was_opened, was_removed}
 use Rattle.reactor_journal.specs.Follow.{may_follow, is_legal, follows_ready, follows_due}
 use Rattle.reactor_journal.proofs.Basics.{may_fits}
 use Rattle.reactor_journal.proofs.Alive.{dead_was_removed, alive_not_removed, alive_was_opened}
@@ -18,10 +18,10 @@ use Rattle.reactor_journal.proofs.Closing.{closing}
 use Rattle.report_turns.specs.Laws.{reports_input, holds_back, is_input}
 use Rattle.log_handler.specs.declared.note.ServerNote.{ServerNote}
 use Rattle.event_script.specs.Script.{ScriptStep, ScriptGroup, groups_told, report_step}
-use Rattle.ev_base.specs.Playing.{Playing, Seat, is_end, attached, retired, turned_away, dropped, without, has_handle, waited, given, most_reports, is_at, at_start}
-use Rattle.script_told.specs.Laws.{StandsOnlyAt, IsOnlyAt, steps_at, all_steps, is_step_at}
-use Rattle.script_told.specs.Told.{told, told_after, time_left, end_offered, is_taken, IsTold, FollowsBefore, taken_before, last_wait, is_over}
-use Rattle.script_told.proofs.Playing.{AreSeatsRight, is_seat_right, Sees, is_report_of, is_read, AreReads, to_come, wait_reports, filter_reads, without_count, LeavesNothing, over_leaves, has_seat, none_held, is_seat_of, none_waited}
+use Rattle.ev_base.specs.Playing.{Playing, Seat, is_end, dropped, has_handle, waited, given, most_reports, is_at}
+use Rattle.script_told.specs.Laws.{StandsOnlyAt, IsOnlyAt, steps_at, all_steps}
+use Rattle.script_told.specs.Told.{told, time_left, end_offered, is_taken, FollowsBefore, last_wait, is_over}
+use Rattle.script_told.proofs.Playing.{AreSeatsRight, is_seat_right, Sees, is_report_of, is_read, AreReads, to_come, wait_reports, filter_reads, without_count, over_leaves, has_seat, none_held, is_seat_of, none_waited}
 
 append_reads : (a b : List Step) → AreReads a → AreReads b → AreReads (a ++ b)
 append_reads [] b h k = k

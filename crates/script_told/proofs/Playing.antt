@@ -1,18 +1,16 @@
 -- How many steps of an end are still to be reported.
-use Rattle.std.proofs.Common.{ℕ, zero, suc, ◌≡◌, ◌==◌, ◌+◌, ◌<◌, Bool, true, false, not, cond, ◌&&◌, ◌||◌, List, [], ◌∷◌, ◌++◌, length, map, refl, sym, ap, ◌∙◌, subst, arith, Option, Some, None, ⊎_elim}
-use Rattle.std.proofs.lemmas.Bool.{false≢true, and_parts, and_from, or_parts, not-true, both_ways, cases_Bool, cond-true, cond-false, eqb-true, eq-eqb}
+use Rattle.std.proofs.Common.{ℕ, zero, suc, ◌≡◌, ◌==◌, ◌+◌, Bool, true, false, not, cond, ◌&&◌, ◌||◌, List, [], ◌∷◌, ◌++◌, refl, sym, ap, ◌∙◌, arith, Option, Some, None, ⊎_elim}
+use Rattle.std.proofs.lemmas.Bool.{false≢true, and_parts, and_from, or_parts, cases_Bool, eqb-true, eq-eqb}
 use Rattle.std.specs.List.{list_any, list_all, filter}
 use Rattle.ev_types.specs.declared.upcall.Kind.{Kind}
 use Rattle.ev_types.specs.declared.upcall.Kind.TheVariants.{Read, Write, Except}
 use Rattle.ev_base.specs.Terms.{StepEnd, AtListener, AtConnection, Step, Group}
 use Rattle.ev_base.specs.declared.net.Report.{Report}
-use Rattle.ev_base.specs.declared.net.Waited.{Waited}
-use Rattle.ev_base.specs.declared.net.Waited.TheVariants as waited_by
 use Rattle.ev_base.specs.Net.{mask_has}
 use Rattle.reactor_journal.specs.Past.{count, upcall_of}
 use Rattle.reactor_journal.proofs.Turning.{count-append}
 use Rattle.report_turns.specs.Laws.{is_input}
-use Rattle.ev_base.specs.Playing.{Playing, Seat, Answered, is_end, report_at, gives, leaves, given, left, most_reports, without, is_at, waited, by_held, of_held, of_none, of_groups, of_time, of_group, answer_at, is_late}
+use Rattle.ev_base.specs.Playing.{Playing, Seat, Answered, is_end, report_at, gives, leaves, given, left, most_reports, without, is_at, waited, by_held, of_held, of_groups, of_time, of_group, answer_at, is_late}
 use Rattle.script_told.specs.Laws.{is_step_at, steps_at, all_steps}
 use Rattle.script_told.specs.Told.{is_over}
 

@@ -1,0 +1,11 @@
+pub mod ByTurns
+pub mod Scripts
+pub mod Numbering
+pub mod Glue
+pub mod Handles
+pub mod Notes
+pub mod Turns
+pub mod Winding
+pub mod Second
+pub mod Worked
+pub mod Fixed

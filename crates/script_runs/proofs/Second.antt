@@ -1,0 +1,396 @@
+-- The second law: the grouped text of a script, for every run over it.
+use Rattle.std.proofs.Common.{ℕ, zero, suc, ◌≡◌, ◌≢◌, ◌==◌, ◌+◌, ◌≤◌, ◌<◌, ◌⊎◌, inl, inr, Bool, true, false, not, cond, ◌&&◌, ◌||◌, List, [], ◌∷◌, ◌++◌, length, reverse, refl, sym, ap, ◌∙◌, subst, arith, Option, Some, None, ⊎_elim, append-nil, append_assoc, length-append}
+use Rattle.std.specs.Prelude.{flat_map}
+use Rattle.std.specs.List.{list_any, list_all, AllByRecursion}
+use Rattle.std.proofs.lemmas.Grind.{flat_map-append}
+use Rattle.std.proofs.lemmas.Bool.{false≢true, and_parts, and_from, or_parts, not-true, both_ways, cases_Bool, eqb-true, eq-eqb, ne_eqb, ltb-true}
+use Rattle.std.proofs.lemmas.List.{reverse-append, reverse-reverse}
+use Rattle.ev_types.specs.declared.upcall.Answer.{Answer}
+use Rattle.ev_types.specs.declared.upcall.Answer.TheVariants.{Keep, Again, Close}
+use Rattle.ev_types.specs.declared.upcall.Handle.{Handle}
+use Rattle.ev_types.specs.declared.upcall.Upcall.{Upcall}
+use Rattle.ev_types.specs.declared.upcall.Upcall.TheVariants.{Input, Output, Except, Timeout, Notice}
+use Rattle.ev_types.specs.declared.upcall.Why.{Why}
+use Rattle.ev_types.specs.declared.upcall.Why.TheVariants.{Own, Removed as ByRemoval, Refused as ByRefusal}
+use Rattle.ev_base.specs.Terms.{Terms}
+use Rattle.reactor_journal.specs.Event.{Item, Origin}
+use Rattle.reactor_journal.specs.declared.entry.Entry.{Entry}
+use Rattle.reactor_journal.specs.declared.entry.Entry.TheVariants.{Opened, Returned, Refused, Removed, Closed, Ended, Polled, Due, Ready}
+use Rattle.reactor_journal.specs.Past.{past_of, count, had, origin_of, reason_of, ended_itself, is_alive, was_opened, was_closed, was_removed, opened, offered_here, all_below}
+use Rattle.reactor_journal.specs.Follow.{may_follow, is_legal, follows_ready}
+use Rattle.reactor_journal.proofs.Alive.{opened_below, dead_was_removed}
+use Rattle.reactor_journal.proofs.Picking.{all_below-at}
+use Rattle.reactor_journal.proofs.Turning.{past_split, is_legal-front, count-past}
+use Rattle.reactor_turns.specs.Laws.{stays}
+use Rattle.reactor_turns.proofs.Turns.{Last, ended_last, own_reason}
+use Rattle.reactor_model.specs.Handling.{Handling, EndsInClose, IsClose}
+use Rattle.acceptor.specs.Accepting as accepting
+use Rattle.acceptor.specs.Laws.{number_in, numbers_from}
+use Rattle.acceptor.proofs.Accounts as acceptor_accounts
+use Rattle.acceptor.specs.Servers.{ServerMay, is_accepted as says_accepted}
+use Rattle.log_lines.specs.declared.end_kind.EndKind.{EndKind}
+use Rattle.log_lines.specs.declared.end_kind.EndKind.TheVariants as end
+use Rattle.log_handler.specs.declared.note.ServerNote.{ServerNote}
+use Rattle.log_handler.specs.declared.note.ServerNote.TheVariants as note
+use Rattle.log_handler.specs.Connection as connection
+use Rattle.log_handler.specs.Connections.{IsClosing}
+use Rattle.log_handler.specs.Laws.{EndedSo}
+use Rattle.log_handler.specs.Notes.{note_lines}
+use Rattle.log_handler.proofs.Courses.{course-closed}
+use Rattle.log_handler.proofs.Accounts.{accounts}
+use Rattle.event_script.specs.Script.{ScriptStep, Opens, Brings, Shuts, Fails, ListenerFails, ScriptGroup, groups_told, steps_of, may_follow as step_may_follow, are_steps}
+use Rattle.event_script.specs.Script as script
+use Rattle.script_turns.specs.Grouped.{grouped}
+use Rattle.script_runs.specs.Connections.{lines_in, lines_of, lines_by_connection, accepted, accepts, AreLeft, HadMemory, entry_lacks, ListensThrough, TalksThrough}
+use Rattle.script_runs.specs.Runs.{is_refusal, is_accepted, note_settled}
+use Rattle.script_runs.proofs.ByTurns.{TurnsBefore, read_backwards, turns_so}
+use Rattle.script_runs.specs.Steps.{EachStep}
+use Rattle.script_runs.specs.Serial.{first_handle}
+use Rattle.script_runs.specs.Laws.{RunsOver}
+use Rattle.script_runs.proofs.Handles.{IsBegun, Offered, offered}
+use Rattle.script_runs.proofs.Numbering.{IsNumbered, Balanced, balanced, accepted_number, settled_number, opened_is, owed}
+use Rattle.script_runs.proofs.Turns as turns
+use Rattle.script_runs.proofs.Turns.{each_front, origin_still, opened_later}
+use Rattle.script_runs.proofs.Winding as winding
+use Rattle.script_runs.proofs.Winding.{Begins}
+use Rattle.script_runs.proofs.Glue.{Ends, groups_lines}
+use Rattle.script_runs.proofs.Scripts.{few}
+
+-- ---- small facts
+
+-- an acceptor never ends itself
+stays_accept : (gave : accepting.Gives) (before after : accepting.Progress) (item : Item ServerNote) → accepting.ServesAccept gave before item after → stays item.answer ≡ true
+stays_accept (accepting.OneEnd serial) before after item h = ap stays h.answers
+stays_accept accepting.NoEnd before after item h = ap stays h.answers
+stays_accept accepting.Failure before after item h = ap stays h.answers
+
+stays_input : (b : Bool) (before after : accepting.Progress) (item : Item ServerNote) → accepting.ServesInput b before item after → stays item.answer ≡ true
+stays_input true before after item h = stays_accept h.gave before after item h.serves
+stays_input false before after item h = ap stays h.answers
+
+stays_turn : (up : Upcall) (before after : accepting.Progress) (item : Item ServerNote) → accepting.ServesUpcall up before item after → stays item.answer ≡ true
+stays_turn Input before after item h = stays_input _ before after item h
+stays_turn Output before after item h = ap stays h.answers
+stays_turn Except before after item h = ap stays h.answers
+stays_turn (Timeout timer) before after item h = ap stays h.answers
+stays_turn (Notice kind) before after item h = ap stays h.answers
+
+course_stays : (start p : accepting.Progress) (items : List (Item ServerNote)) → accepting.Course start items p → list_all (λ item. stays item.answer) items ≡ true
+course_stays start p [] course = refl
+course_stays start p (item ∷ items) course = and_from _ _ (stays_turn item.upcall start course.0 item course.1) (course_stays course.0 p items course.2)
+
+last_stays : (xs : List (Item ServerNote)) (item : Item ServerNote) → list_all (λ item. stays item.answer) (xs ++ item ∷ []) ≡ true → stays item.answer ≡ true
+last_stays [] item h = (and_parts (stays item.answer) true h).0
+last_stays (x ∷ xs) item h = last_stays xs item (and_parts (stays x.answer) (list_all (λ item. stays item.answer) (xs ++ item ∷ [])) h).1
+
+ends_close : (xs : List (Item ServerNote)) (item : Item ServerNote) → item.answer ≡ Close → EndsInClose (xs ++ item ∷ [])
+ends_close [] item h = subst IsClose (sym h) tt
+ends_close (x ∷ []) item h = subst IsClose (sym h) tt
+ends_close (x ∷ (y ∷ xs)) item h = ends_close (y ∷ xs) item h
+
+length_numbers : (first many : ℕ) → length (numbers_from first many) ≡ many
+length_numbers first zero = refl
+length_numbers first (suc many) = ap suc (length_numbers (suc first) many)
+
+-- lines read backwards
+back : (c : ℕ) → List (Entry ServerNote) → List ℕ
+back c [] = []
+back c (e ∷ past) = back c past ++ lines_in c e
+
+lines_reverse : (c : ℕ) (past : List (Entry ServerNote)) → lines_of c (reverse past) ≡ back c past
+unfolding back
+lines_reverse c [] = refl
+lines_reverse c (e ∷ past) =
+    ap (lines_of c) (reverse-append (e ∷ []) past) ∙ flat_map-append (lines_in c) (reverse past) (e ∷ []) ∙ ap (λ (l : List ℕ). lines_of c (reverse past) ++ l) (append-nil (lines_in c e))
+    ∙ ap (λ (l : List ℕ). l ++ lines_in c e) (lines_reverse c past)
+
+nothing_owed : (past : List (Entry ServerNote)) → follows_ready past ≡ true → owed past ≡ 0
+nothing_owed [] h = absurd (false≢true h)
+nothing_owed (Polled moment ∷ past) h = refl
+nothing_owed (Due timer ∷ past) h = refl
+nothing_owed (Ready handle kind ∷ past) h = refl
+nothing_owed (_ ∷ past) h = absurd (false≢true h)
+
+reason_own : (past : List (Entry ServerNote)) (x : ℕ) → ended_itself past x ≡ true → reason_of past x ≡ Own
+reason_own past x h = ap (λ (b : Bool). cond b Own ByRemoval) h
+
+not_refused : (past : List (Entry ServerNote)) (x : ℕ) (kept : Option EndKind) (word : EndKind) → (kept ≡ Some end.Refused → ⊥) → IsClosing (reason_of past x) kept word → word ≢ end.Refused
+not_refused past x kept word none h = by_reason (ended_itself past x) h
+  where
+    by_kept : (kept : Option EndKind) → IsClosing ByRemoval kept word → word ≢ end.Refused
+    by_kept None h = λ e. absurd (other (sym h ∙ e))
+      where
+        other : end.Stopped ≡ end.Refused → ⊥
+        other q = cc
+    by_kept (Some end.NoMemory) h = λ e. absurd (other (sym h ∙ e))
+      where
+        other : end.NoMemory ≡ end.Refused → ⊥
+        other q = cc
+    by_kept (Some _) h = λ e. absurd (other (sym h ∙ e))
+      where
+        other : end.Stopped ≡ end.Refused → ⊥
+        other q = cc
+
+    by_reason : (b : Bool) → IsClosing (cond b Own ByRemoval) kept word → word ≢ end.Refused
+    by_reason true h = λ e. none (h ∙ ap Some e)
+    by_reason false h = by_kept kept h
+
+-- ---- a run over a script
+
+module _ {H E : Type 0} (means : Handling H E ServerNote) (t : Terms) (groups : List ScriptGroup) (journal : List (Entry ServerNote)) (r : RunsOver means t None groups journal) (none_refused : list_any is_refusal journal ≡ false) (memory : HadMemory journal) where
+  abbrev steps : List ScriptStep
+  steps = steps_of groups
+
+  abbrev most : ℕ
+  most = t.most
+
+  abbrev run : List (Entry ServerNote)
+  run = past_of r.ends.run
+
+  abbrev wound : List (Entry ServerNote)
+  wound = past_of r.ends.closing
+
+  -- the whole past: what was wound up, the end, and the run
+  abbrev all : List (Entry ServerNote)
+  all = wound ++ Ended ∷ run
+
+  all_is : past_of journal ≡ all
+  all_is = ap past_of r.ends.is ∙ past_split r.ends.run r.ends.closing Ended
+
+  legal : is_legal most all ≡ true
+  legal = sym (ap (is_legal most) all_is) ∙ r.whole.legal
+
+  legal_end : is_legal most (Ended ∷ run) ≡ true
+  legal_end = is_legal-front most wound (Ended ∷ run) legal
+
+  legal_run : is_legal most run ≡ true
+  legal_run = (and_parts (may_follow most run Ended) (is_legal most run) legal_end).1
+
+  turned_run : TurnsBefore (ServerMay t) says_accepted 1 run None
+  turned_run = turns_so (means.may t) (ServerMay t) means.installs says_accepted 1 r.acts.asks r.acts.installs run None (read_backwards means t 1 r.ends.run r.turned)
+
+  going : Rattle.reactor_journal.specs.Past.ended run ≡ false
+  going = winding.not_ended most run (and_parts (may_follow most run Ended) (is_legal most run) legal_end).0
+
+  refused_all : list_any is_refusal all ≡ false
+  refused_all = sym (ap (list_any is_refusal) all_is) ∙ winding.any_reverse is_refusal journal none_refused
+
+  refused_run : list_any is_refusal run ≡ false
+  refused_run = (or_parts (is_refusal {N = ServerNote} Ended) (list_any is_refusal run) (winding.any_right is_refusal wound (Ended ∷ run) refused_all)).1
+
+  begins : Begins run
+  begins = winding.begins_run r.ends.run r.ends.closing r.begins.0 (sym r.begins.1 ∙ r.ends.is)
+
+  begun_run : EachStep IsBegun run
+  begun_run = winding.run_begun t run None begins turned_run refused_run
+
+  begun : EachStep IsBegun all
+  begun = winding.begun_up most wound Ended run legal refl refused_all (winding.ended_begun run r.ends.at_over.behind, begun_run)
+
+  left : AreLeft steps None all
+  left = subst (AreLeft steps None) all_is r.turns
+
+  closed : (x : ℕ) → was_opened all x ≡ true → was_closed all x ≡ true
+  closed x o =
+      let each : all_below (opened all) (was_closed all) ≡ true = subst (λ (p : List (Entry ServerNote)). all_below (opened p) (was_closed p) ≡ true) all_is r.whole.closed in
+      all_below-at (opened all) (was_closed all) x (opened_below most all x legal o) each
+
+  whole_run : all ≡ (wound ++ Ended ∷ []) ++ run
+  whole_run = sym (append_assoc wound (Ended ∷ []) run)
+
+  first_run : was_opened run 0 ≡ true
+  first_run = ap (λ (p : List (Entry ServerNote)). was_opened p 0) begins.is ∙ opened_later begins.later (Opened first_handle Rattle.acceptor.specs.Servers.read_alone ∷ []) 0 refl
+
+  first : was_opened all 0 ≡ true
+  first = opened_later wound (Ended ∷ run) 0 first_run
+
+  numbered : EachStep IsNumbered run
+  numbered = turns.numbered most steps None all legal begun left closed (wound ++ Ended ∷ []) run whole_run first
+
+  none_open : (i : ℕ) → Rattle.reactor_journal.specs.Past.is_open (Ended ∷ run) i ≡ false
+  none_open i = winding.closed_open Ended run i refl (r.ends.at_over.idle.none_open i)
+
+  had_is : (x : ℕ) → had all x ≡ had run x
+  had_is x = (winding.wound_up most (Ended ∷ run) wound legal refl none_open).had_is x ∙ append-nil (had run x)
+
+  keeps : list_any winding.removes run ≡ false
+  keeps = winding.run_keeps t run begins turned_run going
+
+  -- ---- the number of each connection
+
+  is_number : (c k : ℕ) (past : List (Entry ServerNote)) (o : Origin ServerNote) → note_settled past ≡ Some (note.Accepted k) → note_settled past ≡ Some o.note → k ≡ c → (number moment : ℕ)
+      → Some (record { note = note.Accepted number; moment = moment }) ≡ Some o → number ≡ c
+  is_number c k past o s n e number moment same =
+      let a : o.note ≡ note.Accepted k = cc in
+      let b : note.Accepted number ≡ o.note = ap (λ (x : Option (Origin ServerNote)). elim x [ None ↦ note.Accepted number | Some y ↦ y.note ]) same in
+      let d : number ≡ k = cc in
+      d ∙ e
+
+  numbers : turns.AreNumbered most steps None all legal begun left closed
+  numbers c o =
+      let o_run : was_opened run (suc c) ≡ true = sym (winding.opened_back most wound (Ended ∷ run) (suc c) legal refl) ∙ o in
+      let by = offered run c begun_run o_run in
+      let n : EachStep IsNumbered (Opened by.handle by.mask ∷ (by.first ∷ by.before)) = each_front IsNumbered by.later (Opened by.handle by.mask ∷ (by.first ∷ by.before)) (subst (EachStep IsNumbered) by.is numbered) in
+      let turned = winding.turns_front t by.later (Opened by.handle by.mask ∷ (by.first ∷ by.before)) None (subst (λ (p : List (Entry ServerNote)). TurnsBefore (ServerMay t) says_accepted 1 p None) by.is turned_run) in
+      let b = balanced (ServerMay t) by.first by.before (Some (Opened by.handle by.mask)) n.1 turned.1.2 in
+      let k = accepted_number (ServerMay t) (by.first ∷ by.before) n.0.0 (settled_number (by.first ∷ by.before) n.1) b in
+      let here : is_legal most (Opened by.handle by.mask ∷ (by.first ∷ by.before)) ≡ true = is_legal-front most by.later (Opened by.handle by.mask ∷ (by.first ∷ by.before)) (sym (ap (is_legal most) by.is) ∙ legal_run) in
+      let is : by.handle.0 ≡ opened (by.first ∷ by.before) = opened_is (ServerMay t) most (by.first ∷ by.before) by.handle by.mask here in
+      let talks = turns.connection most steps None all legal begun left closed c o in
+      let origin : origin_of all (suc c) ≡ origin_of run (suc c) = ap (λ (p : List (Entry ServerNote)). origin_of p (suc c)) whole_run ∙ origin_still most (wound ++ Ended ∷ []) run (suc c) (sym (ap (is_legal most) whole_run) ∙ legal) o_run in
+      is_number c k.0 (by.first ∷ by.before) by.origin k.1 (turns.offered_note most steps None all legal begun left closed (by.first ∷ by.before) by.origin by.here)
+      (same_number c k.0 (sym by.mine ∙ is ∙ k.2)) talks.number talks.moment (sym talks.origin ∙ origin ∙ by.of_it)
+    where
+      same_number : (c k : ℕ) → suc c ≡ k + 1 → k ≡ c
+      same_number c k e = omega arith
+
+  -- ---- the acceptor
+
+  listens : ListensThrough steps (had all 0) (turns.left_by most steps None all legal begun left closed 0 first).f.said
+  listens = turns.acceptor most steps None all legal begun left closed first
+
+  listener_course : accepting.Course (accepting.at_start (Some (Rattle.script_turns.specs.Laws.unoffered (Rattle.event_script.specs.Stories.offers steps)))) (had run 0) listens.now
+  listener_course = subst (λ (h : List (Item ServerNote)). accepting.Course (accepting.at_start (Some (Rattle.script_turns.specs.Laws.unoffered (Rattle.event_script.specs.Stories.offers steps)))) h listens.now) (had_is 0) listens.course
+
+  alive_first : is_alive run 0 ≡ true
+  alive_first = ⊎_elim (λ (h : is_alive run 0 ≡ true). h)
+      (λ (h : is_alive run 0 ≡ false).
+      let l : Last ServerNote (had run 0) = ended_last most run 0 legal_run (winding.removed_itself run 0 keeps (dead_was_removed run 0 first_run h)) in
+      let s = course_stays _ listens.now (had run 0) listener_course in
+      absurd (both_ways (stays l.last.answer) (ap stays l.closes) (last_stays l.before l.last (sym (ap (list_all (λ item. stays item.answer)) l.are) ∙ s))))
+      (cases_Bool (is_alive run 0))
+
+  accepted_all : accepted all ≡ listens.now.taken
+  accepted_all =
+      let account = acceptor_accounts.accounts _ (had all 0) listens.now listens.course in
+      turns.counts most steps None all legal begun left closed [] all refl ∙ ap length account.notes ∙ length_numbers 0 listens.now.taken
+
+  accepted_journal : accepted journal ≡ accepted all
+  accepted_journal = sym (count-past accepts journal) ∙ ap accepted all_is
+
+  accepted_run : accepted run ≡ accepted all
+  accepted_run =
+      turns.counts most steps None all legal begun left closed (wound ++ Ended ∷ []) run whole_run
+      ∙ ap (λ (h : List (Item ServerNote)). length (flat_map number_in h)) (sym (had_is 0)) ∙ sym (turns.counts most steps None all legal begun left closed [] all refl)
+
+  opened_run : opened run ≡ accepted run + 1
+  opened_run = by_run run refl
+    where
+      by_run : (past : List (Entry ServerNote)) → run ≡ past → opened run ≡ accepted run + 1
+      by_run [] e = absurd (false≢true (sym (ap follows_ready e) ∙ r.ends.at_over.behind))
+      by_run (d ∷ past) e =
+          let b = balanced (ServerMay t) d past None (subst (EachStep IsNumbered) e numbered) (subst (λ (p : List (Entry ServerNote)). TurnsBefore (ServerMay t) says_accepted 1 p None) e turned_run) in
+          let total : opened run + owed run ≡ accepted run + 1 = subst (λ (p : List (Entry ServerNote)). opened p + owed p ≡ accepted p + 1) (sym e) b.total in
+          let none : owed run ≡ 0 = nothing_owed run r.ends.at_over.behind in
+          omega (arith, total, none)
+
+  -- ---- each connection
+
+  back_is : (c : ℕ) (past : List (Entry ServerNote)) → back c past ≡ turns.back_lines most steps None all legal begun left closed c past
+  unfolding back
+  back_is c [] = refl
+  back_is c (e ∷ past) = ap (λ (l : List ℕ). l ++ lines_in c e) (back_is c past)
+
+  lines_back : (c : ℕ) → lines_of c journal ≡ turns.back_lines most steps None all legal begun left closed c all
+  lines_back c = ap (lines_of c) (sym (reverse-reverse journal)) ∙ ap (λ (p : List (Entry ServerNote)). lines_of c (reverse p)) all_is ∙ lines_reverse c all ∙ back_is c all
+
+  memory_all : list_any entry_lacks all ≡ false
+  memory_all = sym (ap (list_any entry_lacks) all_is) ∙ winding.any_reverse entry_lacks journal memory
+
+  opened_conn : (c : ℕ) → c < accepted journal → was_opened run (suc c) ≡ true
+  opened_conn c l = winding.below_opened most run (suc c) legal_run (above c (accepted journal) (accepted run) (opened run) l (accepted_journal ∙ sym accepted_run) opened_run)
+    where
+      above : (c j a o : ℕ) → c < j → j ≡ a → o ≡ a + 1 → suc c < o
+      above c j a o l e f = omega arith
+
+  follows_run : Rattle.script_told.specs.Told.FollowsBefore (groups_told groups) run []
+  follows_run = (winding.follows_back (groups_told groups) most wound (Ended ∷ run) legal refl (subst (λ (p : List (Entry ServerNote)). Rattle.script_told.specs.Told.FollowsBefore (groups_told groups) p []) all_is r.follows)).1
+
+  free : list_any Rattle.report_turns.specs.Laws.holds_back run ≡ false
+  free = winding.run_free t run None begins turned_run
+
+  abbrev EndsHere : ℕ → Type 0
+  EndsHere c = Ends t groups most run legal_run free r.ends.at_over.idle.no_pick r.ends.at_over.idle.none_open numbered turned_run follows_run r.ends.at_over.behind r.ends.at_over.over c (had all (suc c)) (lines_of c journal)
+
+  -- a connection that was closed by another was alive at the end of the run
+  alive_if : (c : ℕ) (before later : List (Entry ServerNote)) (handle : Handle) (said : ServerNote) → all ≡ later ++ Closed handle said ∷ before → handle.0 ≡ suc c → was_opened run (suc c) ≡ true
+      → reason_of before (suc c) ≢ Own → is_alive run (suc c) ≡ true
+  alive_if c before later handle said is mine o other = ⊎_elim (λ (h : is_alive run (suc c) ≡ true). h)
+      (λ (h : is_alive run (suc c) ≡ false).
+      let gone : was_removed run (suc c) ≡ true = dead_was_removed run (suc c) o h in
+      let itself : ended_itself run (suc c) ≡ true = winding.removed_itself run (suc c) keeps gone in
+      let w = Rattle.reactor_journal.proofs.Closing.closing before handle.0 (Rattle.reactor_journal.proofs.Basics.may_fits most before (Closed handle said) (and_parts (may_follow most before (Closed handle said)) (is_legal most before) here).0) in
+      let dead : was_removed before (suc c) ≡ true = subst (λ (x : ℕ). was_removed before x ≡ true) mine (dead_was_removed before handle.0 w.0 w.1) in
+      let same : ended_itself before (suc c) ≡ ended_itself run (suc c) =
+      sym (winding.itself_still (later ++ Closed handle said ∷ []) before (suc c) dead) ∙ ap (λ (p : List (Entry ServerNote)). ended_itself p (suc c)) (append_assoc later (Closed handle said ∷ []) before ∙ sym is ∙ whole_run)
+      ∙ winding.itself_still (wound ++ Ended ∷ []) run (suc c) gone in
+      absurd (other (reason_own before (suc c) (same ∙ itself))))
+      (cases_Bool (is_alive run (suc c)))
+    where
+      here : is_legal most (Closed handle said ∷ before) ≡ true
+      here = is_legal-front most later (Closed handle said ∷ before) (sym (ap (is_legal most) is) ∙ legal)
+
+  not_lacking : (c : ℕ) (word : EndKind) (said : ServerNote) (handle : Handle) → said ≡ note.Finished c word → entry_lacks (Closed handle said) ≡ false → word ≢ end.NoMemory
+  not_lacking c word said handle is h = λ e. absurd (both_ways (entry_lacks (Closed handle said)) h (ap (λ (s : ServerNote). entry_lacks (Closed handle s)) (is ∙ ap (note.Finished c) e)))
+
+  no_refused_end : (last : _) (p : connection.Progress) → EndedSo None last p p.kept → p.kept ≡ Some end.Refused → ⊥
+  no_refused_end last p ended e = subst (EndedSo None last p) e ended
+
+  ended_so : (c : ℕ) (handle : Handle) (later before : List (Entry ServerNote)) (said : ServerNote) → all ≡ later ++ Closed handle said ∷ before → handle.0 ≡ suc c → was_opened run (suc c) ≡ true
+      → lines_of c journal ≡ turns.recorded most steps None all legal begun left closed c (had all (suc c)) ++ note_lines said → EndsHere c
+  ended_so c handle later before said is mine o lines =
+      let talks = turns.talks_at most steps None all legal begun left closed numbers c later handle said before is mine in
+      let through = talks.2 in
+      let account = accounts c None talks.0 _ (had all (suc c)) through.now through.course in
+      record {
+        moment = talks.0;
+        now = through.now;
+        reason = reason_of before (suc c);
+        word = through.word;
+        course = through.course;
+        closing = through.closing;
+        by_others = λ other. (alive_if c before later handle said is mine o other, had_is (suc c));
+        by_itself = λ own none.
+            let l : Last ServerNote (had before (suc c)) = ended_last most before (suc c) before_legal (own_reason before (suc c) own) in
+            let closes : EndsInClose (had all (suc c)) = subst EndsInClose (sym (had_before ∙ l.are)) (ends_close l.before l.last l.closes) in
+            some_none through.now.kept (course-closed c None _ through.now (had all (suc c)) through.course closes) none;
+        memory = not_lacking c through.word said handle through.notes (winding.none_at entry_lacks later (Closed handle said) before (sym (ap (list_any entry_lacks) is) ∙ memory_all));
+        taken_in = not_refused before (suc c) through.now.kept through.word (no_refused_end _ through.now account.ended) through.closing;
+        says = lines ∙ ap (λ (s : ServerNote). turns.recorded most steps None all legal begun left closed c (had all (suc c)) ++ note_lines s) through.notes;
+      }
+    where
+      here : is_legal most (Closed handle said ∷ before) ≡ true
+      here = is_legal-front most later (Closed handle said ∷ before) (sym (ap (is_legal most) is) ∙ legal)
+
+      before_legal : is_legal most before ≡ true
+      before_legal = (and_parts (may_follow most before (Closed handle said)) (is_legal most before) here).1
+
+      had_before : had all (suc c) ≡ had before (suc c)
+      had_before = ap (λ (p : List (Entry ServerNote)). had p (suc c)) is
+          ∙ Rattle.script_runs.proofs.Handles.had_closed most later (Closed handle said ∷ before) (suc c) (sym (ap (is_legal most) is) ∙ legal) (ap (λ (b : Bool). b || was_closed before (suc c)) (eq-eqb handle.0 (suc c) mine))
+          ∙ append-nil (had before (suc c))
+
+      some_none : (kept : Option EndKind) → Rattle.std.proofs.Common.IsSome kept → kept ≡ None → ⊥
+      some_none None h e = absurd (false≢true h)
+      some_none (Some k) h e = absurd (other e)
+        where
+          other : Some k ≡ None → ⊥
+          other q = cc
+
+  each_ends : (c : ℕ) → c < accepted journal → EndsHere c
+  each_ends c l = by_lines (turns.lines_all most steps None all legal begun left closed numbers first c [] all refl)
+    where
+      o : was_opened run (suc c) ≡ true
+      o = opened_conn c l
+
+      shut : was_closed all (suc c) ≡ true
+      shut = closed (suc c) (opened_later wound (Ended ∷ run) (suc c) o)
+
+      by_lines : turns.Lines most steps None all legal begun left closed c all → EndsHere c
+      by_lines (turns.going open_ lines) = absurd (both_ways _ open_ shut)
+      by_lines (turns.ended_by later handle said before is mine h lines) = ended_so c handle later before said is mine o (lines_back c ∙ lines)
+
+  pub second_law : lines_by_connection journal ≡ grouped (steps_of groups)
+  second_law =
+      groups_lines t groups most run legal_run free r.ends.at_over.idle.no_pick r.ends.at_over.idle.none_open numbered turned_run follows_run r.ends.at_over.behind r.ends.at_over.over
+      journal (λ c. had all (suc c)) listens.now r.script (few steps r.script) alive_first listener_course (accepted_journal ∙ accepted_all) each_ends

@@ -1,0 +1,95 @@
+-- What holds of whole runs over a script.
+use Rattle.std.specs.Prelude.{◌≡◌, if◌then◌else◌, ℕ, Bool, true, false, not, List, [], ◌∷◌, ◌++◌, reverse, Option, Some, None, length}
+use Rattle.std.specs.List.{list_any, sum_by}
+use Rattle.ev_types.specs.declared.upcall.Upcall.{Upcall}
+use Rattle.ev_base.specs.Terms.{StepEnd, AtListener, AtConnection, Step, Terms}
+use Rattle.cdr_record.specs.Decoding.{decode}
+use Rattle.reactor_journal.specs.declared.entry.Entry.{Entry}
+use Rattle.reactor_journal.specs.declared.entry.Entry.TheVariants as entry
+use Rattle.reactor_journal.specs.declared.entry.Entry.TheVariants.{Opened}
+use Rattle.ev_types.specs.declared.upcall.Handle.{Handle}
+use Rattle.reactor_journal.specs.Past.{past_of}
+use Rattle.log_lines.specs.declared.end_kind.EndKind.{EndKind}
+use Rattle.log_lines.specs.declared.end_kind.EndKind.TheVariants as end
+use Rattle.log_handler.specs.declared.note.ServerNote.{ServerNote}
+use Rattle.log_handler.specs.declared.note.ServerNote.TheVariants as note
+use Rattle.log_handler.specs.Laws.{took_of}
+use Rattle.reactor_model.specs.Handling.{Handling, Deed}
+use Rattle.acceptor.specs.Servers.{read_alone, ServerMay, is_accepted}
+use Rattle.dispatch_turns.specs.ByTurns.{DispatchedByTurns}
+use Rattle.event_script.specs.Script.{ScriptStep, ScriptGroup, steps_of, groups_told, are_steps, opened}
+use Rattle.event_script.specs.Stories.{bytes_of}
+use Rattle.ev_base.specs.Playing.{is_at}
+use Rattle.script_told.specs.Told.{Follows, told}
+use Rattle.script_turns.specs.Grouped.{grouped}
+use Rattle.script_runs.specs.Connections.{lines_by_connection, AreLeft, HadMemory, accepted, is_note_of}
+use Rattle.script_runs.specs.Runs.{IsWhole, EndsAtOver, is_notice, is_timer, is_refusal}
+use Rattle.script_runs.specs.Serial.{Serial, first_handle}
+
+-- The turns of such handlers ask for no more than those of a server, and install as these do.
+pub record ActsAsServer {H E : Type 0} (means : Handling H E ServerNote) (t : Terms) : Type 0 where
+  pub asks : (up : Upcall) (deed : Deed) → means.may t up deed → ServerMay t up deed
+  pub installs : (said : ServerNote) → means.installs said ≡ is_accepted said
+
+-- What the two laws below take: a whole journal over a script, which goes by turns alone before it ends, where nothing can be
+-- reported any more and nothing is to be started.
+pub record RunsOver {H E : Type 0} (means : Handling H E ServerNote) (t : Terms) (idle : Option ℕ) (groups : List ScriptGroup) (journal : List (Entry ServerNote)) : Type 0 where
+  pub script : are_steps (reverse (steps_of groups)) ≡ true
+  pub whole : IsWhole t.most journal
+  pub begins : (rest : List (Entry ServerNote)) × (journal ≡ Opened first_handle read_alone ∷ rest)
+  pub ends : EndsAtOver (groups_told groups) journal
+  pub acts : ActsAsServer means t
+  pub turned : DispatchedByTurns means t 1 ends.run
+  pub idle_is : t.idle ≡ Some idle
+  pub no_notice : list_any is_notice journal ≡ false
+  pub follows : Follows (groups_told groups) journal
+  pub turns : AreLeft (steps_of groups) idle (past_of journal)
+
+-- ---- the first law: all that the script has was done
+
+-- the ends that were closed or refused in a past
+abbrev pub ends_gone : List ScriptGroup → List (Entry ServerNote) → List StepEnd
+ends_gone groups past = (told (groups_told groups) past).gone
+
+-- no step is left but those of ends that were closed or refused
+abbrev pub LeavesNoStep : List ScriptGroup → List (Entry ServerNote) → Type 0
+LeavesNoStep groups past =
+    ((told (groups_told groups) past).groups ≡ []) × (list_any (λ step. not (is_at (ends_gone groups past) step)) (told (groups_told groups) past).held ≡ false)
+
+-- how many bytes a connection took, by its notes
+abbrev pub took_for : ℕ → Entry ServerNote → ℕ
+took_for c (entry.Returned event answer said) = if is_note_of c said then took_of said else 0
+took_for c _ = 0
+
+-- a connection that was closed with one of these words has taken all its bytes
+abbrev pub TookAllAs : EndKind → ℕ → List (Entry ServerNote) → List ScriptStep → Type 0
+TookAllAs end.End c journal steps = sum_by (took_for c) journal ≡ length (bytes_of c steps)
+TookAllAs (end.Partial n) c journal steps = sum_by (took_for c) journal ≡ length (bytes_of c steps)
+TookAllAs end.Stopped c journal steps = sum_by (took_for c) journal ≡ length (bytes_of c steps)
+TookAllAs _ c journal steps = Unit {0}
+
+-- Each connection that came was accepted, each step was reported, or is of an end that was closed or refused, and each connection
+-- that read on to its end took all.
+pub record DoesAll (groups : List ScriptGroup) (run journal : List (Entry ServerNote)) : Type 0 where
+  pub takes : accepted journal ≡ opened (steps_of groups)
+  -- (where the run ended, and not where all was wound up: there every end was closed)
+  pub leaves : LeavesNoStep groups (past_of run)
+  pub reads : (before after : List (Entry ServerNote)) (handle : Handle) (c : ℕ) (word : EndKind)
+      → journal ≡ before ++ entry.Closed handle (note.Finished c word) ∷ after → TookAllAs word c journal (steps_of groups)
+
+abbrev pub AllIsDone : {H E : Type 0} → Handling H E ServerNote → Type 0
+AllIsDone means =
+    (t : Terms) (idle : Option ℕ) (groups : List ScriptGroup) (journal : List (Entry ServerNote)) → (r : RunsOver means t idle groups journal) → DoesAll groups r.ends.run journal
+
+-- the second law
+abbrev pub GroupsLines : {H E : Type 0} → Handling H E ServerNote → Type 0
+GroupsLines means =
+    (t : Terms) (groups : List ScriptGroup) (journal : List (Entry ServerNote)) → RunsOver means t None groups journal
+    → list_any is_timer journal ≡ false → list_any is_refusal journal ≡ false → HadMemory journal
+    → lines_by_connection journal ≡ grouped (steps_of groups)
+
+-- the law of one worker: a script has one serial journal
+abbrev pub SerialIsOne : Type 0
+SerialIsOne =
+    (most : ℕ) (idle : Option ℕ) (groups : List ScriptGroup) (journal other : List (Entry ServerNote))
+    → Serial most idle groups journal → Serial most idle groups other → HadMemory journal → HadMemory other → journal ≡ other

@@ -1,0 +1,5 @@
+pub mod Steps
+pub mod Connections
+pub mod Runs
+pub mod Serial
+pub mod Laws

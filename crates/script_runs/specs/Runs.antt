@@ -1,0 +1,63 @@
+-- How a run over a script ends (POSA2, Leader/Followers; C++NPv2 chapter 4).
+use Rattle.std.specs.Prelude.{◌≡◌, ◌≤◌, ◌+◌, ℕ, Bool, true, false, not, ◌&&◌, List, [], ◌∷◌, ◌++◌, length, Option, Some, None, option_map, IsTrue}
+use Rattle.std.specs.List.{list_any}
+use Rattle.ev_types.specs.declared.upcall.Mask.{Mask}
+use Rattle.ev_types.specs.declared.upcall.Upcall.{Upcall}
+use Rattle.ev_base.specs.Terms.{Group}
+use Rattle.reactor_journal.specs.Event.{Event}
+use Rattle.reactor_journal.specs.declared.entry.Entry.{Entry}
+use Rattle.reactor_journal.specs.declared.entry.Entry.TheVariants.{Opened, Scheduled, Cancelled, Polled, Due, Ready, Posted, Stale, Started, Returned, Masked, Suspended, Resumed, Refused, Removed, Closed, Ended}
+use Rattle.reactor_journal.specs.Past.{past_of, event_at, ended, opened, was_closed, all_below, is_pick, is_open, now}
+use Rattle.reactor_journal.specs.Follow.{Legal, follows_ready}
+use Rattle.reactor_model.specs.Handling.{Deed, Installing, Masking, Cancelling, Stopping}
+use Rattle.log_handler.specs.declared.note.ServerNote.{ServerNote}
+use Rattle.log_handler.specs.declared.note.ServerNote.TheVariants as note
+use Rattle.script_told.specs.Told.{last_wait, is_over}
+
+-- nothing can be started, and nothing is open
+pub record IsIdle {N : Type 0} (past : List (Entry N)) : Type 0 where
+  pub no_pick : (i : ℕ) → is_pick past i ≡ false
+  pub none_open : (i : ℕ) → is_open past i ≡ false
+
+-- here the run may end: directly behind the entries of a wait that the script answered with Over, with nothing to start and nothing open
+pub record IsAtOver (groups : List Group) (past : List (Entry ServerNote)) : Type 0 where
+  pub behind : follows_ready past ≡ true
+  pub over : is_over (last_wait groups past) ≡ true
+  pub idle : IsIdle past
+
+-- The journal is a run and its winding up, which begins with `Ended`.
+pub record EndsAtOver (groups : List Group) (journal : List (Entry ServerNote)) : Type 0 where
+  pub run : List (Entry ServerNote)
+  pub closing : List (Entry ServerNote)
+  pub is : journal ≡ run ++ Ended ∷ closing
+  pub at_over : IsAtOver groups (past_of run)
+
+-- it is legal, was stopped, and every handle that was opened was closed
+pub record IsWhole {N : Type 0} (most : ℕ) (journal : List (Entry N)) : Type 0 where
+  pub legal : Legal journal most
+  pub stopped : IsTrue (ended (past_of journal))
+  pub closed : all_below (opened (past_of journal)) (was_closed (past_of journal)) ≡ true
+
+-- no notification
+abbrev pub is_notice : {N : Type 0} → Entry N → Bool
+is_notice (Posted handle kind from seq) = true
+is_notice (Stale handle from seq) = true
+is_notice _ = false
+
+abbrev pub is_timer : {N : Type 0} → Entry N → Bool
+is_timer (Scheduled timer handle first every) = true
+is_timer _ = false
+
+abbrev pub is_refusal : {N : Type 0} → Entry N → Bool
+is_refusal (Refused live fault said) = true
+is_refusal _ = false
+
+-- an `Opened` behind the first entry stands only behind a turn that accepted a connection
+abbrev pub note_settled : List (Entry ServerNote) → Option ServerNote
+note_settled (Closed handle said ∷ (Returned event answer note ∷ past)) = Some note
+note_settled (Returned event answer note ∷ past) = Some note
+note_settled _ = None
+
+abbrev pub is_accepted : Option ServerNote → Bool
+is_accepted (Some (note.Accepted conn)) = true
+is_accepted _ = false
