@@ -17,36 +17,36 @@ use Rattle.reactor_journal.proofs.Steps.{open_is_event}
 use Rattle.reactor_journal.proofs.Turning.{is_legal-front}
 use Rattle.acceptor.specs.Servers.{read_alone}
 use Rattle.log_handler.specs.declared.note.ServerNote.{ServerNote}
-use Rattle.event_script.specs.Script.{ScriptStep}
-use Rattle.script_runs.specs.Connections.{Leaves, IsLeft, AreLeft}
 use Rattle.script_runs.specs.Runs.{note_settled}
 use Rattle.script_runs.specs.Steps.{EachStep}
 use Rattle.script_runs.specs.Serial.{first_handle}
 
 -- ---- the closing of a handle
 
-pub record Found (steps : List ScriptStep) (idle : Option ℕ) (past : List (Entry ServerNote)) (x : ℕ) : Type 0 where
+-- the `Closed` of x, of which this holds as each entry's does
+pub record Found (Q : List (Entry ServerNote) → Entry ServerNote → Type 0) (past : List (Entry ServerNote)) (x : ℕ) : Type 0 where
   pub later : List (Entry ServerNote)
   pub handle : Handle
   pub said : ServerNote
   pub before : List (Entry ServerNote)
   pub is : past ≡ later ++ Closed handle said ∷ before
   pub mine : handle.0 ≡ x
-  pub left : Leaves steps idle (origin_of before handle.0) (had before handle.0) (reason_of before handle.0) said
+  pub left : Q before (Closed handle said)
 
-found_here : (steps : List ScriptStep) (idle : Option ℕ) (e : Entry ServerNote) (past : List (Entry ServerNote)) (x : ℕ) → closes x e ≡ true → IsLeft steps idle past e → Found steps idle (e ∷ past) x
-found_here steps idle (Closed handle said) past x c left = record { later = []; handle = handle; said = said; before = past; is = refl; mine = eqb-true handle.0 x c; left = left }
-found_here steps idle _ past x c left = absurd (false≢true c)
+module _ (Q : List (Entry ServerNote) → Entry ServerNote → Type 0) where
+  found_here : (e : Entry ServerNote) (past : List (Entry ServerNote)) (x : ℕ) → closes x e ≡ true → Q past e → Found Q (e ∷ past) x
+  found_here (Closed handle said) past x c left = record { later = []; handle = handle; said = said; before = past; is = refl; mine = eqb-true handle.0 x c; left = left }
+  found_here _ past x c left = absurd (false≢true c)
 
-found_later : (steps : List ScriptStep) (idle : Option ℕ) (e : Entry ServerNote) (past : List (Entry ServerNote)) (x : ℕ) → Found steps idle past x → Found steps idle (e ∷ past) x
-found_later steps idle e past x f = record { later = e ∷ f.later; handle = f.handle; said = f.said; before = f.before; is = ap (λ (p : List (Entry ServerNote)). e ∷ p) f.is; mine = f.mine; left = f.left }
+  found_later : (e : Entry ServerNote) (past : List (Entry ServerNote)) (x : ℕ) → Found Q past x → Found Q (e ∷ past) x
+  found_later e past x f = record { later = e ∷ f.later; handle = f.handle; said = f.said; before = f.before; is = ap (λ (p : List (Entry ServerNote)). e ∷ p) f.is; mine = f.mine; left = f.left }
 
-pub found : (steps : List ScriptStep) (idle : Option ℕ) (past : List (Entry ServerNote)) (x : ℕ) → was_closed past x ≡ true → AreLeft steps idle past → Found steps idle past x
-found steps idle [] x c left = absurd (false≢true c)
-found steps idle (e ∷ past) x c left = ⊎_elim
-    (λ (t : closes x e ≡ true). found_here steps idle e past x t left.0)
-    (λ (f : closes x e ≡ false). found_later steps idle e past x (found steps idle past x (sym (ap (λ (b : Bool). b || was_closed past x) f) ∙ c) left.1))
-    (cases_Bool (closes x e))
+  pub found : (past : List (Entry ServerNote)) (x : ℕ) → was_closed past x ≡ true → EachStep Q past → Found Q past x
+  found [] x c each = absurd (false≢true c)
+  found (e ∷ past) x c each = ⊎_elim
+      (λ (t : closes x e ≡ true). found_here e past x t each.0)
+      (λ (f : closes x e ≡ false). found_later e past x (found past x (sym (ap (λ (b : Bool). b || was_closed past x) f) ∙ c) each.1))
+      (cases_Bool (closes x e))
 
 -- ---- turns
 
@@ -85,8 +85,8 @@ had_closed most (e ∷ later) past x legal c =
     ap (λ (items : List (Item ServerNote)). had (later ++ past) x ++ items) (none_made most e (later ++ past) x parts.1 parts.0 gone) ∙ append-nil (had (later ++ past) x) ∙ had_closed most later past x parts.1 c
 
 -- all its turns are those before its `Closed`
-pub had_found : (most : ℕ) (steps : List ScriptStep) (idle : Option ℕ) (past : List (Entry ServerNote)) (x : ℕ) → is_legal most past ≡ true → (f : Found steps idle past x) → had past x ≡ had f.before x
-had_found most steps idle past x legal f =
+pub had_found : (most : ℕ) (Q : List (Entry ServerNote) → Entry ServerNote → Type 0) (past : List (Entry ServerNote)) (x : ℕ) → is_legal most past ≡ true → (f : Found Q past x) → had past x ≡ had f.before x
+had_found most Q past x legal f =
     ap (λ (p : List (Entry ServerNote)). had p x) f.is
     ∙ had_closed most f.later (Closed f.handle f.said ∷ f.before) x (sym (ap (is_legal most) f.is) ∙ legal) (ap (λ (b : Bool). b || was_closed f.before x) (eq-eqb f.handle.0 x f.mine))
     ∙ append-nil (had f.before x)

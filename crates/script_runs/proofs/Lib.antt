@@ -3,6 +3,7 @@ pub mod Scripts
 pub mod Numbering
 pub mod Glue
 pub mod Handles
+pub mod Settling
 pub mod Notes
 pub mod Turns
 pub mod Winding

@@ -50,7 +50,7 @@ use Rattle.script_runs.specs.Laws.{RunsOver}
 use Rattle.script_runs.proofs.Handles.{IsBegun, Offered, offered}
 use Rattle.script_runs.proofs.Numbering.{IsNumbered, Balanced, balanced, accepted_number, settled_number, opened_is, owed}
 use Rattle.script_runs.proofs.Turns as turns
-use Rattle.script_runs.proofs.Turns.{each_front, origin_still, opened_later}
+use Rattle.script_runs.proofs.Settling.{each_front, origin_still, opened_later}
 use Rattle.script_runs.proofs.Winding as winding
 use Rattle.script_runs.proofs.Winding.{Begins}
 use Rattle.script_runs.proofs.Glue.{Ends, groups_lines}

@@ -41,50 +41,20 @@ use Rattle.script_runs.specs.Serial.{first_handle}
 use Rattle.script_runs.proofs.Handles.{Found, found, had_found, had_closed, Grows, had_grows, IsBegun, origin_first, Offered, offered}
 use Rattle.script_runs.proofs.Notes.{Listens, is_listening, course_listens, all_left, all_last, number_next, of_none}
 use Rattle.script_runs.proofs.Numbering.{IsNumbered, NumberedNote}
-
-pub each_front : (P : List (Entry ServerNote) → Entry ServerNote → Type 0) (later past : List (Entry ServerNote)) → EachStep P (later ++ past) → EachStep P past
-each_front P [] past h = h
-each_front P (e ∷ later) past h = each_front P later past h.1
-
-pub opened_later : (later past : List (Entry ServerNote)) (x : ℕ) → was_opened past x ≡ true → was_opened (later ++ past) x ≡ true
-opened_later [] past x o = o
-opened_later (e ∷ later) past x o = or_right (opens x e) (was_opened (later ++ past) x) (opened_later later past x o)
-  where
-    or_right : (b c : Bool) → c ≡ true → (b || c) ≡ true
-    or_right true c h = refl
-    or_right false c h = h
-
-opened_number : (most : ℕ) (e : Entry ServerNote) (past : List (Entry ServerNote)) (x : ℕ) → may_follow most past e ≡ true → opens x e ≡ true → x ≡ opened past
-opened_number most (Opened handle mask) past x may o = sym (eqb-true handle.0 x o) ∙ eqb-true _ _ (and_parts _ _ (may_fits most past (Opened handle mask) may)).0
-opened_number most _ past x may o = absurd (false≢true o)
-
--- an origin stays what it is
-pub origin_still : (most : ℕ) (later past : List (Entry ServerNote)) (x : ℕ) → is_legal most (later ++ past) ≡ true → was_opened past x ≡ true → origin_of (later ++ past) x ≡ origin_of past x
-origin_still most [] past x legal o = refl
-origin_still most (e ∷ later) past x legal o =
-    let parts = and_parts (may_follow most (later ++ past) e) (is_legal most (later ++ past)) legal in
-    let other : opens x e ≡ false = ⊎_elim
-    (λ (t : opens x e ≡ true). absurd (not_itself (opened_below most (later ++ past) x parts.1 (opened_later later past x o)) (opened_number most e (later ++ past) x parts.0 t)))
-    (λ (f : opens x e ≡ false). f) (cases_Bool (opens x e)) in
-    step e (later ++ past) other ∙ origin_still most later past x parts.1 o
-  where
-    not_itself : x < opened (later ++ past) → x ≡ opened (later ++ past) → ⊥
-    not_itself l e = omega arith
-
-    step : (e : Entry ServerNote) (past : List (Entry ServerNote)) → opens x e ≡ false → origin_of (e ∷ past) x ≡ origin_of past x
-    step e past o = rw (o, origin_of) refl
+use Rattle.script_runs.proofs.Settling as settling
+use Rattle.script_runs.proofs.Settling.{each_front, opened_later, origin_still}
 
 module _ (most : ℕ) (steps : List ScriptStep) (idle : Option ℕ) (all : List (Entry ServerNote)) (legal : is_legal most all ≡ true) (begun : EachStep IsBegun all) (left : AreLeft steps idle all)
     (closed : (x : ℕ) → was_opened all x ≡ true → was_closed all x ≡ true) where
   -- what the handler of x leaves, by its origin and all its turns
   pub record Left (x : ℕ) : Type 0 where
-    pub f : Found steps idle all x
+    pub f : Found (IsLeft steps idle) all x
     pub opened_before : was_opened f.before x ≡ true
     pub leaves : Leaves steps idle (origin_of all x) (had all x) (reason_of f.before x) f.said
 
   pub left_by : (x : ℕ) → was_opened all x ≡ true → Left x
   left_by x o =
-      let f = found steps idle all x (closed x o) left in
+      let f = found (IsLeft steps idle) all x (closed x o) left in
       let here : is_legal most (Closed f.handle f.said ∷ f.before) ≡ true = is_legal-front most f.later _ (sym (ap (is_legal most) f.is) ∙ legal) in
       let w = closing f.before f.handle.0 (may_fits most f.before (Closed f.handle f.said) (and_parts _ _ here).0) in
       let opened_here : was_opened f.before x ≡ true = subst (λ (y : ℕ). was_opened f.before y ≡ true) f.mine w.0 in
@@ -95,7 +65,7 @@ module _ (most : ℕ) (steps : List ScriptStep) (idle : Option ℕ) (all : List 
         f = f;
         opened_before = opened_here;
         leaves = subst (λ (o : Option (Origin ServerNote)). Leaves steps idle o (had all x) (reason_of f.before x) f.said) (sym origin)
-            (subst (λ (h : List (Item ServerNote)). Leaves steps idle (origin_of f.before x) h (reason_of f.before x) f.said) (sym (had_found most steps idle all x legal f))
+            (subst (λ (h : List (Item ServerNote)). Leaves steps idle (origin_of f.before x) h (reason_of f.before x) f.said) (sym (had_found most (IsLeft steps idle) all x legal f))
             (subst (λ (y : ℕ). Leaves steps idle (origin_of f.before y) (had f.before y) (reason_of f.before y) f.said) f.mine f.left));
       }
 
@@ -126,58 +96,6 @@ module _ (most : ℕ) (steps : List ScriptStep) (idle : Option ℕ) (all : List 
       talks_by c l.f.before l.f.said by.origin.note by.origin.moment by.of_it
       (subst (λ (origin : Option (Origin ServerNote)). Leaves steps idle origin (had all (suc c)) (reason_of l.f.before (suc c)) l.f.said) by.of_it l.leaves)
 
-  -- ---- one turn
-
-  -- the turn that an entry settles, among all turns of its handler
-  record Turn (event : ℕ) (answer : Answer) (said : ServerNote) (past : List (Entry ServerNote)) (x : ℕ) : Type 0 where
-    item : Item ServerNote
-    notes : item.note ≡ said
-    made : items_made past x (Returned event answer said) ≡ item ∷ []
-    opened_now : was_opened past x ≡ true
-    more : List (Item ServerNote)
-    among : had all x ≡ (had past x ++ item ∷ []) ++ more
-    others : (y : ℕ) → y ≢ x → items_made past y (Returned event answer said) ≡ []
-
-  record TurnOf (event : ℕ) (answer : Answer) (said : ServerNote) (past : List (Entry ServerNote)) : Type 0 where
-    x : ℕ
-    turn : Turn event answer said past x
-
-  turn_of : (later past : List (Entry ServerNote)) (event : ℕ) (answer : Answer) (said : ServerNote) → all ≡ later ++ Returned event answer said ∷ past → TurnOf event answer said past
-  turn_of later past event answer said is = by_event (event_at past event) refl (open_is_event most past event before is_open_now)
-    where
-      e : Entry ServerNote
-      e = Returned event answer said
-
-      here : is_legal most (Returned event answer said ∷ past) ≡ true
-      here = is_legal-front most later (Returned event answer said ∷ past) (sym (ap (is_legal most) is) ∙ legal)
-
-      before : is_legal most past ≡ true
-      before = (and_parts (may_follow most past (Returned event answer said)) (is_legal most past) here).1
-
-      is_open_now : is_open past event ≡ true
-      is_open_now = returned_is_open most past (Returned event answer said) event (and_parts (may_follow most past (Returned event answer said)) (is_legal most past) here).0 (eq-eqb event event refl)
-
-      by_event : (ev : Option Event) → event_at past event ≡ ev → is_some (event_at past event) ≡ true → TurnOf event answer said past
-      by_event None at some = absurd (false≢true (sym (ap is_some at) ∙ some))
-      by_event (Some ev) at some =
-          let mine : items_made past ev.handle (Returned event answer said) ≡ record { upcall = ev.upcall; moment = started_at past event; answer = answer; note = said } ∷ [] =
-          ap (λ (o : Option Event). item_of ev.handle o (started_at past event) answer said) at
-          ∙ ap (λ (b : Bool). cond b (record { upcall = ev.upcall; moment = started_at past event; answer = answer; note = said } ∷ []) []) (eq-eqb ev.handle ev.handle refl) in
-          let grows = had_grows later (Returned event answer said ∷ past) ev.handle in
-          record {
-            x = ev.handle;
-            turn = record {
-              item = record { upcall = ev.upcall; moment = started_at past event; answer = answer; note = said };
-              notes = refl;
-              made = mine;
-              opened_now = open_opened most past event ev.handle before is_open_now (ap (belongs_to ev.handle) at ∙ eq-eqb ev.handle ev.handle refl);
-              more = grows.more;
-              among = ap (λ (p : List (Entry ServerNote)). had p ev.handle) is ∙ grows.is ∙ ap (λ (items : List (Item ServerNote)). (had past ev.handle ++ items) ++ grows.more) mine;
-              others = λ y ne. ap (λ (o : Option Event). item_of y o (started_at past event) answer said) at
-                  ∙ ap (λ (b : Bool). cond b (record { upcall = ev.upcall; moment = started_at past event; answer = answer; note = said } ∷ []) []) (ne_eqb ev.handle y (λ q. ne (sym q)));
-            };
-          }
-
   -- a turn of a connection notes a piece
   record IsPiece (said : ServerNote) : Type 0 where
     conn : ℕ
@@ -191,7 +109,7 @@ module _ (most : ℕ) (steps : List ScriptStep) (idle : Option ℕ) (all : List 
   listen_in : (xs : List (Item ServerNote)) (item : Item ServerNote) (ys whole : List (Item ServerNote)) → whole ≡ (xs ++ item ∷ []) ++ ys → AllByRecursion Listens whole → Listens item
   listen_in xs item ys whole is h = all_last Listens xs item ys (subst (AllByRecursion Listens) is h)
 
-  conn_note : (c : ℕ) (event : ℕ) (answer : Answer) (said : ServerNote) (later past : List (Entry ServerNote)) → all ≡ later ++ Returned event answer said ∷ past → (t : Turn event answer said past (suc c))
+  conn_note : (c : ℕ) (event : ℕ) (answer : Answer) (said : ServerNote) (later past : List (Entry ServerNote)) → all ≡ later ++ Returned event answer said ∷ past → (t : settling.Turn most all legal event answer said past (suc c))
       → (o : was_opened all (suc c) ≡ true) → IsPieceOf (connection c o).number t.item
   conn_note c event answer said later past is t o =
       let talks = connection c o in
@@ -205,7 +123,7 @@ module _ (most : ℕ) (steps : List ScriptStep) (idle : Option ℕ) (all : List 
       or_right false c h = h
 
   -- a turn of another handler than the first accepts no connection
-  not_accepting : (x : ℕ) (event : ℕ) (answer : Answer) (said : ServerNote) (later past : List (Entry ServerNote)) → x ≢ 0 → all ≡ later ++ Returned event answer said ∷ past → Turn event answer said past x → IsPiece said
+  not_accepting : (x : ℕ) (event : ℕ) (answer : Answer) (said : ServerNote) (later past : List (Entry ServerNote)) → x ≢ 0 → all ≡ later ++ Returned event answer said ∷ past → settling.Turn most all legal event answer said past x → IsPiece said
   not_accepting zero event answer said later past ne is t = absurd (ne refl)
   not_accepting (suc c) event answer said later past ne is t =
       let piece = conn_note c event answer said later past is t (opened_all later past (Returned event answer said) (suc c) is t.opened_now) in
@@ -230,8 +148,8 @@ module _ (most : ℕ) (steps : List ScriptStep) (idle : Option ℕ) (all : List 
   counts_turn : (later past : List (Entry ServerNote)) (event : ℕ) (answer : Answer) (said : ServerNote) → all ≡ later ++ Returned event answer said ∷ past → Counts past → Counts (Returned event answer said ∷ past)
   counts_turn later past event answer said is h = by_handle t.x refl
     where
-      t : TurnOf event answer said past
-      t = turn_of later past event answer said is
+      t : settling.TurnOf most all legal event answer said past
+      t = settling.turn_of most all legal later past event answer said is
 
       first : t.x ≡ 0 → Counts (Returned event answer said ∷ past)
       first e =
@@ -345,15 +263,15 @@ module _ (most : ℕ) (steps : List ScriptStep) (idle : Option ℕ) (all : List 
       → NumberedNote said (d ∷ past)
   settled later past d event answer (note.Accepted k) is first = by_handle t.x refl
     where
-      t : TurnOf event answer (note.Accepted k) (d ∷ past)
-      t = turn_of later (d ∷ past) event answer (note.Accepted k) is
+      t : settling.TurnOf most all legal event answer (note.Accepted k) (d ∷ past)
+      t = settling.turn_of most all legal later (d ∷ past) event answer (note.Accepted k) is
 
       listens : ListensThrough steps (had all 0) (left_by 0 first).f.said
       listens = acceptor first
 
       by_handle : (x : ℕ) → t.x ≡ x → k ≡ accepted (d ∷ past)
       by_handle zero e =
-          let turn : Turn event answer (note.Accepted k) (d ∷ past) 0 = subst (Turn event answer (note.Accepted k) (d ∷ past)) e t.turn in
+          let turn : settling.Turn most all legal event answer (note.Accepted k) (d ∷ past) 0 = subst (settling.Turn most all legal event answer (note.Accepted k) (d ∷ past)) e t.turn in
           let account = acceptor_accounts.accounts _ (had all 0) listens.now listens.course in
           let numbers = sym (ap (flat_map number_in) turn.among) ∙ account.notes in
           number_next 0 listens.now.taken (had (d ∷ past) 0) turn.item turn.more k numbers turn.notes ∙ zero_more (length (flat_map number_in (had (d ∷ past) 0)))
@@ -440,8 +358,8 @@ module _ (most : ℕ) (steps : List ScriptStep) (idle : Option ℕ) (all : List 
       → Lines c past → Lines c (Returned event answer said ∷ past)
   lines_returned numbers c later past event answer said is first so = by_handle t.x t.turn (is_same t.x (suc c))
     where
-      t : TurnOf event answer said past
-      t = turn_of later past event answer said is
+      t : settling.TurnOf most all legal event answer said past
+      t = settling.turn_of most all legal later past event answer said is
 
       is_same : (a b : ℕ) → (a ≡ b) ⊎ (a ≢ b)
       is_same a b = ⊎_elim (λ (h : (a == b) ≡ true). inl (eqb-true a b h)) (λ (h : (a == b) ≡ false). inr (λ q. both_ways _ h (eq-eqb a b q))) (cases_Bool (a == b))
@@ -449,7 +367,7 @@ module _ (most : ℕ) (steps : List ScriptStep) (idle : Option ℕ) (all : List 
       here : is_legal most (Returned event answer said ∷ past) ≡ true
       here = is_legal-front most later (Returned event answer said ∷ past) (sym (ap (is_legal most) is) ∙ legal)
 
-      mine : (turn : Turn event answer said past (suc c)) → Lines c past → Lines c (Returned event answer said ∷ past)
+      mine : (turn : settling.Turn most all legal event answer said past (suc c)) → Lines c past → Lines c (Returned event answer said ∷ past)
       mine turn (ended_by l h s b i m shut lines) = absurd (not_open (belongs_made (event_at past event) turn.made))
         where
           gone : Gone past (suc c)
@@ -479,7 +397,7 @@ module _ (most : ℕ) (steps : List ScriptStep) (idle : Option ℕ) (all : List 
           ∙ ap (λ (l : List ℕ). recorded c (had past (suc c)) ++ l) (own_lines c (connection c o).number event answer said piece.0 piece.1 (sym turn.notes ∙ piece.2) (numbers c o) ∙ ap (λ (s : ServerNote). record_lines c (records_of_note s)) (sym turn.notes))
           ∙ sym (recorded_more c (had past (suc c)) turn.item) ∙ ap (λ (i : List (Item ServerNote)). recorded c (had past (suc c) ++ i)) (sym turn.made))
 
-      other : (x : ℕ) (turn : Turn event answer said past x) → x ≢ suc c → lines_in c (Returned event answer said) ≡ []
+      other : (x : ℕ) (turn : settling.Turn most all legal event answer said past x) → x ≢ suc c → lines_in c (Returned event answer said) ≡ []
       other zero turn ne =
           let listens = acceptor first in
           let l : Listens turn.item = listen_in (had past 0) turn.item turn.more (had all 0) turn.among (course_listens _ listens.now (had all 0) listens.course) in
@@ -489,8 +407,8 @@ module _ (most : ℕ) (steps : List ScriptStep) (idle : Option ℕ) (all : List 
           let piece = conn_note d event answer said later past is turn o in
           piece_lines c (connection d o).number event answer said piece.0 piece.1 (sym turn.notes ∙ piece.2) (ne_eqb (connection d o).number c (λ q. ne (ap suc (sym (numbers d o) ∙ q))))
 
-      by_handle : (x : ℕ) (turn : Turn event answer said past x) → (x ≡ suc c) ⊎ (x ≢ suc c) → Lines c (Returned event answer said ∷ past)
-      by_handle x turn (inl same) = mine (subst (Turn event answer said past) same turn) so
+      by_handle : (x : ℕ) (turn : settling.Turn most all legal event answer said past x) → (x ≡ suc c) ⊎ (x ≢ suc c) → Lines c (Returned event answer said ∷ past)
+      by_handle x turn (inl same) = mine (subst (settling.Turn most all legal event answer said past) same turn) so
       by_handle x turn (inr ne) = lines_same c (Returned event answer said) past refl (turn.others (suc c) (λ q. ne (sym q))) (other x turn ne) so
 
   not_suc : (c : ℕ) → 0 ≡ suc c → ⊥
