@@ -93,11 +93,10 @@ had_found most Q past x legal f =
 
 -- ---- origins
 
--- The first entry registers the acceptor; every other registration stands behind a turn, which offered the handler; and none is refused.
+-- The first entry registers the acceptor; every other registration stands behind a turn, which offered the handler.
 abbrev pub IsBegun : List (Entry ServerNote) → Entry ServerNote → Type 0
 IsBegun [] e = e ≡ Opened first_handle read_alone
 IsBegun (d ∷ past) (Opened handle mask) = ((origin : Origin ServerNote) × (offered_here (d ∷ past) ≡ Some origin)) × (mask ≡ read_alone)
-IsBegun (d ∷ past) (Refused live fault said) = ⊥
 IsBegun (d ∷ past) e = Unit {0}
 
 some_opened : (d : Entry ServerNote) (past : List (Entry ServerNote)) → EachStep IsBegun (d ∷ past) → 1 ≤ opened (d ∷ past)

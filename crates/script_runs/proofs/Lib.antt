@@ -7,6 +7,7 @@ pub mod Settling
 pub mod Notes
 pub mod Turns
 pub mod Winding
+pub mod Whole
 pub mod Second
 pub mod Worked
 pub mod Fixed

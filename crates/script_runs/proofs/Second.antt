@@ -53,6 +53,7 @@ use Rattle.script_runs.proofs.Turns as turns
 use Rattle.script_runs.proofs.Settling.{each_front, origin_still, opened_later}
 use Rattle.script_runs.proofs.Winding as winding
 use Rattle.script_runs.proofs.Winding.{Begins}
+use Rattle.script_runs.proofs.Whole as whole
 use Rattle.script_runs.proofs.Glue.{Ends, groups_lines}
 use Rattle.script_runs.proofs.Scripts.{few}
 
@@ -155,22 +156,55 @@ module _ {H E : Type 0} (means : Handling H E ServerNote) (t : Terms) (groups : 
   all = wound ++ Ended ∷ run
 
   all_is : past_of journal ≡ all
-  all_is = ap past_of r.ends.is ∙ past_split r.ends.run r.ends.closing Ended
+  all_is = whole.all_is means t None groups journal r
 
   legal : is_legal most all ≡ true
-  legal = sym (ap (is_legal most) all_is) ∙ r.whole.legal
+  legal = whole.legal means t None groups journal r
 
   legal_end : is_legal most (Ended ∷ run) ≡ true
-  legal_end = is_legal-front most wound (Ended ∷ run) legal
+  legal_end = whole.legal_end means t None groups journal r
 
   legal_run : is_legal most run ≡ true
-  legal_run = (and_parts (may_follow most run Ended) (is_legal most run) legal_end).1
+  legal_run = whole.legal_run means t None groups journal r
 
   turned_run : TurnsBefore (ServerMay t) says_accepted 1 run None
-  turned_run = turns_so (means.may t) (ServerMay t) means.installs says_accepted 1 r.acts.asks r.acts.installs run None (read_backwards means t 1 r.ends.run r.turned)
+  turned_run = whole.turned_run means t None groups journal r
 
   going : Rattle.reactor_journal.specs.Past.ended run ≡ false
-  going = winding.not_ended most run (and_parts (may_follow most run Ended) (is_legal most run) legal_end).0
+  going = whole.going means t None groups journal r
+
+  begins : Begins run
+  begins = whole.begins means t None groups journal r
+
+  begun_run : EachStep IsBegun run
+  begun_run = whole.begun_run means t None groups journal r
+
+  begun : EachStep IsBegun all
+  begun = whole.begun means t None groups journal r
+
+  left : AreLeft steps None all
+  left = whole.left means t None groups journal r
+
+  closed : (x : ℕ) → was_opened all x ≡ true → was_closed all x ≡ true
+  closed = whole.closed means t None groups journal r
+
+  whole_run : all ≡ (wound ++ Ended ∷ []) ++ run
+  whole_run = whole.whole_run means t None groups journal r
+
+  first_run : was_opened run 0 ≡ true
+  first_run = whole.first_run means t None groups journal r
+
+  first : was_opened all 0 ≡ true
+  first = whole.first means t None groups journal r
+
+  none_open : (i : ℕ) → Rattle.reactor_journal.specs.Past.is_open (Ended ∷ run) i ≡ false
+  none_open = whole.none_open means t None groups journal r
+
+  had_is : (x : ℕ) → had all x ≡ had run x
+  had_is = whole.had_is means t None groups journal r
+
+  keeps : list_any winding.removes run ≡ false
+  keeps = whole.keeps means t None groups journal r
 
   refused_all : list_any is_refusal all ≡ false
   refused_all = sym (ap (list_any is_refusal) all_is) ∙ winding.any_reverse is_refusal journal none_refused
@@ -178,43 +212,8 @@ module _ {H E : Type 0} (means : Handling H E ServerNote) (t : Terms) (groups : 
   refused_run : list_any is_refusal run ≡ false
   refused_run = (or_parts (is_refusal {N = ServerNote} Ended) (list_any is_refusal run) (winding.any_right is_refusal wound (Ended ∷ run) refused_all)).1
 
-  begins : Begins run
-  begins = winding.begins_run r.ends.run r.ends.closing r.begins.0 (sym r.begins.1 ∙ r.ends.is)
-
-  begun_run : EachStep IsBegun run
-  begun_run = winding.run_begun t run None begins turned_run refused_run
-
-  begun : EachStep IsBegun all
-  begun = winding.begun_up most wound Ended run legal refl refused_all (winding.ended_begun run r.ends.at_over.behind, begun_run)
-
-  left : AreLeft steps None all
-  left = subst (AreLeft steps None) all_is r.turns
-
-  closed : (x : ℕ) → was_opened all x ≡ true → was_closed all x ≡ true
-  closed x o =
-      let each : all_below (opened all) (was_closed all) ≡ true = subst (λ (p : List (Entry ServerNote)). all_below (opened p) (was_closed p) ≡ true) all_is r.whole.closed in
-      all_below-at (opened all) (was_closed all) x (opened_below most all x legal o) each
-
-  whole_run : all ≡ (wound ++ Ended ∷ []) ++ run
-  whole_run = sym (append_assoc wound (Ended ∷ []) run)
-
-  first_run : was_opened run 0 ≡ true
-  first_run = ap (λ (p : List (Entry ServerNote)). was_opened p 0) begins.is ∙ opened_later begins.later (Opened first_handle Rattle.acceptor.specs.Servers.read_alone ∷ []) 0 refl
-
-  first : was_opened all 0 ≡ true
-  first = opened_later wound (Ended ∷ run) 0 first_run
-
   numbered : EachStep IsNumbered run
-  numbered = turns.numbered most steps None all legal begun left closed (wound ++ Ended ∷ []) run whole_run first
-
-  none_open : (i : ℕ) → Rattle.reactor_journal.specs.Past.is_open (Ended ∷ run) i ≡ false
-  none_open i = winding.closed_open Ended run i refl (r.ends.at_over.idle.none_open i)
-
-  had_is : (x : ℕ) → had all x ≡ had run x
-  had_is x = (winding.wound_up most (Ended ∷ run) wound legal refl none_open).had_is x ∙ append-nil (had run x)
-
-  keeps : list_any winding.removes run ≡ false
-  keeps = winding.run_keeps t run begins turned_run going
+  numbered = whole.numbered means t None groups journal r (wound ++ Ended ∷ []) run whole_run refused_run
 
   -- ---- the number of each connection
 
@@ -378,7 +377,7 @@ module _ {H E : Type 0} (means : Handling H E ServerNote) (t : Terms) (groups : 
           other q = cc
 
   each_ends : (c : ℕ) → c < accepted journal → EndsHere c
-  each_ends c l = by_lines (turns.lines_all most steps None all legal begun left closed numbers first c [] all refl)
+  each_ends c l = by_lines (turns.lines_all most steps None all legal begun left closed numbers first c [] all refused_all refl)
     where
       o : was_opened run (suc c) ≡ true
       o = opened_conn c l

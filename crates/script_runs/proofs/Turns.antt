@@ -35,7 +35,8 @@ use Rattle.log_handler.specs.Laws.{records_in, records_of_note}
 use Rattle.reactor_journal.proofs.Closing.{Gone, closed_gone}
 use Rattle.reactor_journal.specs.Past.{closes}
 use Rattle.script_runs.specs.Connections.{lines_in, is_note_of, Leaves, LeavesOffered, ListensThrough, TalksThrough, IsLeft, AreLeft, accepted, accepts}
-use Rattle.script_runs.specs.Runs.{note_settled, is_accepted}
+use Rattle.std.specs.List.{list_any}
+use Rattle.script_runs.specs.Runs.{note_settled, is_accepted, is_refusal}
 use Rattle.script_runs.specs.Steps.{EachStep}
 use Rattle.script_runs.specs.Serial.{first_handle}
 use Rattle.script_runs.proofs.Handles.{Found, found, had_found, had_closed, Grows, had_grows, IsBegun, origin_first, Offered, offered}
@@ -297,17 +298,19 @@ module _ (most : ℕ) (steps : List ScriptStep) (idle : Option ℕ) (all : List 
   first_numbered : (e : Entry ServerNote) → IsBegun [] e → IsNumbered [] e
   first_numbered e h = subst (IsNumbered []) (sym h) refl
 
-  one_numbered : (later past : List (Entry ServerNote)) (e d : Entry ServerNote) → all ≡ later ++ e ∷ (d ∷ past) → was_opened all 0 ≡ true → IsBegun (d ∷ past) e → IsNumbered (d ∷ past) e
-  one_numbered later past (Opened handle mask) d is first b = registered later past d handle mask is
-  one_numbered later past (Returned event answer said) d is first b = settled later past d event answer said is first
-  one_numbered later past (Refused live fault said) d is first b = b
-  one_numbered later past _ d is first b = tt
+  one_numbered : (later past : List (Entry ServerNote)) (e d : Entry ServerNote) → all ≡ later ++ e ∷ (d ∷ past) → was_opened all 0 ≡ true → is_refusal e ≡ false → IsNumbered (d ∷ past) e
+  one_numbered later past (Opened handle mask) d is first none = registered later past d handle mask is
+  one_numbered later past (Returned event answer said) d is first none = settled later past d event answer said is first
+  one_numbered later past (Refused live fault said) d is first none = absurd (false≢true (sym none))
+  one_numbered later past _ d is first none = tt
 
-  pub numbered : (later past : List (Entry ServerNote)) → all ≡ later ++ past → was_opened all 0 ≡ true → EachStep IsNumbered past
-  numbered later [] is first = tt
-  numbered later (e ∷ []) is first = (first_numbered e (each_front IsBegun later (e ∷ []) (subst (EachStep IsBegun) is begun)).0, tt)
-  numbered later (e ∷ (d ∷ past)) is first =
-      (one_numbered later past e d is first (each_front IsBegun later (e ∷ (d ∷ past)) (subst (EachStep IsBegun) is begun)).0, numbered (later ++ e ∷ []) (d ∷ past) (shifted later e (d ∷ past) is) first)
+  -- where none is refused, each connection has its number
+  pub numbered : (later past : List (Entry ServerNote)) → all ≡ later ++ past → was_opened all 0 ≡ true → list_any is_refusal past ≡ false → EachStep IsNumbered past
+  numbered later [] is first none = tt
+  numbered later (e ∷ []) is first none = (first_numbered e (each_front IsBegun later (e ∷ []) (subst (EachStep IsBegun) is begun)).0, tt)
+  numbered later (e ∷ (d ∷ past)) is first none =
+      let parts = or_parts (is_refusal e) (list_any is_refusal (d ∷ past)) none in
+      (one_numbered later past e d is first parts.0, numbered (later ++ e ∷ []) (d ∷ past) (shifted later e (d ∷ past) is) first parts.1)
 
   -- ---- the lines of a connection
 
@@ -484,32 +487,25 @@ module _ (most : ℕ) (steps : List ScriptStep) (idle : Option ℕ) (all : List 
           less : suc d ≡ suc c → d ≡ c
           less q = omega arith
 
-  no_refusal : (later past : List (Entry ServerNote)) (live : _) (fault : Bool) (said : ServerNote) → all ≡ later ++ Refused live fault said ∷ past → ⊥
-  no_refusal later [] live fault said is = other (each_front IsBegun later (Refused live fault said ∷ []) (subst (EachStep IsBegun) is begun)).0
-    where
-      other : Refused live fault said ≡ Opened first_handle read_alone → ⊥
-      other q = cc
-  no_refusal later (d ∷ past) live fault said is = (each_front IsBegun later (Refused live fault said ∷ (d ∷ past)) (subst (EachStep IsBegun) is begun)).0
-
-  pub lines_all : (numbers : AreNumbered) (first : was_opened all 0 ≡ true) (c : ℕ) (later past : List (Entry ServerNote)) → all ≡ later ++ past → Lines c past
-  lines_all numbers first c later [] is = going refl refl
-  lines_all numbers first c later (Returned event answer said ∷ past) is = lines_returned numbers c later past event answer said is first (lines_all numbers first c (later ++ Returned event answer said ∷ []) past (shifted later (Returned event answer said) past is))
-  lines_all numbers first c later (Closed handle said ∷ past) is = lines_closed numbers c later past handle said is (lines_all numbers first c (later ++ Closed handle said ∷ []) past (shifted later (Closed handle said) past is))
-  lines_all numbers first c later (Refused live fault said ∷ past) is = absurd (no_refusal later past live fault said is)
-  lines_all numbers first c later (Opened handle mask ∷ past) is = lines_same c (Opened handle mask) past refl refl refl (lines_all numbers first c (later ++ Opened handle mask ∷ []) past (shifted later (Opened handle mask) past is))
-  lines_all numbers first c later (Scheduled timer handle first' every ∷ past) is = lines_same c (Scheduled timer handle first' every) past refl refl refl (lines_all numbers first c (later ++ Scheduled timer handle first' every ∷ []) past (shifted later (Scheduled timer handle first' every) past is))
-  lines_all numbers first c later (Cancelled timer ∷ past) is = lines_same c (Cancelled timer) past refl refl refl (lines_all numbers first c (later ++ Cancelled timer ∷ []) past (shifted later (Cancelled timer) past is))
-  lines_all numbers first c later (Polled moment ∷ past) is = lines_same c (Polled moment) past refl refl refl (lines_all numbers first c (later ++ Polled moment ∷ []) past (shifted later (Polled moment) past is))
-  lines_all numbers first c later (Due timer ∷ past) is = lines_same c (Due timer) past refl refl refl (lines_all numbers first c (later ++ Due timer ∷ []) past (shifted later (Due timer) past is))
-  lines_all numbers first c later (Ready handle kind ∷ past) is = lines_same c (Ready handle kind) past refl refl refl (lines_all numbers first c (later ++ Ready handle kind ∷ []) past (shifted later (Ready handle kind) past is))
-  lines_all numbers first c later (Posted handle kind from seq ∷ past) is = lines_same c (Posted handle kind from seq) past refl refl refl (lines_all numbers first c (later ++ Posted handle kind from seq ∷ []) past (shifted later (Posted handle kind from seq) past is))
-  lines_all numbers first c later (Stale handle from seq ∷ past) is = lines_same c (Stale handle from seq) past refl refl refl (lines_all numbers first c (later ++ Stale handle from seq ∷ []) past (shifted later (Stale handle from seq) past is))
-  lines_all numbers first c later (Started event ∷ past) is = lines_same c (Started event) past refl refl refl (lines_all numbers first c (later ++ Started event ∷ []) past (shifted later (Started event) past is))
-  lines_all numbers first c later (Masked handle mask ∷ past) is = lines_same c (Masked handle mask) past refl refl refl (lines_all numbers first c (later ++ Masked handle mask ∷ []) past (shifted later (Masked handle mask) past is))
-  lines_all numbers first c later (Suspended handle ∷ past) is = lines_same c (Suspended handle) past refl refl refl (lines_all numbers first c (later ++ Suspended handle ∷ []) past (shifted later (Suspended handle) past is))
-  lines_all numbers first c later (Resumed handle ∷ past) is = lines_same c (Resumed handle) past refl refl refl (lines_all numbers first c (later ++ Resumed handle ∷ []) past (shifted later (Resumed handle) past is))
-  lines_all numbers first c later (Removed handle ∷ past) is = lines_same c (Removed handle) past refl refl refl (lines_all numbers first c (later ++ Removed handle ∷ []) past (shifted later (Removed handle) past is))
-  lines_all numbers first c later (Ended ∷ past) is = lines_same c Ended past refl refl refl (lines_all numbers first c (later ++ Ended ∷ []) past (shifted later Ended past is))
+  pub lines_all : (numbers : AreNumbered) (first : was_opened all 0 ≡ true) (c : ℕ) (later past : List (Entry ServerNote)) → list_any is_refusal past ≡ false → all ≡ later ++ past → Lines c past
+  lines_all numbers first c later [] none is = going refl refl
+  lines_all numbers first c later (Returned event answer said ∷ past) none is = lines_returned numbers c later past event answer said is first (lines_all numbers first c (later ++ Returned event answer said ∷ []) past none (shifted later (Returned event answer said) past is))
+  lines_all numbers first c later (Closed handle said ∷ past) none is = lines_closed numbers c later past handle said is (lines_all numbers first c (later ++ Closed handle said ∷ []) past none (shifted later (Closed handle said) past is))
+  lines_all numbers first c later (Refused live fault said ∷ past) none is = absurd (false≢true (sym none))
+  lines_all numbers first c later (Opened handle mask ∷ past) none is = lines_same c (Opened handle mask) past refl refl refl (lines_all numbers first c (later ++ Opened handle mask ∷ []) past none (shifted later (Opened handle mask) past is))
+  lines_all numbers first c later (Scheduled timer handle first' every ∷ past) none is = lines_same c (Scheduled timer handle first' every) past refl refl refl (lines_all numbers first c (later ++ Scheduled timer handle first' every ∷ []) past none (shifted later (Scheduled timer handle first' every) past is))
+  lines_all numbers first c later (Cancelled timer ∷ past) none is = lines_same c (Cancelled timer) past refl refl refl (lines_all numbers first c (later ++ Cancelled timer ∷ []) past none (shifted later (Cancelled timer) past is))
+  lines_all numbers first c later (Polled moment ∷ past) none is = lines_same c (Polled moment) past refl refl refl (lines_all numbers first c (later ++ Polled moment ∷ []) past none (shifted later (Polled moment) past is))
+  lines_all numbers first c later (Due timer ∷ past) none is = lines_same c (Due timer) past refl refl refl (lines_all numbers first c (later ++ Due timer ∷ []) past none (shifted later (Due timer) past is))
+  lines_all numbers first c later (Ready handle kind ∷ past) none is = lines_same c (Ready handle kind) past refl refl refl (lines_all numbers first c (later ++ Ready handle kind ∷ []) past none (shifted later (Ready handle kind) past is))
+  lines_all numbers first c later (Posted handle kind from seq ∷ past) none is = lines_same c (Posted handle kind from seq) past refl refl refl (lines_all numbers first c (later ++ Posted handle kind from seq ∷ []) past none (shifted later (Posted handle kind from seq) past is))
+  lines_all numbers first c later (Stale handle from seq ∷ past) none is = lines_same c (Stale handle from seq) past refl refl refl (lines_all numbers first c (later ++ Stale handle from seq ∷ []) past none (shifted later (Stale handle from seq) past is))
+  lines_all numbers first c later (Started event ∷ past) none is = lines_same c (Started event) past refl refl refl (lines_all numbers first c (later ++ Started event ∷ []) past none (shifted later (Started event) past is))
+  lines_all numbers first c later (Masked handle mask ∷ past) none is = lines_same c (Masked handle mask) past refl refl refl (lines_all numbers first c (later ++ Masked handle mask ∷ []) past none (shifted later (Masked handle mask) past is))
+  lines_all numbers first c later (Suspended handle ∷ past) none is = lines_same c (Suspended handle) past refl refl refl (lines_all numbers first c (later ++ Suspended handle ∷ []) past none (shifted later (Suspended handle) past is))
+  lines_all numbers first c later (Resumed handle ∷ past) none is = lines_same c (Resumed handle) past refl refl refl (lines_all numbers first c (later ++ Resumed handle ∷ []) past none (shifted later (Resumed handle) past is))
+  lines_all numbers first c later (Removed handle ∷ past) none is = lines_same c (Removed handle) past refl refl refl (lines_all numbers first c (later ++ Removed handle ∷ []) past none (shifted later (Removed handle) past is))
+  lines_all numbers first c later (Ended ∷ past) none is = lines_same c Ended past refl refl refl (lines_all numbers first c (later ++ Ended ∷ []) past none (shifted later Ended past is))
 
   -- what a connection leaves at its `Closed`
   pub talks_at : (numbers : AreNumbered) (c : ℕ) (later : List (Entry ServerNote)) (handle : Handle) (said : ServerNote) (before : List (Entry ServerNote)) → all ≡ later ++ Closed handle said ∷ before → handle.0 ≡ suc c

@@ -23,7 +23,6 @@ use Rattle.report_turns.specs.Laws.{holds_back}
 use Rattle.acceptor.specs.Servers.{ServerMay, read_alone, is_accepted as says_accepted}
 use Rattle.log_handler.specs.declared.note.ServerNote.{ServerNote}
 use Rattle.dispatch_turns.specs.ByTurns.{returned_here}
-use Rattle.script_runs.specs.Runs.{is_refusal}
 use Rattle.script_runs.proofs.ByTurns.{TurnsBefore, IsByTurn, ActsBehind}
 use Rattle.script_runs.specs.Steps.{EachStep}
 use Rattle.script_runs.specs.Serial.{first_handle}
@@ -112,18 +111,14 @@ no_cancelling t (Timeout timer) h = h
 no_cancelling t (Notice kind) h = h
 
 module _ (t : Terms) where
-  one_begun : (e d : Entry ServerNote) (past : List (Entry ServerNote)) → IsByTurn (ServerMay t) (d ∷ past) e → is_refusal e ≡ false → IsBegun (d ∷ past) e
-  one_begun (Opened handle mask) d past h r = (settled_offers (d ∷ past) h.1.number h.1.settled, may_mask t h.1.event.upcall mask h.0 h.1.allowed)
-  one_begun (Refused live fault said) d past h r = absurd (false≢true (sym r))
-  one_begun _ d past h r = tt
+  one_begun : (e d : Entry ServerNote) (past : List (Entry ServerNote)) → IsByTurn (ServerMay t) (d ∷ past) e → IsBegun (d ∷ past) e
+  one_begun (Opened handle mask) d past h = (settled_offers (d ∷ past) h.1.number h.1.settled, may_mask t h.1.event.upcall mask h.0 h.1.allowed)
+  one_begun _ d past h = tt
 
-  pub run_begun : (past : List (Entry ServerNote)) (next : Option (Entry ServerNote)) → Begins past → TurnsBefore (ServerMay t) says_accepted 1 past next → list_any is_refusal past ≡ false → EachStep IsBegun past
-  run_begun [] next b turns r = tt
-  run_begun (e ∷ []) next b turns r = (begins_one e b, tt)
-  run_begun (e ∷ (d ∷ past)) next b turns r = (
-    one_begun e d past (turns.1 (omega arith)) (or_parts (is_refusal e) (list_any is_refusal (d ∷ past)) r).0,
-    run_begun (d ∷ past) (Some e) (begins_tail e d past b) turns.2 (or_parts (is_refusal e) (list_any is_refusal (d ∷ past)) r).1,
-  )
+  pub run_begun : (past : List (Entry ServerNote)) (next : Option (Entry ServerNote)) → Begins past → TurnsBefore (ServerMay t) says_accepted 1 past next → EachStep IsBegun past
+  run_begun [] next b turns = tt
+  run_begun (e ∷ []) next b turns = (begins_one e b, tt)
+  run_begun (e ∷ (d ∷ past)) next b turns = (one_begun e d past (turns.1 (omega arith)), run_begun (d ∷ past) (Some e) (begins_tail e d past b) turns.2)
 
   one_free : (e d : Entry ServerNote) (past : List (Entry ServerNote)) → IsByTurn (ServerMay t) (d ∷ past) e → holds_back e ≡ false
   one_free (Masked handle mask) d past h = absurd (no_masking t h.event.upcall h.allowed)
@@ -243,21 +238,20 @@ wound_up most past (e ∷ later) legal end none =
     }
 
 -- behind the end no handler is registered
-one_begun_up : (e d : Entry ServerNote) (past : List (Entry ServerNote)) → winds_up e ≡ true → is_refusal e ≡ false → IsBegun (d ∷ past) e
-one_begun_up (Opened handle mask) d past h r = absurd (false≢true h)
-one_begun_up (Refused live fault said) d past h r = absurd (false≢true (sym r))
-one_begun_up _ d past h r = tt
+one_begun_up : (e d : Entry ServerNote) (past : List (Entry ServerNote)) → winds_up e ≡ true → IsBegun (d ∷ past) e
+one_begun_up (Opened handle mask) d past h = absurd (false≢true h)
+one_begun_up _ d past h = tt
 
-pub begun_up : (most : ℕ) (later : List (Entry ServerNote)) (d : Entry ServerNote) (past : List (Entry ServerNote)) → is_legal most (later ++ d ∷ past) ≡ true → ended (d ∷ past) ≡ true → list_any is_refusal (later ++ d ∷ past) ≡ false
+pub begun_up : (most : ℕ) (later : List (Entry ServerNote)) (d : Entry ServerNote) (past : List (Entry ServerNote)) → is_legal most (later ++ d ∷ past) ≡ true → ended (d ∷ past) ≡ true
     → EachStep IsBegun (d ∷ past) → EachStep IsBegun (later ++ d ∷ past)
-begun_up most [] d past legal end r b = b
-begun_up most (e ∷ []) d past legal end r b =
+begun_up most [] d past legal end b = b
+begun_up most (e ∷ []) d past legal end b =
     let parts = and_parts (may_follow most (d ∷ past) e) (is_legal most (d ∷ past)) legal in
-    (one_begun_up e d past (winds most e (d ∷ past) parts.0 end) (or_parts (is_refusal e) (list_any is_refusal (d ∷ past)) r).0, b)
-begun_up most (e ∷ (f ∷ later)) d past legal end r b =
+    (one_begun_up e d past (winds most e (d ∷ past) parts.0 end), b)
+begun_up most (e ∷ (f ∷ later)) d past legal end b =
     let parts = and_parts (may_follow most (f ∷ (later ++ d ∷ past)) e) (is_legal most (f ∷ (later ++ d ∷ past))) legal in (
-      one_begun_up e f (later ++ d ∷ past) (winds most e (f ∷ (later ++ d ∷ past)) parts.0 (ended_later (f ∷ later) (d ∷ past) end)) (or_parts (is_refusal e) (list_any is_refusal (f ∷ (later ++ d ∷ past))) r).0,
-      begun_up most (f ∷ later) d past parts.1 end (or_parts (is_refusal e) (list_any is_refusal (f ∷ (later ++ d ∷ past))) r).1 b,
+      one_begun_up e f (later ++ d ∷ past) (winds most e (f ∷ (later ++ d ∷ past)) parts.0 (ended_later (f ∷ later) (d ∷ past) end)),
+      begun_up most (f ∷ later) d past parts.1 end b,
     )
 
 -- a run that is not ended removes none

@@ -1,6 +1,6 @@
 -- How a run over a script ends (POSA2, Leader/Followers; C++NPv2 chapter 4).
 use Rattle.std.specs.Prelude.{◌≡◌, ◌≤◌, ◌+◌, ℕ, Bool, true, false, not, ◌&&◌, List, [], ◌∷◌, ◌++◌, length, Option, Some, None, option_map, IsTrue}
-use Rattle.std.specs.List.{list_any}
+use Rattle.std.specs.List.{list_any, list_all}
 use Rattle.ev_types.specs.declared.upcall.Mask.{Mask}
 use Rattle.ev_types.specs.declared.upcall.Upcall.{Upcall}
 use Rattle.ev_base.specs.Terms.{Group}
@@ -25,12 +25,19 @@ pub record IsAtOver (groups : List Group) (past : List (Entry ServerNote)) : Typ
   pub over : is_over (last_wait groups past) ≡ true
   pub idle : IsIdle past
 
--- The journal is a run and its winding up, which begins with `Ended`.
+-- whether the entry removes or closes a handler
+abbrev pub is_closing : {N : Type 0} → Entry N → Bool
+is_closing (Removed handle) = true
+is_closing (Closed handle said) = true
+is_closing _ = false
+
+-- The journal is a run and its winding up, which begins with `Ended`, and removes and closes handlers.
 pub record EndsAtOver (groups : List Group) (journal : List (Entry ServerNote)) : Type 0 where
   pub run : List (Entry ServerNote)
   pub closing : List (Entry ServerNote)
   pub is : journal ≡ run ++ Ended ∷ closing
   pub at_over : IsAtOver groups (past_of run)
+  pub closes : list_all is_closing closing ≡ true
 
 -- it is legal, was stopped, and every handle that was opened was closed
 pub record IsWhole {N : Type 0} (most : ℕ) (journal : List (Entry N)) : Type 0 where

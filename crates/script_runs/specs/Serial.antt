@@ -14,6 +14,7 @@ use Rattle.log_handler.specs.declared.note.ServerNote.TheVariants as note
 use Rattle.event_script.specs.Script.{ScriptGroup, groups_told, steps_of}
 use Rattle.script_told.specs.Told.{Follows, last_wait, is_over}
 use Rattle.script_runs.specs.Steps.{EachStep}
+use Rattle.script_runs.specs.Runs.{is_closing}
 use Rattle.script_runs.specs.Connections.{AreLeft}
 
 abbrev pub first_handle : Handle
@@ -86,15 +87,10 @@ abbrev pub ClosesUp : List (Entry ServerNote) → Entry ServerNote → Type 0
 ClosesUp past (Removed handle) = (ended past ≡ true) × (any_below handle.0 (is_alive past) ≡ false)
 ClosesUp past e = Unit {0}
 
-abbrev pub is_closing_up : Entry ServerNote → Bool
-is_closing_up (Removed handle) = true
-is_closing_up (Closed handle said) = true
-is_closing_up _ = false
-
 abbrev pub OnlyClosesUp : List (Entry ServerNote) → Entry ServerNote → Type 0
 OnlyClosesUp (Removed handle ∷ past) (Closed other said) = handle ≡ other
 OnlyClosesUp (Removed handle ∷ past) e = ⊥
-OnlyClosesUp past e = ended past ≡ true → is_closing_up e ≡ true
+OnlyClosesUp past e = ended past ≡ true → is_closing e ≡ true
 
 -- The seven parts, of a journal over a script with at most `most` live handlers and this idle time.
 pub record Serial (most : ℕ) (idle : Option ℕ) (groups : List ScriptGroup) (journal : List (Entry ServerNote)) : Type 0 where

@@ -1,0 +1,130 @@
+-- A whole run over a script: its run, its end and its winding up, read backwards.
+use Rattle.std.proofs.Common.{ℕ, zero, suc, ◌≡◌, ◌≢◌, ◌==◌, ◌+◌, ◌≤◌, ◌<◌, ◌⊎◌, inl, inr, Bool, true, false, not, cond, ◌&&◌, ◌||◌, List, [], ◌∷◌, ◌++◌, length, reverse, refl, sym, ap, ◌∙◌, subst, arith, Option, Some, None, ⊎_elim, append-nil, append_assoc, length-append}
+use Rattle.std.specs.Prelude.{flat_map}
+use Rattle.std.specs.List.{list_any, list_all, AllByRecursion}
+use Rattle.std.proofs.lemmas.Grind.{flat_map-append}
+use Rattle.std.proofs.lemmas.Bool.{false≢true, and_parts, and_from, or_parts, not-true, both_ways, cases_Bool, eqb-true, eq-eqb, ne_eqb, ltb-true}
+use Rattle.std.proofs.lemmas.List.{reverse-append, reverse-reverse}
+use Rattle.ev_types.specs.declared.upcall.Answer.{Answer}
+use Rattle.ev_types.specs.declared.upcall.Answer.TheVariants.{Keep, Again, Close}
+use Rattle.ev_types.specs.declared.upcall.Handle.{Handle}
+use Rattle.ev_types.specs.declared.upcall.Upcall.{Upcall}
+use Rattle.ev_types.specs.declared.upcall.Upcall.TheVariants.{Input, Output, Except, Timeout, Notice}
+use Rattle.ev_types.specs.declared.upcall.Why.{Why}
+use Rattle.ev_types.specs.declared.upcall.Why.TheVariants.{Own, Removed as ByRemoval, Refused as ByRefusal}
+use Rattle.ev_base.specs.Terms.{Terms}
+use Rattle.reactor_journal.specs.Event.{Item, Origin}
+use Rattle.reactor_journal.specs.declared.entry.Entry.{Entry}
+use Rattle.reactor_journal.specs.declared.entry.Entry.TheVariants.{Opened, Returned, Refused, Removed, Closed, Ended, Polled, Due, Ready}
+use Rattle.reactor_journal.specs.Past.{past_of, count, had, origin_of, reason_of, ended_itself, is_alive, was_opened, was_closed, was_removed, opened, offered_here, all_below}
+use Rattle.reactor_journal.specs.Follow.{may_follow, is_legal, follows_ready}
+use Rattle.reactor_journal.proofs.Alive.{opened_below, dead_was_removed}
+use Rattle.reactor_journal.proofs.Picking.{all_below-at}
+use Rattle.reactor_journal.proofs.Turning.{past_split, is_legal-front, count-past}
+use Rattle.reactor_turns.specs.Laws.{stays}
+use Rattle.reactor_turns.proofs.Turns.{Last, ended_last, own_reason}
+use Rattle.reactor_model.specs.Handling.{Handling, EndsInClose, IsClose}
+use Rattle.acceptor.specs.Accepting as accepting
+use Rattle.acceptor.specs.Laws.{number_in, numbers_from}
+use Rattle.acceptor.proofs.Accounts as acceptor_accounts
+use Rattle.acceptor.specs.Servers.{ServerMay, is_accepted as says_accepted}
+use Rattle.log_lines.specs.declared.end_kind.EndKind.{EndKind}
+use Rattle.log_lines.specs.declared.end_kind.EndKind.TheVariants as end
+use Rattle.log_handler.specs.declared.note.ServerNote.{ServerNote}
+use Rattle.log_handler.specs.declared.note.ServerNote.TheVariants as note
+use Rattle.log_handler.specs.Connection as connection
+use Rattle.log_handler.specs.Connections.{IsClosing}
+use Rattle.log_handler.specs.Laws.{EndedSo}
+use Rattle.log_handler.specs.Notes.{note_lines}
+use Rattle.log_handler.proofs.Courses.{course-closed}
+use Rattle.log_handler.proofs.Accounts.{accounts}
+use Rattle.event_script.specs.Script.{ScriptStep, Opens, Brings, Shuts, Fails, ListenerFails, ScriptGroup, groups_told, steps_of, may_follow as step_may_follow, are_steps}
+use Rattle.event_script.specs.Script as script
+use Rattle.script_turns.specs.Grouped.{grouped}
+use Rattle.script_runs.specs.Connections.{lines_in, lines_of, lines_by_connection, accepted, accepts, AreLeft, HadMemory, entry_lacks, ListensThrough, TalksThrough}
+use Rattle.script_runs.specs.Runs.{is_refusal, is_accepted, note_settled}
+use Rattle.script_runs.proofs.ByTurns.{TurnsBefore, read_backwards, turns_so}
+use Rattle.script_runs.specs.Steps.{EachStep}
+use Rattle.script_runs.specs.Serial.{first_handle}
+use Rattle.script_runs.specs.Laws.{RunsOver}
+use Rattle.script_runs.proofs.Handles.{IsBegun, Offered, offered}
+use Rattle.script_runs.proofs.Numbering.{IsNumbered, Balanced, balanced, accepted_number, settled_number, opened_is, owed}
+use Rattle.script_runs.proofs.Turns as turns
+use Rattle.script_runs.proofs.Settling.{each_front, origin_still, opened_later}
+use Rattle.script_runs.proofs.Winding as winding
+use Rattle.script_runs.proofs.Winding.{Begins}
+
+
+module _ {H E : Type 0} (means : Handling H E ServerNote) (t : Terms) (idle : Option ℕ) (groups : List ScriptGroup) (journal : List (Entry ServerNote)) (r : RunsOver means t idle groups journal) where
+  abbrev pub steps : List ScriptStep
+  steps = steps_of groups
+
+  abbrev pub most : ℕ
+  most = t.most
+
+  abbrev pub run : List (Entry ServerNote)
+  run = past_of r.ends.run
+
+  abbrev pub wound : List (Entry ServerNote)
+  wound = past_of r.ends.closing
+
+  -- the whole past: what was wound up, the end, and the run
+  abbrev pub all : List (Entry ServerNote)
+  all = wound ++ Ended ∷ run
+
+  pub all_is : past_of journal ≡ all
+  all_is = ap past_of r.ends.is ∙ past_split r.ends.run r.ends.closing Ended
+
+  pub legal : is_legal most all ≡ true
+  legal = sym (ap (is_legal most) all_is) ∙ r.whole.legal
+
+  pub legal_end : is_legal most (Ended ∷ run) ≡ true
+  legal_end = is_legal-front most wound (Ended ∷ run) legal
+
+  pub legal_run : is_legal most run ≡ true
+  legal_run = (and_parts (may_follow most run Ended) (is_legal most run) legal_end).1
+
+  pub turned_run : TurnsBefore (ServerMay t) says_accepted 1 run None
+  turned_run = turns_so (means.may t) (ServerMay t) means.installs says_accepted 1 r.acts.asks r.acts.installs run None (read_backwards means t 1 r.ends.run r.turned)
+
+  pub going : Rattle.reactor_journal.specs.Past.ended run ≡ false
+  going = winding.not_ended most run (and_parts (may_follow most run Ended) (is_legal most run) legal_end).0
+
+  pub begins : Begins run
+  begins = winding.begins_run r.ends.run r.ends.closing r.begins.0 (sym r.begins.1 ∙ r.ends.is)
+
+  pub begun_run : EachStep IsBegun run
+  begun_run = winding.run_begun t run None begins turned_run
+
+  pub begun : EachStep IsBegun all
+  begun = winding.begun_up most wound Ended run legal refl (winding.ended_begun run r.ends.at_over.behind, begun_run)
+
+  pub left : AreLeft steps idle all
+  left = subst (AreLeft steps idle) all_is r.turns
+
+  pub closed : (x : ℕ) → was_opened all x ≡ true → was_closed all x ≡ true
+  closed x o =
+      let each : all_below (opened all) (was_closed all) ≡ true = subst (λ (p : List (Entry ServerNote)). all_below (opened p) (was_closed p) ≡ true) all_is r.whole.closed in
+      all_below-at (opened all) (was_closed all) x (opened_below most all x legal o) each
+
+  pub whole_run : all ≡ (wound ++ Ended ∷ []) ++ run
+  whole_run = sym (append_assoc wound (Ended ∷ []) run)
+
+  pub first_run : was_opened run 0 ≡ true
+  first_run = ap (λ (p : List (Entry ServerNote)). was_opened p 0) begins.is ∙ opened_later begins.later (Opened first_handle Rattle.acceptor.specs.Servers.read_alone ∷ []) 0 refl
+
+  pub first : was_opened all 0 ≡ true
+  first = opened_later wound (Ended ∷ run) 0 first_run
+
+  pub none_open : (i : ℕ) → Rattle.reactor_journal.specs.Past.is_open (Ended ∷ run) i ≡ false
+  none_open i = winding.closed_open Ended run i refl (r.ends.at_over.idle.none_open i)
+
+  pub had_is : (x : ℕ) → had all x ≡ had run x
+  had_is x = (winding.wound_up most (Ended ∷ run) wound legal refl none_open).had_is x ∙ append-nil (had run x)
+
+  pub keeps : list_any winding.removes run ≡ false
+  keeps = winding.run_keeps t run begins turned_run going
+
+  -- where none is refused before here, each connection has its number
+  pub numbered : (later past : List (Entry ServerNote)) → all ≡ later ++ past → list_any is_refusal past ≡ false → EachStep IsNumbered past
+  numbered later past is none = turns.numbered most steps idle all legal begun left closed later past is first none
