@@ -28,39 +28,12 @@ use Rattle.script_turns.specs.Laws.{unoffered}
 use Rattle.script_runs.specs.Steps.{EachStep}
 use Rattle.script_runs.proofs.Handles.{Found, found, had_found}
 use Rattle.script_runs.proofs.Notes.{all_last, number_next}
+use Rattle.script_runs.proofs.Taking.{length_numbers, few_taken}
 use Rattle.script_runs.proofs.Settling as settling
 use Rattle.script_runs.proofs.Settling.{opened_later}
 use Rattle.script_calls.specs.Leaving.{HaveStories}
 
 -- ---- how many connections an acceptor takes
-
-length_numbers : (first many : ℕ) → length (numbers_from first many) ≡ many
-length_numbers first zero = refl
-length_numbers first (suc many) = ap suc (length_numbers (suc first) many)
-
-serials_append : (a b : List Offer) → length (serials_of (a ++ b)) ≡ length (serials_of a) + length (serials_of b)
-serials_append [] b = omega arith
-serials_append (Connection serial ∷ a) b = omega (arith, serials_append a b)
-serials_append (NoneThere ∷ a) b = serials_append a b
-serials_append (OneFailure ∷ a) b = serials_append a b
-
-serials_offered : (steps : List ScriptStep) → length (serials_of (offers steps)) ≡ opened steps
-serials_offered [] = refl
-serials_offered (Opens conn ∷ steps) = omega (arith, serials_offered steps)
-serials_offered (Brings conn bytes ∷ steps) = serials_offered steps
-serials_offered (Shuts conn ∷ steps) = serials_offered steps
-serials_offered (Fails conn ∷ steps) = serials_offered steps
-serials_offered (ListenerFails ∷ steps) = serials_offered steps
-
--- no more than there are
-few_taken : (steps : List ScriptStep) (now : Option Offering) (many : ℕ) → TakesOffers (Some (unoffered (offers steps))) now 0 many → many ≤ opened steps
-few_taken steps None many takes = absurd takes
-few_taken steps (Some now) many takes =
-    let whole = serials_append takes.front now.left in
-    let same : length (serials_of (offers steps)) ≡ length (serials_of (takes.front ++ now.left)) = ap (λ (o : List Offer). length (serials_of o)) takes.left in
-    let all = serials_offered steps in
-    let ends = takes.ends in
-    omega (arith, whole, same, all, ends)
 
 -- the number of one that it noted is below how many it took
 below_taken : (taken k : ℕ) (xs : List (Item ServerNote)) (item : Item ServerNote) (ys : List (Item ServerNote)) → flat_map number_in ((xs ++ item ∷ []) ++ ys) ≡ numbers_from 0 taken

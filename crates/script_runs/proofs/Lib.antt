@@ -7,7 +7,9 @@ pub mod Settling
 pub mod Notes
 pub mod Turns
 pub mod Winding
+pub mod Taking
 pub mod Whole
+pub mod Refusing
 pub mod Second
 pub mod Worked
 pub mod Fixed

@@ -53,6 +53,7 @@ use Rattle.script_runs.proofs.Turns as turns
 use Rattle.script_runs.proofs.Settling.{each_front, origin_still, opened_later}
 use Rattle.script_runs.proofs.Winding as winding
 use Rattle.script_runs.proofs.Winding.{Begins}
+use Rattle.script_runs.proofs.Taking.{length_numbers}
 use Rattle.script_runs.proofs.Whole as whole
 use Rattle.script_runs.proofs.Glue.{Ends, groups_lines}
 use Rattle.script_runs.proofs.Scripts.{few}
@@ -88,10 +89,6 @@ ends_close : (xs : List (Item ServerNote)) (item : Item ServerNote) → item.ans
 ends_close [] item h = subst IsClose (sym h) tt
 ends_close (x ∷ []) item h = subst IsClose (sym h) tt
 ends_close (x ∷ (y ∷ xs)) item h = ends_close (y ∷ xs) item h
-
-length_numbers : (first many : ℕ) → length (numbers_from first many) ≡ many
-length_numbers first zero = refl
-length_numbers first (suc many) = ap suc (length_numbers (suc first) many)
 
 -- lines read backwards
 back : (c : ℕ) → List (Entry ServerNote) → List ℕ

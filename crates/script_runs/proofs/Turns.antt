@@ -326,7 +326,7 @@ module _ (most : ℕ) (steps : List ScriptStep) (idle : Option ℕ) (all : List 
       ap (record_lines c) (flat_map-append records_in items (item ∷ []) ∙ ap (λ (r : List _). flat_map records_in items ++ r) (append-nil (records_in item)))
       ∙ flat_map-append (record_line c) (flat_map records_in items) (records_in item)
 
-  left_front : (later past : List (Entry ServerNote)) → AreLeft steps idle (later ++ past) → AreLeft steps idle past
+  pub left_front : (later past : List (Entry ServerNote)) → AreLeft steps idle (later ++ past) → AreLeft steps idle past
   left_front [] past h = h
   left_front (e ∷ later) past h = left_front later past h.1
 

@@ -69,7 +69,7 @@ begins_one e b = by_later b.later b.is
         none q = cc
 
 -- a turn that was settled offers its handlers
-settled_offers : (past : List (Entry ServerNote)) (i : ℕ) → returned_here past ≡ Some i → (o : Origin ServerNote) × (offered_here past ≡ Some o)
+pub settled_offers : (past : List (Entry ServerNote)) (i : ℕ) → returned_here past ≡ Some i → (o : Origin ServerNote) × (offered_here past ≡ Some o)
 settled_offers [] i h = absurd (none h)
   where
     none : ◌≡◌ {A = Option ℕ} None (Some i) → ⊥
@@ -185,6 +185,10 @@ ended_later (e ∷ later) past h = or_right _ (ended (later ++ past)) (ended_lat
     or_right : (b c : Bool) → c ≡ true → (b || c) ≡ true
     or_right true c q = refl
     or_right false c q = q
+
+-- what is not ended was not before
+pub none_behind : (later past : List (Entry ServerNote)) → ended (later ++ past) ≡ false → ended past ≡ false
+none_behind later past h = ⊎_elim (λ (t : ended past ≡ true). absurd (both_ways _ h (ended_later later past t))) (λ (f : ended past ≡ false). f) (cases_Bool (ended past))
 
 winds : (most : ℕ) (e : Entry ServerNote) (past : List (Entry ServerNote)) → may_follow most past e ≡ true → ended past ≡ true → winds_up e ≡ true
 unfolding may_follow
@@ -334,7 +338,7 @@ begins_run (e ∷ run) closing rest h = record { later = reverse run; is = rever
 
 -- ---- tests of a list, read from either end
 
-any_append : (p : Entry ServerNote → Bool) (a b : List (Entry ServerNote)) → list_any p a ≡ false → list_any p b ≡ false → list_any p (a ++ b) ≡ false
+pub any_append : (p : Entry ServerNote → Bool) (a b : List (Entry ServerNote)) → list_any p a ≡ false → list_any p b ≡ false → list_any p (a ++ b) ≡ false
 any_append p [] b h k = k
 any_append p (e ∷ a) b h k = ap (λ (t : Bool). t || list_any p (a ++ b)) (or_parts (p e) (list_any p a) h).0 ∙ any_append p a b (or_parts (p e) (list_any p a) h).1 k
 

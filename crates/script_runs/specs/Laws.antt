@@ -1,5 +1,5 @@
 -- What holds of whole runs over a script.
-use Rattle.std.specs.Prelude.{◌≡◌, if◌then◌else◌, ℕ, Bool, true, false, not, List, [], ◌∷◌, ◌++◌, reverse, Option, Some, None, length}
+use Rattle.std.specs.Prelude.{◌≡◌, ◌<◌, if◌then◌else◌, ℕ, Bool, true, false, not, List, [], ◌∷◌, ◌++◌, reverse, Option, Some, None, length}
 use Rattle.std.specs.List.{list_any, sum_by}
 use Rattle.ev_types.specs.declared.upcall.Upcall.{Upcall}
 use Rattle.ev_base.specs.Terms.{StepEnd, AtListener, AtConnection, Step, Terms}
@@ -23,7 +23,7 @@ use Rattle.ev_base.specs.Playing.{is_at}
 use Rattle.script_told.specs.Told.{Follows, told}
 use Rattle.script_turns.specs.Grouped.{grouped}
 use Rattle.script_runs.specs.Connections.{lines_by_connection, AreLeft, HadMemory, accepted, is_note_of}
-use Rattle.script_runs.specs.Runs.{IsWhole, EndsAtOver, is_notice, is_timer, is_refusal}
+use Rattle.script_runs.specs.Runs.{IsWhole, EndsAtOver, is_notice, is_timer, is_refusal, is_fault}
 use Rattle.script_runs.specs.Serial.{Serial, first_handle}
 
 -- The turns of such handlers ask for no more than those of a server, and install as these do.
@@ -80,6 +80,12 @@ pub record DoesAll (groups : List ScriptGroup) (run journal : List (Entry Server
 abbrev pub AllIsDone : {H E : Type 0} → Handling H E ServerNote → Type 0
 AllIsDone means =
     (t : Terms) (idle : Option ℕ) (groups : List ScriptGroup) (journal : List (Entry ServerNote)) → (r : RunsOver means t idle groups journal) → DoesAll groups r.ends.run journal
+
+-- Where there is room for all connections of the script beside the acceptor, and the net took each end in, no handler was refused.
+abbrev pub NoneIsRefused : {H E : Type 0} → Handling H E ServerNote → Type 0
+NoneIsRefused means =
+    (t : Terms) (idle : Option ℕ) (groups : List ScriptGroup) (journal : List (Entry ServerNote)) → RunsOver means t idle groups journal
+    → opened (steps_of groups) < t.most → list_any is_fault journal ≡ false → list_any is_refusal journal ≡ false
 
 -- the second law
 abbrev pub GroupsLines : {H E : Type 0} → Handling H E ServerNote → Type 0

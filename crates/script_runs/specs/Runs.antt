@@ -55,9 +55,14 @@ abbrev pub is_timer : {N : Type 0} → Entry N → Bool
 is_timer (Scheduled timer handle first every) = true
 is_timer _ = false
 
+-- a handler that was refused, and one that was for a fault of the net
 abbrev pub is_refusal : {N : Type 0} → Entry N → Bool
 is_refusal (Refused live fault said) = true
 is_refusal _ = false
+
+abbrev pub is_fault : {N : Type 0} → Entry N → Bool
+is_fault (Refused live fault said) = fault
+is_fault _ = false
 
 -- an `Opened` behind the first entry stands only behind a turn that accepted a connection
 abbrev pub note_settled : List (Entry ServerNote) → Option ServerNote
