@@ -19,7 +19,7 @@ use Rattle.acceptor.specs.Servers.{read_alone}
 use Rattle.log_handler.specs.declared.note.ServerNote.{ServerNote}
 use Rattle.script_runs.specs.Runs.{note_settled}
 use Rattle.script_runs.specs.Steps.{EachStep}
-use Rattle.script_runs.specs.Serial.{first_handle}
+use Rattle.script_runs.specs.Runs.{first_handle}
 
 -- ---- the closing of a handle
 

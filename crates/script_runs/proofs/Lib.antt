@@ -11,5 +11,3 @@ pub mod Taking
 pub mod Whole
 pub mod Refusing
 pub mod Second
-pub mod Worked
-pub mod Fixed

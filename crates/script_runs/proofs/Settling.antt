@@ -37,7 +37,7 @@ use Rattle.reactor_journal.specs.Past.{closes}
 use Rattle.script_runs.specs.Connections.{lines_in, is_note_of, Leaves, LeavesOffered, ListensThrough, TalksThrough, IsLeft, AreLeft, accepted, accepts}
 use Rattle.script_runs.specs.Runs.{note_settled, is_accepted}
 use Rattle.script_runs.specs.Steps.{EachStep}
-use Rattle.script_runs.specs.Serial.{first_handle}
+use Rattle.script_runs.specs.Runs.{first_handle}
 use Rattle.script_runs.proofs.Handles.{Found, found, had_found, had_closed, Grows, had_grows, IsBegun, origin_first, Offered, offered}
 use Rattle.script_runs.proofs.Notes.{Listens, is_listening, course_listens, all_left, all_last, number_next, of_none}
 use Rattle.script_runs.proofs.Numbering.{IsNumbered, NumberedNote}
@@ -74,10 +74,20 @@ origin_still most (e ∷ later) past x legal o =
     step : (e : Entry ServerNote) (past : List (Entry ServerNote)) → opens x e ≡ false → origin_of (e ∷ past) x ≡ origin_of past x
     step e past o = rw (o, origin_of) refl
 
+-- a handler that was closed was opened before
+pub opened_before_closed : (most : ℕ) (later past : List (Entry ServerNote)) (handle : Handle) (said : ServerNote) (x : ℕ) → is_legal most (later ++ Closed handle said ∷ past) ≡ true → handle.0 ≡ x → was_opened past x ≡ true
+opened_before_closed most later past handle said x legal mine =
+    let here = is_legal-front most later (Closed handle said ∷ past) legal in
+    let w = closing past handle.0 (may_fits most past (Closed handle said) (and_parts (may_follow most past (Closed handle said)) (is_legal most past) here).0) in
+    subst (λ (y : ℕ). was_opened past y ≡ true) mine w.0
+
 module _ (most : ℕ) (all : List (Entry ServerNote)) (legal : is_legal most all ≡ true) where
   -- the turn that an entry settles, among all turns of its handler
   pub record Turn (event : ℕ) (answer : Answer) (said : ServerNote) (past : List (Entry ServerNote)) (x : ℕ) : Type 0 where
     pub item : Item ServerNote
+    pub of : event_at past event ≡ Some (record { handle = x; upcall = item.upcall })
+    pub began : item.moment ≡ started_at past event
+    pub answers : item.answer ≡ answer
     pub notes : item.note ≡ said
     pub made : items_made past x (Returned event answer said) ≡ item ∷ []
     pub opened_now : was_opened past x ≡ true
@@ -115,6 +125,9 @@ module _ (most : ℕ) (all : List (Entry ServerNote)) (legal : is_legal most all
             x = ev.handle;
             turn = record {
               item = record { upcall = ev.upcall; moment = started_at past event; answer = answer; note = said };
+              of = at;
+              began = refl;
+              answers = refl;
               notes = refl;
               made = mine;
               opened_now = open_opened most past event ev.handle before is_open_now (ap (belongs_to ev.handle) at ∙ eq-eqb ev.handle ev.handle refl);

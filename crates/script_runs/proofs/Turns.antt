@@ -38,7 +38,7 @@ use Rattle.script_runs.specs.Connections.{lines_in, is_note_of, Leaves, LeavesOf
 use Rattle.std.specs.List.{list_any}
 use Rattle.script_runs.specs.Runs.{note_settled, is_accepted, is_refusal}
 use Rattle.script_runs.specs.Steps.{EachStep}
-use Rattle.script_runs.specs.Serial.{first_handle}
+use Rattle.script_runs.specs.Runs.{first_handle}
 use Rattle.script_runs.proofs.Handles.{Found, found, had_found, had_closed, Grows, had_grows, IsBegun, origin_first, Offered, offered}
 use Rattle.script_runs.proofs.Notes.{Listens, is_listening, course_listens, all_left, all_last, number_next, of_none}
 use Rattle.script_runs.proofs.Numbering.{IsNumbered, NumberedNote}

@@ -45,7 +45,7 @@ use Rattle.script_runs.specs.Connections.{lines_in, lines_of, lines_by_connectio
 use Rattle.script_runs.specs.Runs.{is_refusal, is_accepted, note_settled}
 use Rattle.script_runs.proofs.ByTurns.{TurnsBefore, read_backwards, turns_so}
 use Rattle.script_runs.specs.Steps.{EachStep}
-use Rattle.script_runs.specs.Serial.{first_handle}
+use Rattle.script_runs.specs.Runs.{first_handle}
 use Rattle.script_runs.specs.Laws.{RunsOver}
 use Rattle.script_runs.proofs.Handles.{IsBegun, Offered, offered}
 use Rattle.script_runs.proofs.Numbering.{IsNumbered, Balanced, balanced, accepted_number, settled_number, opened_is, owed}

@@ -25,7 +25,7 @@ use Rattle.log_handler.specs.declared.note.ServerNote.{ServerNote}
 use Rattle.dispatch_turns.specs.ByTurns.{returned_here}
 use Rattle.script_runs.proofs.ByTurns.{TurnsBefore, IsByTurn, ActsBehind}
 use Rattle.script_runs.specs.Steps.{EachStep}
-use Rattle.script_runs.specs.Serial.{first_handle}
+use Rattle.script_runs.specs.Runs.{first_handle}
 use Rattle.ev_base.specs.Terms.{Group}
 use Rattle.reactor_journal.specs.Follow.{follows_ready}
 use Rattle.script_told.specs.Told.{FollowsBefore}

@@ -24,7 +24,7 @@ use Rattle.script_told.specs.Told.{Follows, told}
 use Rattle.script_turns.specs.Grouped.{grouped}
 use Rattle.script_runs.specs.Connections.{lines_by_connection, AreLeft, HadMemory, accepted, is_note_of}
 use Rattle.script_runs.specs.Runs.{IsWhole, EndsAtOver, is_notice, is_timer, is_refusal, is_fault}
-use Rattle.script_runs.specs.Serial.{Serial, first_handle}
+use Rattle.script_runs.specs.Runs.{first_handle}
 
 -- The turns of such handlers ask for no more than those of a server, and install as these do.
 pub record ActsAsServer {H E : Type 0} (means : Handling H E ServerNote) (t : Terms) : Type 0 where
@@ -45,57 +45,16 @@ pub record RunsOver {H E : Type 0} (means : Handling H E ServerNote) (t : Terms)
   pub follows : Follows (groups_told groups) journal
   pub turns : AreLeft (steps_of groups) idle (past_of journal)
 
--- ---- the first law: all that the script has was done
-
--- the ends that were closed or refused in a past
-abbrev pub ends_gone : List ScriptGroup → List (Entry ServerNote) → List StepEnd
-ends_gone groups past = (told (groups_told groups) past).gone
-
--- no step is left but those of ends that were closed or refused
-abbrev pub LeavesNoStep : List ScriptGroup → List (Entry ServerNote) → Type 0
-LeavesNoStep groups past =
-    ((told (groups_told groups) past).groups ≡ []) × (list_any (λ step. not (is_at (ends_gone groups past) step)) (told (groups_told groups) past).held ≡ false)
-
--- how many bytes a connection took, by its notes
-abbrev pub took_for : ℕ → Entry ServerNote → ℕ
-took_for c (entry.Returned event answer said) = if is_note_of c said then took_of said else 0
-took_for c _ = 0
-
--- a connection that was closed with one of these words has taken all its bytes
-abbrev pub TookAllAs : EndKind → ℕ → List (Entry ServerNote) → List ScriptStep → Type 0
-TookAllAs end.End c journal steps = sum_by (took_for c) journal ≡ length (bytes_of c steps)
-TookAllAs (end.Partial n) c journal steps = sum_by (took_for c) journal ≡ length (bytes_of c steps)
-TookAllAs end.Stopped c journal steps = sum_by (took_for c) journal ≡ length (bytes_of c steps)
-TookAllAs _ c journal steps = Unit {0}
-
--- Each connection that came was accepted, each step was reported, or is of an end that was closed or refused, and each connection
--- that read on to its end took all.
-pub record DoesAll (groups : List ScriptGroup) (run journal : List (Entry ServerNote)) : Type 0 where
-  pub takes : accepted journal ≡ opened (steps_of groups)
-  -- (where the run ended, and not where all was wound up: there every end was closed)
-  pub leaves : LeavesNoStep groups (past_of run)
-  pub reads : (before after : List (Entry ServerNote)) (handle : Handle) (c : ℕ) (word : EndKind)
-      → journal ≡ before ++ entry.Closed handle (note.Finished c word) ∷ after → TookAllAs word c journal (steps_of groups)
-
-abbrev pub AllIsDone : {H E : Type 0} → Handling H E ServerNote → Type 0
-AllIsDone means =
-    (t : Terms) (idle : Option ℕ) (groups : List ScriptGroup) (journal : List (Entry ServerNote)) → (r : RunsOver means t idle groups journal) → DoesAll groups r.ends.run journal
-
 -- Where there is room for all connections of the script beside the acceptor, and the net took each end in, no handler was refused.
 abbrev pub NoneIsRefused : {H E : Type 0} → Handling H E ServerNote → Type 0
 NoneIsRefused means =
     (t : Terms) (idle : Option ℕ) (groups : List ScriptGroup) (journal : List (Entry ServerNote)) → RunsOver means t idle groups journal
     → opened (steps_of groups) < t.most → list_any is_fault journal ≡ false → list_any is_refusal journal ≡ false
 
--- the second law
+-- Where no timer was set, no handler refused and none closed for want of memory, the lines of the journal, connection after connection,
+-- are the grouped text of the script.
 abbrev pub GroupsLines : {H E : Type 0} → Handling H E ServerNote → Type 0
 GroupsLines means =
     (t : Terms) (groups : List ScriptGroup) (journal : List (Entry ServerNote)) → RunsOver means t None groups journal
     → list_any is_timer journal ≡ false → list_any is_refusal journal ≡ false → HadMemory journal
     → lines_by_connection journal ≡ grouped (steps_of groups)
-
--- the law of one worker: a script has one serial journal
-abbrev pub SerialIsOne : Type 0
-SerialIsOne =
-    (most : ℕ) (idle : Option ℕ) (groups : List ScriptGroup) (journal other : List (Entry ServerNote))
-    → Serial most idle groups journal → Serial most idle groups other → HadMemory journal → HadMemory other → journal ≡ other

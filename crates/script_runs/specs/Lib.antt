@@ -1,5 +1,4 @@
 pub mod Steps
 pub mod Connections
 pub mod Runs
-pub mod Serial
 pub mod Laws

@@ -3,6 +3,7 @@ use Rattle.std.specs.Prelude.{◌≡◌, ◌≤◌, ◌+◌, ℕ, Bool, true, fa
 use Rattle.std.specs.List.{list_any, list_all}
 use Rattle.ev_types.specs.declared.upcall.Mask.{Mask}
 use Rattle.ev_types.specs.declared.upcall.Upcall.{Upcall}
+use Rattle.ev_types.specs.declared.upcall.Handle.{Handle}
 use Rattle.ev_base.specs.Terms.{Group}
 use Rattle.reactor_journal.specs.Event.{Event}
 use Rattle.reactor_journal.specs.declared.entry.Entry.{Entry}
@@ -13,6 +14,10 @@ use Rattle.reactor_model.specs.Handling.{Deed, Installing, Masking, Cancelling, 
 use Rattle.log_handler.specs.declared.note.ServerNote.{ServerNote}
 use Rattle.log_handler.specs.declared.note.ServerNote.TheVariants as note
 use Rattle.script_told.specs.Told.{last_wait, is_over}
+
+-- the handle of the acceptor
+abbrev pub first_handle : Handle
+first_handle = record { 0 = 0 }
 
 -- nothing can be started, and nothing is open
 pub record IsIdle {N : Type 0} (past : List (Entry N)) : Type 0 where

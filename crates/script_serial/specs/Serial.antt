@@ -1,12 +1,12 @@
 -- The journal of a server with one worker over a script: each entry is determined by those before it.
 use Rattle.std.specs.Prelude.{◌≡◌, ◌+◌, ◌==◌, ℕ, Bool, true, false, not, ◌&&◌, ◌||◌, List, [], ◌∷◌, ◌++◌, length, Option, Some, None, IsTrue}
-use Rattle.std.specs.List.{list_any, list_all}
+use Rattle.std.specs.List.{list_any}
 use Rattle.ev_types.specs.declared.upcall.Handle.{Handle}
 use Rattle.ev_types.specs.declared.upcall.Answer.TheVariants.{Close}
 use Rattle.ev_types.specs.declared.upcall.Mask.{Mask}
 use Rattle.reactor_journal.specs.declared.entry.Entry.{Entry}
 use Rattle.reactor_journal.specs.declared.entry.Entry.TheVariants.{Opened, Scheduled, Cancelled, Polled, Due, Ready, Posted, Stale, Started, Returned, Masked, Suspended, Resumed, Refused, Removed, Closed, Ended}
-use Rattle.reactor_journal.specs.Past.{past_of, event_at, belongs_to, ended, opened, live, now, is_alive, is_overdue, is_pick, any_below}
+use Rattle.reactor_journal.specs.Past.{past_of, event_at, belongs_to, ended, opened, live, now, is_alive, is_overdue, is_pick, any_below, all_below, was_closed}
 use Rattle.reactor_journal.specs.Follow.{Legal, most_handles, follows_ready}
 use Rattle.acceptor.specs.Servers.{read_alone}
 use Rattle.log_handler.specs.declared.note.ServerNote.{ServerNote}
@@ -14,23 +14,20 @@ use Rattle.log_handler.specs.declared.note.ServerNote.TheVariants as note
 use Rattle.event_script.specs.Script.{ScriptGroup, groups_told, steps_of}
 use Rattle.script_told.specs.Told.{Follows, last_wait, is_over}
 use Rattle.script_runs.specs.Steps.{EachStep}
-use Rattle.script_runs.specs.Runs.{is_closing}
+use Rattle.script_runs.specs.Runs.{first_handle, is_closing}
 use Rattle.script_runs.specs.Connections.{AreLeft}
 
-abbrev pub first_handle : Handle
-first_handle = record { 0 = 0 }
+-- entries that no server with one worker makes: nobody posts, suspends or resumes, and no turn changes a mask or takes a timer away
+abbrev pub is_foreign : {N : Type 0} → Entry N → Bool
+is_foreign (Cancelled timer) = true
+is_foreign (Posted handle kind from seq) = true
+is_foreign (Stale handle from seq) = true
+is_foreign (Masked handle mask) = true
+is_foreign (Suspended handle) = true
+is_foreign (Resumed handle) = true
+is_foreign _ = false
 
--- 2. no entry of these kinds
-abbrev pub is_serial_kind : {N : Type 0} → Entry N → Bool
-is_serial_kind (Cancelled timer) = false
-is_serial_kind (Posted handle kind from seq) = false
-is_serial_kind (Stale handle from seq) = false
-is_serial_kind (Masked handle mask) = false
-is_serial_kind (Suspended handle) = false
-is_serial_kind (Resumed handle) = false
-is_serial_kind _ = true
-
--- 3. Directly behind a `Started` stands the `Returned` of its event, and directly behind a `Returned` with Close the `Closed` of its
+-- Directly behind a `Started` stands the `Returned` of its event, and directly behind a `Returned` with Close the `Closed` of its
 -- handle.
 abbrev pub IsSettledAtOnce : List (Entry ServerNote) → Entry ServerNote → Type 0
 IsSettledAtOnce (Started event ∷ past) (Returned returned answer said) = returned ≡ event
@@ -39,7 +36,7 @@ IsSettledAtOnce (Returned event Close said ∷ past) (Closed handle other) = bel
 IsSettledAtOnce (Returned event Close said ∷ past) e = ⊥
 IsSettledAtOnce past e = Unit {0}
 
--- 4. Directly behind a turn that accepted a connection it is registered or, where there is no room for it, refused; and directly
+-- Directly behind a turn that accepted a connection it is registered or, where there is no room for it, refused; and directly
 -- behind that stands its timer, where there is an idle time. There are no other registrations but the first entry, no other timers
 -- and no other refusals.
 abbrev pub has_room : ℕ → List (Entry ServerNote) → Bool
@@ -50,17 +47,16 @@ IsInstalled most past (Opened handle mask) = (has_room most past ≡ true) × (m
 IsInstalled most past (Refused number fault said) = (has_room most past ≡ false) × (fault ≡ false)
 IsInstalled most past e = ⊥
 
-abbrev pub IsTimedBy : Option ℕ → ℕ → List (Entry ServerNote) → Entry ServerNote → Type 0
-IsTimedBy None x past (Scheduled timer handle first every) = ⊥
-IsTimedBy None x past e = Unit {0}
-IsTimedBy (Some idle) x past (Scheduled timer handle first every) = (handle.0 ≡ x) × (first ≡ now past + idle) × (every ≡ idle)
-IsTimedBy (Some idle) x past e = ⊥
-
 abbrev pub is_installing : Entry ServerNote → Bool
 is_installing (Opened handle mask) = true
 is_installing (Scheduled timer handle first every) = true
 is_installing (Refused number fault said) = true
 is_installing _ = false
+
+abbrev pub IsTimedBy : Option ℕ → ℕ → List (Entry ServerNote) → Entry ServerNote → Type 0
+IsTimedBy None x past e = is_installing e ≡ false
+IsTimedBy (Some idle) x past (Scheduled timer handle first every) = (handle.0 ≡ x) × (first ≡ now past + idle) × (every ≡ idle)
+IsTimedBy (Some idle) x past e = ⊥
 
 abbrev pub InstallsOnly : ℕ → Option ℕ → List (Entry ServerNote) → Entry ServerNote → Type 0
 InstallsOnly most idle [] e = e ≡ Opened first_handle read_alone
@@ -68,7 +64,7 @@ InstallsOnly most idle (Returned event answer (note.Accepted conn) ∷ past) e =
 InstallsOnly most idle (Opened handle mask ∷ (d ∷ past)) e = IsTimedBy idle handle.0 (d ∷ past) e
 InstallsOnly most idle past e = is_installing e ≡ false
 
--- 5. Before each wait there is nothing to start and no deadline is reached; and the reactor is stopped directly behind the entries of
+-- Before each wait there is nothing to start and no deadline is reached; and the reactor is stopped directly behind the entries of
 -- the first wait that the script answers with Over and that leaves neither.
 pub record IsSpent {N : Type 0} (past : List (Entry N)) : Type 0 where
   pub no_pick : (i : ℕ) → is_pick past i ≡ false
@@ -82,7 +78,7 @@ WaitsOnly groups past (Polled moment) = IsSpent past × (is_over_here groups pas
 WaitsOnly groups past Ended = IsSpent past × (is_over_here groups past ≡ true)
 WaitsOnly groups past e = Unit {0}
 
--- 6. Behind `Ended` stand, for each handle alive there in rising order, its `Removed` and `Closed`. There is no other `Removed`.
+-- Behind `Ended` stand, for each handle alive there in rising order, its `Removed` and `Closed`. There is no other `Removed`.
 abbrev pub ClosesUp : List (Entry ServerNote) → Entry ServerNote → Type 0
 ClosesUp past (Removed handle) = (ended past ≡ true) × (any_below handle.0 (is_alive past) ≡ false)
 ClosesUp past e = Unit {0}
@@ -97,11 +93,11 @@ pub record Serial (most : ℕ) (idle : Option ℕ) (groups : List ScriptGroup) (
   pub legal : Legal journal most
   pub follows : Follows (groups_told groups) journal
   pub stopped : ended (past_of journal) ≡ true
-  pub kinds : list_all is_serial_kind journal ≡ true
+  pub kinds : list_any is_foreign journal ≡ false
   pub settles : EachStep IsSettledAtOnce (past_of journal)
   pub installs : EachStep (InstallsOnly most idle) (past_of journal)
   pub waits : EachStep (WaitsOnly groups) (past_of journal)
   pub removes : EachStep ClosesUp (past_of journal)
   pub closes : EachStep OnlyClosesUp (past_of journal)
-  pub none_alive : any_below (opened (past_of journal)) (is_alive (past_of journal)) ≡ false
+  pub closed : all_below (opened (past_of journal)) (was_closed (past_of journal)) ≡ true
   pub turns : AreLeft (steps_of groups) idle (past_of journal)
