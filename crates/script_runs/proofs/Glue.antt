@@ -43,7 +43,8 @@ use Rattle.script_told.proofs.Following.{reported}
 use Rattle.script_runs.specs.Connections.{lines_of, lines_by_connection, accepted}
 use Rattle.script_runs.proofs.ByTurns.{TurnsBefore}
 use Rattle.script_runs.specs.Steps.{EachStep}
-use Rattle.script_runs.proofs.Numbering.{IsNumbered, stands_one, stands_first}
+use Rattle.script_runs.proofs.Numbering.{IsNumbered}
+use Rattle.script_runs.proofs.Standing.{OpenedFor, stands_at, stands_first}
 use Rattle.script_runs.proofs.Scripts.{orderly}
 
 -- ---- the steps of an end
@@ -118,25 +119,25 @@ no_close (item ∷ items) h = (goes item.answer (and_parts _ _ h).0, no_close it
 
 module _ (t : Terms) (groups : List ScriptGroup) (most : ℕ) (past : List (Entry ServerNote)) (legal : is_legal most past ≡ true) (free : list_any holds_back past ≡ false)
     (no_pick : (i : ℕ) → is_pick past i ≡ false) (none_open : (i : ℕ) → is_open past i ≡ false) (numbered : EachStep IsNumbered past)
-    (turns : TurnsBefore (ServerMay t) says_accepted 1 past None) (follows : FollowsBefore (groups_told groups) past []) (behind : follows_ready past ≡ true)
+    (follows : FollowsBefore (groups_told groups) past []) (behind : follows_ready past ≡ true)
     (over : is_over (last_wait (groups_told groups) past) ≡ true) where
   -- as many of its turns found nothing as there are steps at its end
-  conn_quiet : (c : ℕ) → is_alive past (suc c) ≡ true → pauses_had (had past (suc c)) ≡ steps_on c (steps_of groups)
-  conn_quiet c alive =
-      pauses_are (had past (suc c)) (had_stays most past (suc c) legal alive)
-      ∙ answered most past (suc c) legal free alive no_pick none_open
-      ∙ reported groups most (suc c) (AtConnection c) past legal free alive (stands_one (ServerMay t) most c past None legal numbered turns) follows behind over
+  pub conn_quiet : (c x : ℕ) → OpenedFor past c x → is_alive past x ≡ true → pauses_had (had past x) ≡ steps_on c (steps_of groups)
+  conn_quiet c x opened_for alive =
+      pauses_are (had past x) (had_stays most past x legal alive)
+      ∙ answered most past x legal free alive no_pick none_open
+      ∙ reported groups most x (AtConnection c) past legal free alive (stands_at past c x most legal numbered opened_for) follows behind over
       ∙ ap (steps_at (AtConnection c)) (told_steps groups) ∙ conn_steps c (steps_of groups)
 
-  listener_quiet : is_alive past 0 ≡ true → pauses_had (had past 0) ≡ steps_on_listener (steps_of groups)
+  pub listener_quiet : is_alive past 0 ≡ true → pauses_had (had past 0) ≡ steps_on_listener (steps_of groups)
   listener_quiet alive =
       pauses_are (had past 0) (had_stays most past 0 legal alive)
       ∙ answered most past 0 legal free alive no_pick none_open
-      ∙ reported groups most 0 AtListener past legal free alive (stands_first (ServerMay t) most 0 past None legal numbered turns) follows behind over
+      ∙ reported groups most 0 AtListener past legal free alive (stands_first past most legal numbered) follows behind over
       ∙ ap (steps_at AtListener) (told_steps groups) ∙ listener_steps (steps_of groups)
 
   -- the acceptor took all connections
-  takes_all : (p : accepting.Progress) → opened (steps_of groups) < accepting.most_connections → is_alive past 0 ≡ true
+  pub takes_all : (p : accepting.Progress) → opened (steps_of groups) < accepting.most_connections → is_alive past 0 ≡ true
       → accepting.Course (accepting.at_start (Some (unoffered (offers (steps_of groups))))) (had past 0) p → p.taken ≡ opened (steps_of groups)
   takes_all p few alive course = takes_everything (steps_of groups) (had past 0) p few course (listener_quiet alive)
 
@@ -149,6 +150,7 @@ module _ (t : Terms) (groups : List ScriptGroup) (most : ℕ) (past : List (Entr
     pub word : EndKind
     pub course : connection.Course c None (connection.at_start moment (Some (untold (story c (steps_of groups))))) all now
     pub closing : IsClosing reason now.kept word
+    pub opened_for : OpenedFor past c (suc c)
     pub by_others : reason ≢ Own → (is_alive past (suc c) ≡ true) × (all ≡ had past (suc c))
     pub by_itself : reason ≡ Own → now.kept ≢ None
     pub memory : word ≢ end.NoMemory
@@ -179,7 +181,7 @@ module _ (t : Terms) (groups : List ScriptGroup) (most : ℕ) (past : List (Entr
 
       quiet : e.now.kept ≡ None → pauses_had all ≡ steps_on c (steps_of groups)
       quiet none = ⊎_elim
-          (λ (other : e.reason ≡ Own → ⊥). let alive = e.by_others other in ap pauses_had alive.1 ∙ conn_quiet c alive.0)
+          (λ (other : e.reason ≡ Own → ⊥). let alive = e.by_others other in ap pauses_had alive.1 ∙ conn_quiet c (suc c) e.opened_for alive.0)
           (λ (own : e.reason ≡ Own). absurd (e.by_itself own none))
           (own_or_not e.reason)
 

@@ -1,6 +1,7 @@
 pub mod ByTurns
 pub mod Scripts
 pub mod Numbering
+pub mod Standing
 pub mod Glue
 pub mod Handles
 pub mod Settling

@@ -20,12 +20,12 @@ use Rattle.log_handler.specs.Connections.{accepted_in}
 use Rattle.script_told.specs.Laws.{StandsOnlyAt, IsOnlyAt}
 use Rattle.script_told.specs.Told.{end_offered, number_accepted}
 use Rattle.script_runs.specs.Connections.{accepts, accepted}
-use Rattle.script_runs.specs.Runs.{note_settled, is_accepted}
+use Rattle.script_runs.specs.Runs.{note_settled, is_accepted, is_refusal}
 use Rattle.script_runs.proofs.ByTurns.{TurnsBefore, Installs, is_install, is_install_or_close}
 use Rattle.script_runs.specs.Steps.{EachStep}
 
--- What the entries tell that concern numbers: a connection is accepted with the number of those before, a handler is registered behind
--- a turn that accepted one, but the first, which is the first entry; and none is refused.
+-- What the entries tell that concern numbers: a connection is accepted with the number of those before, and a handler is registered or
+-- refused behind a turn that accepted one, but the first, which is the first entry.
 abbrev pub NumberedNote : ServerNote → List (Entry ServerNote) → Type 0
 NumberedNote (note.Accepted k) past = k ≡ accepted past
 NumberedNote _ past = Unit {0}
@@ -34,7 +34,7 @@ abbrev pub IsNumbered : List (Entry ServerNote) → Entry ServerNote → Type 0
 IsNumbered [] (Opened handle mask) = mask ≡ read_alone
 IsNumbered [] e = ⊥
 IsNumbered (d ∷ past) (Opened handle mask) = (is_accepted (note_settled (d ∷ past)) ≡ true) × (mask ≡ read_alone)
-IsNumbered (d ∷ past) (Refused live fault said) = ⊥
+IsNumbered (d ∷ past) (Refused live fault said) = is_accepted (note_settled (d ∷ past)) ≡ true
 IsNumbered (d ∷ past) (Returned event answer said) = NumberedNote said (d ∷ past)
 IsNumbered (d ∷ past) e = Unit {0}
 
@@ -138,11 +138,16 @@ closed_owed (Closed handle' other' ∷ (Returned event answer said ∷ (d ∷ pa
 closed_owed (Closed handle' other' ∷ (_ ∷ past)) handle other n turn = refl
 closed_owed (_ ∷ past) handle other n turn = refl
 
-pub record Balanced (past : List (Entry ServerNote)) : Type 0 where
-  pub total : opened past + owed past ≡ accepted past + 1
+-- how many handlers were refused
+abbrev pub refusals : List (Entry ServerNote) → ℕ
+refusals past = count is_refusal past
 
-balance_other : (e : Entry ServerNote) (past : List (Entry ServerNote)) → opened (e ∷ past) ≡ opened past → accepted (e ∷ past) ≡ accepted past → owed (e ∷ past) ≡ 0 → owed past ≡ 0 → Balanced past → Balanced (e ∷ past)
-balance_other e past o a w v b = let t = b.total in record { total = omega (arith, o, a, w, v, t) }
+-- each connection that was accepted was registered or refused, or is owed
+pub record Balanced (past : List (Entry ServerNote)) : Type 0 where
+  pub total : opened past + refusals past + owed past ≡ accepted past + 1
+
+balance_other : (e : Entry ServerNote) (past : List (Entry ServerNote)) → opened (e ∷ past) ≡ opened past → refusals (e ∷ past) ≡ refusals past → accepted (e ∷ past) ≡ accepted past → owed (e ∷ past) ≡ 0 → owed past ≡ 0 → Balanced past → Balanced (e ∷ past)
+balance_other e past o f a w v b = let t = b.total in record { total = omega (arith, o, f, a, w, v, t) }
 
 balance_returned : (event : ℕ) (answer : Answer) (said : ServerNote) (past : List (Entry ServerNote)) → owed past ≡ 0 → Balanced past → Balanced (Returned event answer said ∷ past)
 balance_returned event answer (note.Accepted k) past v b = let t = b.total in record { total = omega (arith, v, t) }
@@ -158,24 +163,27 @@ balance_more (Opened handle mask) d past n one turn b =
     let w : owed (d ∷ past) ≡ 1 = ap (λ (b : Bool). cond b 1 0) one.0 in
     record { total = omega (arith, t, w) }
 balance_more (Returned event answer said) d past n one turn b = balance_returned event answer said (d ∷ past) (not_owed (d ∷ past) (Returned event answer said) n turn refl) b
-balance_more (Refused live fault said) d past n one turn b = absurd one
+balance_more (Refused live fault said) d past n one turn b =
+    let t = b.total in
+    let w : owed (d ∷ past) ≡ 1 = ap (λ (b : Bool). cond b 1 0) one in
+    record { total = omega (arith, t, w) }
 balance_more (Closed handle other) d past n one turn b =
     let t = b.total in
     let w = closed_owed (d ∷ past) handle other n turn in
     record { total = omega (arith, t, w) }
-balance_more (Scheduled timer handle first every) d past n one turn b = balance_other _ (d ∷ past) refl refl refl (not_owed (d ∷ past) (Scheduled timer handle first every) n turn refl) b
-balance_more (Cancelled timer) d past n one turn b = balance_other _ (d ∷ past) refl refl refl (not_owed (d ∷ past) (Cancelled timer) n turn refl) b
-balance_more (Polled moment) d past n one turn b = balance_other _ (d ∷ past) refl refl refl (not_owed (d ∷ past) (Polled moment) n turn refl) b
-balance_more (Due timer) d past n one turn b = balance_other _ (d ∷ past) refl refl refl (not_owed (d ∷ past) (Due timer) n turn refl) b
-balance_more (Ready handle kind) d past n one turn b = balance_other _ (d ∷ past) refl refl refl (not_owed (d ∷ past) (Ready handle kind) n turn refl) b
-balance_more (Posted handle kind from seq) d past n one turn b = balance_other _ (d ∷ past) refl refl refl (not_owed (d ∷ past) (Posted handle kind from seq) n turn refl) b
-balance_more (Stale handle from seq) d past n one turn b = balance_other _ (d ∷ past) refl refl refl (not_owed (d ∷ past) (Stale handle from seq) n turn refl) b
-balance_more (Started event) d past n one turn b = balance_other _ (d ∷ past) refl refl refl (not_owed (d ∷ past) (Started event) n turn refl) b
-balance_more (Masked handle mask) d past n one turn b = balance_other _ (d ∷ past) refl refl refl (not_owed (d ∷ past) (Masked handle mask) n turn refl) b
-balance_more (Suspended handle) d past n one turn b = balance_other _ (d ∷ past) refl refl refl (not_owed (d ∷ past) (Suspended handle) n turn refl) b
-balance_more (Resumed handle) d past n one turn b = balance_other _ (d ∷ past) refl refl refl (not_owed (d ∷ past) (Resumed handle) n turn refl) b
-balance_more (Removed handle) d past n one turn b = balance_other _ (d ∷ past) refl refl refl (not_owed (d ∷ past) (Removed handle) n turn refl) b
-balance_more Ended d past n one turn b = balance_other _ (d ∷ past) refl refl refl (not_owed (d ∷ past) Ended n turn refl) b
+balance_more (Scheduled timer handle first every) d past n one turn b = balance_other _ (d ∷ past) refl refl refl refl (not_owed (d ∷ past) (Scheduled timer handle first every) n turn refl) b
+balance_more (Cancelled timer) d past n one turn b = balance_other _ (d ∷ past) refl refl refl refl (not_owed (d ∷ past) (Cancelled timer) n turn refl) b
+balance_more (Polled moment) d past n one turn b = balance_other _ (d ∷ past) refl refl refl refl (not_owed (d ∷ past) (Polled moment) n turn refl) b
+balance_more (Due timer) d past n one turn b = balance_other _ (d ∷ past) refl refl refl refl (not_owed (d ∷ past) (Due timer) n turn refl) b
+balance_more (Ready handle kind) d past n one turn b = balance_other _ (d ∷ past) refl refl refl refl (not_owed (d ∷ past) (Ready handle kind) n turn refl) b
+balance_more (Posted handle kind from seq) d past n one turn b = balance_other _ (d ∷ past) refl refl refl refl (not_owed (d ∷ past) (Posted handle kind from seq) n turn refl) b
+balance_more (Stale handle from seq) d past n one turn b = balance_other _ (d ∷ past) refl refl refl refl (not_owed (d ∷ past) (Stale handle from seq) n turn refl) b
+balance_more (Started event) d past n one turn b = balance_other _ (d ∷ past) refl refl refl refl (not_owed (d ∷ past) (Started event) n turn refl) b
+balance_more (Masked handle mask) d past n one turn b = balance_other _ (d ∷ past) refl refl refl refl (not_owed (d ∷ past) (Masked handle mask) n turn refl) b
+balance_more (Suspended handle) d past n one turn b = balance_other _ (d ∷ past) refl refl refl refl (not_owed (d ∷ past) (Suspended handle) n turn refl) b
+balance_more (Resumed handle) d past n one turn b = balance_other _ (d ∷ past) refl refl refl refl (not_owed (d ∷ past) (Resumed handle) n turn refl) b
+balance_more (Removed handle) d past n one turn b = balance_other _ (d ∷ past) refl refl refl refl (not_owed (d ∷ past) (Removed handle) n turn refl) b
+balance_more Ended d past n one turn b = balance_other _ (d ∷ past) refl refl refl refl (not_owed (d ∷ past) Ended n turn refl) b
 
 first_opened : (e : Entry ServerNote) → IsNumbered [] e → Balanced (e ∷ [])
 first_opened (Opened handle mask) h = record { total = refl }
@@ -196,136 +204,50 @@ first_opened (Removed handle) h = absurd h
 first_opened (Closed handle other) h = absurd h
 first_opened Ended h = absurd h
 
+-- connection k is that of handle k + 1
+pub accepted_number : (past : List (Entry ServerNote)) → is_accepted (note_settled past) ≡ true → NumberOf (note_settled past) past → Balanced past → refusals past ≡ 0 → (k : ℕ) × (note_settled past ≡ Some (note.Accepted k)) × (opened past ≡ k + 1)
+accepted_number past h n b none = by_note (note_settled past) refl h n
+  where
+    by_note : (said : Option ServerNote) → note_settled past ≡ said → is_accepted said ≡ true → NumberOf said past → (k : ℕ) × (said ≡ Some (note.Accepted k)) × (opened past ≡ k + 1)
+    by_note None is h n = absurd (false≢true h)
+    by_note (Some (note.Accepted k)) is h n =
+        let t = b.total in
+        let w : owed past ≡ 1 = ap (λ (s : Option ServerNote). cond (is_accepted s) 1 0) is in
+        (k, refl, omega (arith, t, w, n, none))
+    by_note (Some note.NoneWaiting) is h n = absurd (false≢true h)
+    by_note (Some note.ListenerFailed) is h n = absurd (false≢true h)
+    by_note (Some note.ListenerShut) is h n = absurd (false≢true h)
+    by_note (Some (note.Piece conn took records)) is h n = absurd (false≢true h)
+    by_note (Some (note.Finished conn end)) is h n = absurd (false≢true h)
+
+-- the end that is offered is that of the connection that was settled
+pub offered_end : (past : List (Entry ServerNote)) (k : ℕ) → note_settled past ≡ Some (note.Accepted k) → end_offered past ≡ AtConnection k
+offered_end [] k h = absurd (none h)
+  where
+    none : ◌≡◌ {A = Option ServerNote} None (Some (note.Accepted k)) → ⊥
+    none e = cc
+offered_end (Returned event answer said ∷ past) k h = ap (λ (s : ServerNote). end_of_serial (accepted_in s)) (same h)
+  where
+    same : Some said ≡ Some (note.Accepted k) → said ≡ note.Accepted k
+    same e = cc
+offered_end (Closed handle other ∷ (Returned event answer said ∷ past)) k h = ap (λ (s : ServerNote). end_of_serial (accepted_in s)) (same h)
+  where
+    same : Some said ≡ Some (note.Accepted k) → said ≡ note.Accepted k
+    same e = cc
+offered_end (Closed handle other ∷ []) k h = absurd (none h)
+  where
+    none : ◌≡◌ {A = Option ServerNote} None (Some (note.Accepted k)) → ⊥
+    none e = cc
+offered_end (Closed handle other ∷ (_ ∷ past)) k h = absurd (none h)
+  where
+    none : ◌≡◌ {A = Option ServerNote} None (Some (note.Accepted k)) → ⊥
+    none e = cc
+offered_end (_ ∷ past) k h = absurd (none h)
+  where
+    none : ◌≡◌ {A = Option ServerNote} None (Some (note.Accepted k)) → ⊥
+    none e = cc
+
 module _ (may : Upcall → Deed → Type 0) where
   pub balanced : (d : Entry ServerNote) (past : List (Entry ServerNote)) (next : Option (Entry ServerNote)) → EachStep IsNumbered (d ∷ past) → TurnsBefore may says_accepted 1 (d ∷ past) next → Balanced (d ∷ past)
   balanced d [] next n turns = first_opened d n.0
   balanced d (e ∷ past) next n turns = balance_more d e past n.1 n.0 turns.2.0 (balanced e past (Some d) n.1 turns.2)
-
-  -- connection k is that of handle k + 1
-  pub accepted_number : (past : List (Entry ServerNote)) → is_accepted (note_settled past) ≡ true → NumberOf (note_settled past) past → Balanced past → (k : ℕ) × (note_settled past ≡ Some (note.Accepted k)) × (opened past ≡ k + 1)
-  accepted_number past h n b = by_note (note_settled past) refl h n
-    where
-      by_note : (said : Option ServerNote) → note_settled past ≡ said → is_accepted said ≡ true → NumberOf said past → (k : ℕ) × (said ≡ Some (note.Accepted k)) × (opened past ≡ k + 1)
-      by_note None is h n = absurd (false≢true h)
-      by_note (Some (note.Accepted k)) is h n =
-          let t = b.total in
-          let w : owed past ≡ 1 = ap (λ (s : Option ServerNote). cond (is_accepted s) 1 0) is in
-          (k, refl, omega (arith, t, w, n))
-      by_note (Some note.NoneWaiting) is h n = absurd (false≢true h)
-      by_note (Some note.ListenerFailed) is h n = absurd (false≢true h)
-      by_note (Some note.ListenerShut) is h n = absurd (false≢true h)
-      by_note (Some (note.Piece conn took records)) is h n = absurd (false≢true h)
-      by_note (Some (note.Finished conn end)) is h n = absurd (false≢true h)
-
-  -- the end that is offered is that of the connection that was settled
-  offered_end : (past : List (Entry ServerNote)) (k : ℕ) → note_settled past ≡ Some (note.Accepted k) → end_offered past ≡ AtConnection k
-  offered_end [] k h = absurd (none h)
-    where
-      none : ◌≡◌ {A = Option ServerNote} None (Some (note.Accepted k)) → ⊥
-      none e = cc
-  offered_end (Returned event answer said ∷ past) k h = ap (λ (s : ServerNote). end_of_serial (accepted_in s)) (same h)
-    where
-      same : Some said ≡ Some (note.Accepted k) → said ≡ note.Accepted k
-      same e = cc
-  offered_end (Closed handle other ∷ (Returned event answer said ∷ past)) k h = ap (λ (s : ServerNote). end_of_serial (accepted_in s)) (same h)
-    where
-      same : Some said ≡ Some (note.Accepted k) → said ≡ note.Accepted k
-      same e = cc
-  offered_end (Closed handle other ∷ []) k h = absurd (none h)
-    where
-      none : ◌≡◌ {A = Option ServerNote} None (Some (note.Accepted k)) → ⊥
-      none e = cc
-  offered_end (Closed handle other ∷ (_ ∷ past)) k h = absurd (none h)
-    where
-      none : ◌≡◌ {A = Option ServerNote} None (Some (note.Accepted k)) → ⊥
-      none e = cc
-  offered_end (_ ∷ past) k h = absurd (none h)
-    where
-      none : ◌≡◌ {A = Option ServerNote} None (Some (note.Accepted k)) → ⊥
-      none e = cc
-
-  -- ---- which handle stands at which end
-
-  pub opened_is : (most : ℕ) (past : List (Entry ServerNote)) (handle : Handle) (mask : Mask) → is_legal most (Opened handle mask ∷ past) ≡ true → handle.0 ≡ opened past
-  opened_is most past handle mask legal = eqb-true _ _ (and_parts _ _ (may_fits most past (Opened handle mask) (and_parts _ _ legal).0)).0
-
-  same_test : (h k c : ℕ) → h ≡ k + 1 → (h == suc c) ≡ (k == c)
-  same_test h k c e = ⊎_elim
-      (λ (t : (k == c) ≡ true). eq-eqb h (suc c) (one (eqb-true k c t) e) ∙ sym t)
-      (λ (f : (k == c) ≡ false). ne_eqb h (suc c) (λ q. both_ways (k == c) f (eq-eqb k c (two q e))) ∙ sym f)
-      (cases_Bool (k == c))
-    where
-      one : k ≡ c → h ≡ k + 1 → h ≡ suc c
-      one p q = omega arith
-
-      two : h ≡ suc c → h ≡ k + 1 → k ≡ c
-      two p q = omega arith
-
-  one_at : (most c : ℕ) (d : Entry ServerNote) (past : List (Entry ServerNote)) (handle : Handle) (mask : Mask) → is_legal most (Opened handle mask ∷ (d ∷ past)) ≡ true → EachStep IsNumbered (d ∷ past)
-      → is_accepted (note_settled (d ∷ past)) ≡ true → Balanced (d ∷ past) → (handle.0 == suc c) ≡ is_end (end_offered (d ∷ past)) (AtConnection c)
-  one_at most c d past handle mask legal n acc b =
-      let k = accepted_number (d ∷ past) acc (settled_number (d ∷ past) n) b in
-      same_test handle.0 k.0 c (opened_is most (d ∷ past) handle mask legal ∙ k.2) ∙ sym (ap (λ (e : StepEnd). is_end e (AtConnection c)) (offered_end (d ∷ past) k.0 k.1))
-
-  none_at : (most : ℕ) (d : Entry ServerNote) (past : List (Entry ServerNote)) (handle : Handle) (mask : Mask) → is_legal most (Opened handle mask ∷ (d ∷ past)) ≡ true → EachStep IsNumbered (d ∷ past)
-      → is_accepted (note_settled (d ∷ past)) ≡ true → Balanced (d ∷ past) → (handle.0 == 0) ≡ is_end (end_offered (d ∷ past)) AtListener
-  none_at most d past handle mask legal n acc b =
-      let k = accepted_number (d ∷ past) acc (settled_number (d ∷ past) n) b in
-      ne_eqb handle.0 0 (above k.0 (opened_is most (d ∷ past) handle mask legal ∙ k.2)) ∙ sym (ap (λ (e : StepEnd). is_end e AtListener) (offered_end (d ∷ past) k.0 k.1))
-    where
-      above : (k : ℕ) → handle.0 ≡ k + 1 → handle.0 ≡ 0 → ⊥
-      above k e f = omega arith
-
-  reads_too : {P : Type 0} (mask : Mask) → mask ≡ read_alone → P → mask.read ≡ true
-  reads_too mask h p = ap (λ (m : Mask). m.read) h
-
-  first_is : {h : ℕ} {c : ℕ} → h ≡ 0 → h ≡ suc c → ⊥
-  first_is {h} {c} e f = omega arith
-
-  pub stands_one : (most c : ℕ) (past : List (Entry ServerNote)) (next : Option (Entry ServerNote)) → is_legal most past ≡ true → EachStep IsNumbered past → TurnsBefore may says_accepted 1 past next → StandsOnlyAt (suc c) (AtConnection c) past
-  stands_one most c [] next legal n turns = tt
-  stands_one most c (Opened handle mask ∷ []) next legal n turns = ((ne_eqb handle.0 (suc c) (first_is (opened_is most [] handle mask legal)), λ q. reads_too mask n.0 q), tt)
-  stands_one most c (Opened handle mask ∷ (d ∷ past)) next legal n turns =
-      let b = balanced d past (Some (Opened handle mask)) n.1 turns.2 in
-      ((one_at most c d past handle mask legal n.1 n.0.0 b, λ q. reads_too mask n.0.1 q), stands_one most c (d ∷ past) (Some (Opened handle mask)) (and_parts _ _ legal).1 n.1 turns.2)
-  stands_one most c (Refused live fault said ∷ []) next legal n turns = absurd n.0
-  stands_one most c (Refused live fault said ∷ (d ∷ past)) next legal n turns = absurd n.0
-  stands_one most c (Scheduled timer handle first every ∷ past) next legal n turns = (tt, stands_one most c past (Some (Scheduled timer handle first every)) (and_parts _ _ legal).1 n.1 turns.2)
-  stands_one most c (Cancelled timer ∷ past) next legal n turns = (tt, stands_one most c past (Some (Cancelled timer)) (and_parts _ _ legal).1 n.1 turns.2)
-  stands_one most c (Polled moment ∷ past) next legal n turns = (tt, stands_one most c past (Some (Polled moment)) (and_parts _ _ legal).1 n.1 turns.2)
-  stands_one most c (Due timer ∷ past) next legal n turns = (tt, stands_one most c past (Some (Due timer)) (and_parts _ _ legal).1 n.1 turns.2)
-  stands_one most c (Ready handle kind ∷ past) next legal n turns = (tt, stands_one most c past (Some (Ready handle kind)) (and_parts _ _ legal).1 n.1 turns.2)
-  stands_one most c (Posted handle kind from seq ∷ past) next legal n turns = (tt, stands_one most c past (Some (Posted handle kind from seq)) (and_parts _ _ legal).1 n.1 turns.2)
-  stands_one most c (Stale handle from seq ∷ past) next legal n turns = (tt, stands_one most c past (Some (Stale handle from seq)) (and_parts _ _ legal).1 n.1 turns.2)
-  stands_one most c (Started event ∷ past) next legal n turns = (tt, stands_one most c past (Some (Started event)) (and_parts _ _ legal).1 n.1 turns.2)
-  stands_one most c (Returned event answer said ∷ past) next legal n turns = (tt, stands_one most c past (Some (Returned event answer said)) (and_parts _ _ legal).1 n.1 turns.2)
-  stands_one most c (Masked handle mask ∷ past) next legal n turns = (tt, stands_one most c past (Some (Masked handle mask)) (and_parts _ _ legal).1 n.1 turns.2)
-  stands_one most c (Suspended handle ∷ past) next legal n turns = (tt, stands_one most c past (Some (Suspended handle)) (and_parts _ _ legal).1 n.1 turns.2)
-  stands_one most c (Resumed handle ∷ past) next legal n turns = (tt, stands_one most c past (Some (Resumed handle)) (and_parts _ _ legal).1 n.1 turns.2)
-  stands_one most c (Removed handle ∷ past) next legal n turns = (tt, stands_one most c past (Some (Removed handle)) (and_parts _ _ legal).1 n.1 turns.2)
-  stands_one most c (Closed handle other ∷ past) next legal n turns = (tt, stands_one most c past (Some (Closed handle other)) (and_parts _ _ legal).1 n.1 turns.2)
-  stands_one most c (Ended ∷ past) next legal n turns = (tt, stands_one most c past (Some Ended) (and_parts _ _ legal).1 n.1 turns.2)
-
-  pub stands_first : (most c : ℕ) (past : List (Entry ServerNote)) (next : Option (Entry ServerNote)) → is_legal most past ≡ true → EachStep IsNumbered past → TurnsBefore may says_accepted 1 past next → StandsOnlyAt 0 AtListener past
-  stands_first most c [] next legal n turns = tt
-  stands_first most c (Opened handle mask ∷ []) next legal n turns = ((eq-eqb handle.0 0 (opened_is most [] handle mask legal), λ q. reads_too mask n.0 q), tt)
-  stands_first most c (Opened handle mask ∷ (d ∷ past)) next legal n turns =
-      let b = balanced d past (Some (Opened handle mask)) n.1 turns.2 in
-      ((none_at most d past handle mask legal n.1 n.0.0 b, λ q. reads_too mask n.0.1 q), stands_first most c (d ∷ past) (Some (Opened handle mask)) (and_parts _ _ legal).1 n.1 turns.2)
-  stands_first most c (Refused live fault said ∷ []) next legal n turns = absurd n.0
-  stands_first most c (Refused live fault said ∷ (d ∷ past)) next legal n turns = absurd n.0
-  stands_first most c (Scheduled timer handle first every ∷ past) next legal n turns = (tt, stands_first most c past (Some (Scheduled timer handle first every)) (and_parts _ _ legal).1 n.1 turns.2)
-  stands_first most c (Cancelled timer ∷ past) next legal n turns = (tt, stands_first most c past (Some (Cancelled timer)) (and_parts _ _ legal).1 n.1 turns.2)
-  stands_first most c (Polled moment ∷ past) next legal n turns = (tt, stands_first most c past (Some (Polled moment)) (and_parts _ _ legal).1 n.1 turns.2)
-  stands_first most c (Due timer ∷ past) next legal n turns = (tt, stands_first most c past (Some (Due timer)) (and_parts _ _ legal).1 n.1 turns.2)
-  stands_first most c (Ready handle kind ∷ past) next legal n turns = (tt, stands_first most c past (Some (Ready handle kind)) (and_parts _ _ legal).1 n.1 turns.2)
-  stands_first most c (Posted handle kind from seq ∷ past) next legal n turns = (tt, stands_first most c past (Some (Posted handle kind from seq)) (and_parts _ _ legal).1 n.1 turns.2)
-  stands_first most c (Stale handle from seq ∷ past) next legal n turns = (tt, stands_first most c past (Some (Stale handle from seq)) (and_parts _ _ legal).1 n.1 turns.2)
-  stands_first most c (Started event ∷ past) next legal n turns = (tt, stands_first most c past (Some (Started event)) (and_parts _ _ legal).1 n.1 turns.2)
-  stands_first most c (Returned event answer said ∷ past) next legal n turns = (tt, stands_first most c past (Some (Returned event answer said)) (and_parts _ _ legal).1 n.1 turns.2)
-  stands_first most c (Masked handle mask ∷ past) next legal n turns = (tt, stands_first most c past (Some (Masked handle mask)) (and_parts _ _ legal).1 n.1 turns.2)
-  stands_first most c (Suspended handle ∷ past) next legal n turns = (tt, stands_first most c past (Some (Suspended handle)) (and_parts _ _ legal).1 n.1 turns.2)
-  stands_first most c (Resumed handle ∷ past) next legal n turns = (tt, stands_first most c past (Some (Resumed handle)) (and_parts _ _ legal).1 n.1 turns.2)
-  stands_first most c (Removed handle ∷ past) next legal n turns = (tt, stands_first most c past (Some (Removed handle)) (and_parts _ _ legal).1 n.1 turns.2)
-  stands_first most c (Closed handle other ∷ past) next legal n turns = (tt, stands_first most c past (Some (Closed handle other)) (and_parts _ _ legal).1 n.1 turns.2)
-  stands_first most c (Ended ∷ past) next legal n turns = (tt, stands_first most c past (Some Ended) (and_parts _ _ legal).1 n.1 turns.2)

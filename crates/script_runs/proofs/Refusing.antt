@@ -29,7 +29,7 @@ use Rattle.script_runs.specs.Laws.{RunsOver}
 use Rattle.script_runs.specs.Runs.{is_refusal, is_fault, is_closing, is_accepted, note_settled}
 use Rattle.script_runs.specs.Steps.{EachStep}
 use Rattle.script_runs.proofs.ByTurns.{TurnsBefore}
-use Rattle.script_runs.proofs.Numbering.{balanced, owed}
+use Rattle.script_runs.proofs.Numbering.{balanced, owed, refusals}
 use Rattle.script_runs.proofs.Scripts.{few}
 use Rattle.script_runs.proofs.Settling.{each_front}
 use Rattle.script_runs.proofs.Taking.{length_numbers, few_taken}
@@ -158,7 +158,7 @@ module _ {H E : Type 0} (means : Handling H E ServerNote) (t : Terms) (idle : Op
           let by_turn = turned.1.1 (omega arith) in
           let offered = winding.settled_offers (d ∷ p) by_turn.2.number by_turn.2.settled in
           let b = balanced (ServerMay t) d p (Some (Refused number fault said)) numbered turned.1.2 in
-          let total : opened (d ∷ p) + owed (d ∷ p) ≡ accepted (d ∷ p) + 1 = b.total in
+          let total : opened (d ∷ p) + refusals (d ∷ p) + owed (d ∷ p) ≡ accepted (d ∷ p) + 1 = b.total in
           let one : owed (d ∷ p) ≡ 1 = ap (λ (x : Bool). cond x 1 0) (accepted_here ((whole.wound means t idle groups journal r ++ Ended ∷ []) ++ later) (d ∷ p) number fault said in_all offered.0 offered.1) in
           let most_accepted : accepted (d ∷ p) ≤ script.opened (steps_of groups) = accepted_few _ (d ∷ p) behind in
           omega (arith, total, one, most_accepted)

@@ -48,7 +48,8 @@ use Rattle.script_runs.specs.Steps.{EachStep}
 use Rattle.script_runs.specs.Runs.{first_handle}
 use Rattle.script_runs.specs.Laws.{RunsOver}
 use Rattle.script_runs.proofs.Handles.{IsBegun, Offered, offered}
-use Rattle.script_runs.proofs.Numbering.{IsNumbered, Balanced, balanced, accepted_number, settled_number, opened_is, owed}
+use Rattle.script_runs.proofs.Numbering.{IsNumbered, Balanced, balanced, accepted_number, settled_number, owed, refusals}
+use Rattle.script_runs.proofs.Standing.{OpenedFor, opened_is, opened_for_later, end_of_origin}
 use Rattle.script_runs.proofs.Turns as turns
 use Rattle.script_runs.proofs.Settling.{each_front, origin_still, opened_later}
 use Rattle.script_runs.proofs.Winding as winding
@@ -89,6 +90,13 @@ ends_close : (xs : List (Item ServerNote)) (item : Item ServerNote) → item.ans
 ends_close [] item h = subst IsClose (sym h) tt
 ends_close (x ∷ []) item h = subst IsClose (sym h) tt
 ends_close (x ∷ (y ∷ xs)) item h = ends_close (y ∷ xs) item h
+
+-- none of which there is none
+none_counted : (past : List (Entry ServerNote)) → list_any is_refusal past ≡ false → refusals past ≡ 0
+none_counted [] h = refl
+none_counted (e ∷ past) h =
+    let parts = or_parts (is_refusal e) (list_any is_refusal past) h in
+    ap (λ (b : Bool). cond b (suc (refusals past)) (refusals past)) parts.0 ∙ none_counted past parts.1
 
 -- lines read backwards
 back : (c : ℕ) → List (Entry ServerNote) → List ℕ
@@ -229,9 +237,9 @@ module _ {H E : Type 0} (means : Handling H E ServerNote) (t : Terms) (groups : 
       let n : EachStep IsNumbered (Opened by.handle by.mask ∷ (by.first ∷ by.before)) = each_front IsNumbered by.later (Opened by.handle by.mask ∷ (by.first ∷ by.before)) (subst (EachStep IsNumbered) by.is numbered) in
       let turned = winding.turns_front t by.later (Opened by.handle by.mask ∷ (by.first ∷ by.before)) None (subst (λ (p : List (Entry ServerNote)). TurnsBefore (ServerMay t) says_accepted 1 p None) by.is turned_run) in
       let b = balanced (ServerMay t) by.first by.before (Some (Opened by.handle by.mask)) n.1 turned.1.2 in
-      let k = accepted_number (ServerMay t) (by.first ∷ by.before) n.0.0 (settled_number (by.first ∷ by.before) n.1) b in
+      let k = accepted_number (by.first ∷ by.before) n.0.0 (settled_number (by.first ∷ by.before) n.1) b (none_counted (by.first ∷ by.before) (winding.any_right is_refusal (by.later ++ Opened by.handle by.mask ∷ []) (by.first ∷ by.before) (sym (ap (list_any is_refusal) (by.is ∙ sym (append_assoc by.later (Opened by.handle by.mask ∷ []) (by.first ∷ by.before)))) ∙ refused_run))) in
       let here : is_legal most (Opened by.handle by.mask ∷ (by.first ∷ by.before)) ≡ true = is_legal-front most by.later (Opened by.handle by.mask ∷ (by.first ∷ by.before)) (sym (ap (is_legal most) by.is) ∙ legal_run) in
-      let is : by.handle.0 ≡ opened (by.first ∷ by.before) = opened_is (ServerMay t) most (by.first ∷ by.before) by.handle by.mask here in
+      let is : by.handle.0 ≡ opened (by.first ∷ by.before) = opened_is most (by.first ∷ by.before) by.handle by.mask here in
       let talks = turns.connection most steps None all legal begun left closed c o in
       let origin : origin_of all (suc c) ≡ origin_of run (suc c) = ap (λ (p : List (Entry ServerNote)). origin_of p (suc c)) whole_run ∙ origin_still most (wound ++ Ended ∷ []) run (suc c) (sym (ap (is_legal most) whole_run) ∙ legal) o_run in
       is_number c k.0 (by.first ∷ by.before) by.origin k.1 (turns.offered_note most steps None all legal begun left closed (by.first ∷ by.before) by.origin by.here)
@@ -276,9 +284,10 @@ module _ {H E : Type 0} (means : Handling H E ServerNote) (t : Terms) (groups : 
       by_run [] e = absurd (false≢true (sym (ap follows_ready e) ∙ r.ends.at_over.behind))
       by_run (d ∷ past) e =
           let b = balanced (ServerMay t) d past None (subst (EachStep IsNumbered) e numbered) (subst (λ (p : List (Entry ServerNote)). TurnsBefore (ServerMay t) says_accepted 1 p None) e turned_run) in
-          let total : opened run + owed run ≡ accepted run + 1 = subst (λ (p : List (Entry ServerNote)). opened p + owed p ≡ accepted p + 1) (sym e) b.total in
+          let total : opened run + refusals run + owed run ≡ accepted run + 1 = subst (λ (p : List (Entry ServerNote)). opened p + refusals p + owed p ≡ accepted p + 1) (sym e) b.total in
+          let refused : refusals run ≡ 0 = none_counted run refused_run in
           let none : owed run ≡ 0 = nothing_owed run r.ends.at_over.behind in
-          omega (arith, total, none)
+          omega (arith, total, none, refused)
 
   -- ---- each connection
 
@@ -306,7 +315,7 @@ module _ {H E : Type 0} (means : Handling H E ServerNote) (t : Terms) (groups : 
   free = winding.run_free t run None begins turned_run
 
   abbrev EndsHere : ℕ → Type 0
-  EndsHere c = Ends t groups most run legal_run free r.ends.at_over.idle.no_pick r.ends.at_over.idle.none_open numbered turned_run follows_run r.ends.at_over.behind r.ends.at_over.over c (had all (suc c)) (lines_of c journal)
+  EndsHere c = Ends t groups most run legal_run free r.ends.at_over.idle.no_pick r.ends.at_over.idle.none_open numbered follows_run r.ends.at_over.behind r.ends.at_over.over c (had all (suc c)) (lines_of c journal)
 
   -- a connection that was closed by another was alive at the end of the run
   alive_if : (c : ℕ) (before later : List (Entry ServerNote)) (handle : Handle) (said : ServerNote) → all ≡ later ++ Closed handle said ∷ before → handle.0 ≡ suc c → was_opened run (suc c) ≡ true
@@ -337,6 +346,8 @@ module _ {H E : Type 0} (means : Handling H E ServerNote) (t : Terms) (groups : 
   ended_so c handle later before said is mine o lines =
       let talks = turns.talks_at most steps None all legal begun left closed numbers c later handle said before is mine in
       let through = talks.2 in
+      let o_all : was_opened all (suc c) ≡ true = opened_later wound (Ended ∷ run) (suc c) o in
+      let conn = turns.connection most steps None all legal begun left closed c o_all in
       let account = accounts c None talks.0 _ (had all (suc c)) through.now through.course in
       record {
         moment = talks.0;
@@ -345,6 +356,7 @@ module _ {H E : Type 0} (means : Handling H E ServerNote) (t : Terms) (groups : 
         word = through.word;
         course = through.course;
         closing = through.closing;
+        opened_for = whole.opened_for means t None groups journal r c c conn.moment o (subst (λ (k : ℕ). origin_of all (suc c) ≡ Some (record { note = note.Accepted k; moment = conn.moment })) (numbers c o_all) conn.origin);
         by_others = λ other. (alive_if c before later handle said is mine o other, had_is (suc c));
         by_itself = λ own none.
             let l : Last ServerNote (had before (suc c)) = ended_last most before (suc c) before_legal (own_reason before (suc c) own) in
@@ -388,5 +400,5 @@ module _ {H E : Type 0} (means : Handling H E ServerNote) (t : Terms) (groups : 
 
   pub second_law : lines_by_connection journal ≡ grouped (steps_of groups)
   second_law =
-      groups_lines t groups most run legal_run free r.ends.at_over.idle.no_pick r.ends.at_over.idle.none_open numbered turned_run follows_run r.ends.at_over.behind r.ends.at_over.over
+      groups_lines t groups most run legal_run free r.ends.at_over.idle.no_pick r.ends.at_over.idle.none_open numbered follows_run r.ends.at_over.behind r.ends.at_over.over
       journal (λ c. had all (suc c)) listens.now r.script (few steps r.script) alive_first listener_course (accepted_journal ∙ accepted_all) each_ends

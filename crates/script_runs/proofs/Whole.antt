@@ -48,7 +48,8 @@ use Rattle.script_runs.specs.Steps.{EachStep}
 use Rattle.script_runs.specs.Runs.{first_handle}
 use Rattle.script_runs.specs.Laws.{RunsOver}
 use Rattle.script_runs.proofs.Handles.{IsBegun, Offered, offered}
-use Rattle.script_runs.proofs.Numbering.{IsNumbered, Balanced, balanced, accepted_number, settled_number, opened_is, owed}
+use Rattle.script_runs.proofs.Numbering.{IsNumbered, Balanced, balanced, accepted_number, settled_number, owed}
+use Rattle.script_runs.proofs.Standing.{OpenedFor, opened_for_later, end_of_origin}
 use Rattle.script_runs.proofs.Turns as turns
 use Rattle.script_runs.proofs.Settling.{each_front, origin_still, opened_later}
 use Rattle.script_runs.proofs.Winding as winding
@@ -125,6 +126,15 @@ module _ {H E : Type 0} (means : Handling H E ServerNote) (t : Terms) (idle : Op
   pub keeps : list_any winding.removes run ≡ false
   keeps = winding.run_keeps t run begins turned_run going
 
-  -- where none is refused before here, each connection has its number
+  -- the handler of a connection was registered behind its acceptance
+  pub opened_for : (c k moment : ℕ) → was_opened run (suc c) ≡ true → origin_of all (suc c) ≡ Some (record { note = note.Accepted k; moment = moment }) → OpenedFor run k (suc c)
+  opened_for c k moment o is =
+      let by = offered run c begun_run o in
+      let origin : origin_of all (suc c) ≡ origin_of run (suc c) = ap (λ (p : List (Entry ServerNote)). origin_of p (suc c)) whole_run ∙ origin_still most (wound ++ Ended ∷ []) run (suc c) (sym (ap (is_legal most) whole_run) ∙ legal) o in
+      let says : by.origin.note ≡ note.Accepted k = ap (λ (x : Option (Origin ServerNote)). elim x [ None ↦ by.origin.note | Some y ↦ y.note ]) (sym by.of_it ∙ sym origin ∙ is) in
+      subst (λ (p : List (Entry ServerNote)). OpenedFor p k (suc c)) (sym by.is)
+      (opened_for_later by.later (Opened by.handle by.mask ∷ (by.first ∷ by.before)) k (suc c) (inl (by.mine, end_of_origin (by.first ∷ by.before) by.origin k by.here says)))
+
+  -- each connection that is accepted has its number, and each handler behind the first its acceptance
   pub numbered : (later past : List (Entry ServerNote)) → all ≡ later ++ past → list_any is_refusal past ≡ false → EachStep IsNumbered past
   numbered later past is none = turns.numbered most steps idle all legal begun left closed later past is first none
