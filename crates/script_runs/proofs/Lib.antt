@@ -9,6 +9,7 @@ pub mod Notes
 pub mod Turns
 pub mod Winding
 pub mod Taking
+pub mod Offering
 pub mod Whole
 pub mod Refusing
 pub mod Second

@@ -29,7 +29,7 @@ use Rattle.script_runs.specs.Laws.{RunsOver}
 use Rattle.script_runs.specs.Runs.{is_refusal, is_fault, is_closing, is_accepted, note_settled}
 use Rattle.script_runs.specs.Steps.{EachStep}
 use Rattle.script_runs.proofs.ByTurns.{TurnsBefore}
-use Rattle.script_runs.proofs.Numbering.{balanced, owed, refusals}
+use Rattle.script_runs.proofs.Numbering.{IsNumbered, balanced, owed, refusals}
 use Rattle.script_runs.proofs.Scripts.{few}
 use Rattle.script_runs.proofs.Settling.{each_front}
 use Rattle.script_runs.proofs.Taking.{length_numbers, few_taken}
@@ -49,15 +49,6 @@ count_more p (e ∷ later) past = one (p e) (count_more p later past)
 
 less : (a b : ℕ) → a - b ≤ a
 less a b = omega arith
-
--- a turn that accepted a connection was just settled
-accepts_here : (said : ServerNote) (o : Option ServerNote) → o ≡ Some said → says_accepted said ≡ true → is_accepted o ≡ true
-accepts_here (note.Accepted c) o is h = ap is_accepted is
-accepts_here note.NoneWaiting o is h = absurd (false≢true h)
-accepts_here note.ListenerFailed o is h = absurd (false≢true h)
-accepts_here note.ListenerShut o is h = absurd (false≢true h)
-accepts_here (note.Piece conn took records) o is h = absurd (false≢true h)
-accepts_here (note.Finished conn end) o is h = absurd (false≢true h)
 
 module _ {H E : Type 0} (means : Handling H E ServerNote) (t : Terms) (idle : Option ℕ) (groups : List ScriptGroup) (journal : List (Entry ServerNote)) (r : RunsOver means t idle groups journal)
     (room : script.opened (steps_of groups) < t.most) (no_fault : list_any is_fault journal ≡ false) where
@@ -86,27 +77,6 @@ module _ {H E : Type 0} (means : Handling H E ServerNote) (t : Terms) (idle : Op
       let same : accepted (later ++ past) ≡ accepted all = ap accepted (sym is) in
       omega (arith, total, most_taken, more, same)
 
-  -- what the handler leaves that is refused here was offered by a turn that accepted a connection
-  accepted_here : (later past : List (Entry ServerNote)) (number : ℕ) (fault : Bool) (said : ServerNote) → all ≡ later ++ Refused number fault said ∷ past → (o : Origin ServerNote) → offered_here past ≡ Some o
-      → is_accepted (note_settled past) ≡ true
-  accepted_here later past number fault said is o offered =
-      accepts_here o.note (note_settled past) (turns.offered_note t.most (steps_of groups) idle all (whole.legal means t idle groups journal r) (whole.begun means t idle groups journal r)
-      (whole.left means t idle groups journal r) (whole.closed means t idle groups journal r) past o offered)
-      (by_note o.note (subst (λ (x : Option (Origin ServerNote)). Leaves (steps_of groups) idle x [] ByRefusal said) offered leaves))
-    where
-      leaves : Leaves (steps_of groups) idle (offered_here past) [] ByRefusal said
-      leaves = (turns.left_front t.most (steps_of groups) idle all (whole.legal means t idle groups journal r) (whole.begun means t idle groups journal r) (whole.left means t idle groups journal r)
-          (whole.closed means t idle groups journal r) later (Refused number fault said ∷ past)
-          (subst (EachStep (Rattle.script_runs.specs.Connections.IsLeft (steps_of groups) idle)) is (whole.left means t idle groups journal r))).0
-
-      by_note : (n : ServerNote) → LeavesOffered (steps_of groups) idle n o.moment [] ByRefusal said → says_accepted n ≡ true
-      by_note (note.Accepted c) h = refl
-      by_note note.NoneWaiting h = absurd h
-      by_note note.ListenerFailed h = absurd h
-      by_note note.ListenerShut h = absurd h
-      by_note (note.Piece conn took records) h = absurd h
-      by_note (note.Finished conn end) h = absurd h
-
   -- no room is wanting
   has_room : (past : List (Entry ServerNote)) (number : ℕ) (fault : Bool) → opened past ≤ script.opened (steps_of groups) → fault ≡ false → ended past ≡ false
       → (number == live past && (live past == t.most || (opened past == most_handles || (fault || ended past)))) ≡ true → ⊥
@@ -123,8 +93,8 @@ module _ {H E : Type 0} (means : Handling H E ServerNote) (t : Terms) (idle : Op
           omega (arith, is, below, many)
       by_cause false false a b h = both_ways (fault || ended past) (ap (λ (f : Bool). f || ended past) no_fault ∙ going) h
 
-  refused_here : (later past : List (Entry ServerNote)) (number : ℕ) (fault : Bool) (said : ServerNote) → run ≡ later ++ Refused number fault said ∷ past → list_any is_refusal past ≡ false → ⊥
-  refused_here later past number fault said is none = has_room past number fault (below past is none) no_fault_here going fits
+  refused_here : (later past : List (Entry ServerNote)) (number : ℕ) (fault : Bool) (said : ServerNote) → run ≡ later ++ Refused number fault said ∷ past → ⊥
+  refused_here later past number fault said is = has_room past number fault (below past is) no_fault_here going fits
     where
       deeper : List (Entry ServerNote)
       deeper = (whole.wound means t idle groups journal r ++ Ended ∷ []) ++ later
@@ -145,21 +115,19 @@ module _ {H E : Type 0} (means : Handling H E ServerNote) (t : Terms) (idle : Op
       going : ended past ≡ false
       going = winding.none_behind (later ++ Refused number fault said ∷ []) past (sym (ap ended (is ∙ sym (append_assoc later (Refused number fault said ∷ []) past))) ∙ whole.going means t idle groups journal r)
 
-      below : (p : List (Entry ServerNote)) → run ≡ later ++ Refused number fault said ∷ p → list_any is_refusal p ≡ false → opened p ≤ script.opened (steps_of groups)
-      below [] is none = omega arith
-      below (d ∷ p) is none =
+      below : (p : List (Entry ServerNote)) → run ≡ later ++ Refused number fault said ∷ p → opened p ≤ script.opened (steps_of groups)
+      below [] is = omega arith
+      below (d ∷ p) is =
           let in_all : all ≡ ((whole.wound means t idle groups journal r ++ Ended ∷ []) ++ later) ++ Refused number fault said ∷ (d ∷ p) =
           whole.whole_run means t idle groups journal r ∙ ap (λ (q : List (Entry ServerNote)). (whole.wound means t idle groups journal r ++ Ended ∷ []) ++ q) is
           ∙ sym (append_assoc (whole.wound means t idle groups journal r ++ Ended ∷ []) later (Refused number fault said ∷ (d ∷ p))) in
           let behind : all ≡ (((whole.wound means t idle groups journal r ++ Ended ∷ []) ++ later) ++ Refused number fault said ∷ []) ++ (d ∷ p) =
           in_all ∙ sym (append_assoc ((whole.wound means t idle groups journal r ++ Ended ∷ []) ++ later) (Refused number fault said ∷ []) (d ∷ p)) in
-          let numbered = whole.numbered means t idle groups journal r (((whole.wound means t idle groups journal r ++ Ended ∷ []) ++ later) ++ Refused number fault said ∷ []) (d ∷ p) behind none in
+          let numbered = each_front IsNumbered later (Refused number fault said ∷ (d ∷ p)) (subst (EachStep IsNumbered) is (whole.numbered means t idle groups journal r)) in
           let turned = winding.turns_front t later (Refused number fault said ∷ (d ∷ p)) None (subst (λ (q : List (Entry ServerNote)). TurnsBefore (ServerMay t) says_accepted 1 q None) is (whole.turned_run means t idle groups journal r)) in
-          let by_turn = turned.1.1 (omega arith) in
-          let offered = winding.settled_offers (d ∷ p) by_turn.2.number by_turn.2.settled in
-          let b = balanced (ServerMay t) d p (Some (Refused number fault said)) numbered turned.1.2 in
+          let b = balanced (ServerMay t) d p (Some (Refused number fault said)) numbered.1 turned.1.2 in
           let total : opened (d ∷ p) + refusals (d ∷ p) + owed (d ∷ p) ≡ accepted (d ∷ p) + 1 = b.total in
-          let one : owed (d ∷ p) ≡ 1 = ap (λ (x : Bool). cond x 1 0) (accepted_here ((whole.wound means t idle groups journal r ++ Ended ∷ []) ++ later) (d ∷ p) number fault said in_all offered.0 offered.1) in
+          let one : owed (d ∷ p) ≡ 1 = ap (λ (x : Bool). cond x 1 0) numbered.0 in
           let most_accepted : accepted (d ∷ p) ≤ script.opened (steps_of groups) = accepted_few _ (d ∷ p) behind in
           omega (arith, total, one, most_accepted)
 
@@ -168,7 +136,7 @@ module _ {H E : Type 0} (means : Handling H E ServerNote) (t : Terms) (idle : Op
   none_in later (e ∷ past) is = by_entry e is (none_in (later ++ e ∷ []) past (is ∙ sym (append_assoc later (e ∷ []) past)))
     where
       by_entry : (e : Entry ServerNote) → run ≡ later ++ e ∷ past → list_any is_refusal past ≡ false → (is_refusal e || list_any is_refusal past) ≡ false
-      by_entry (Refused number fault said) is rest = absurd (refused_here later past number fault said is rest)
+      by_entry (Refused number fault said) is rest = absurd (refused_here later past number fault said is)
       by_entry (Opened handle mask) is rest = rest
       by_entry (Scheduled timer handle first every) is rest = rest
       by_entry (Cancelled timer) is rest = rest

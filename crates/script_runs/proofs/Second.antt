@@ -51,7 +51,7 @@ use Rattle.script_runs.proofs.Handles.{IsBegun, Offered, offered}
 use Rattle.script_runs.proofs.Numbering.{IsNumbered, Balanced, balanced, accepted_number, settled_number, owed, refusals}
 use Rattle.script_runs.proofs.Standing.{OpenedFor, opened_is, opened_for_later, end_of_origin}
 use Rattle.script_runs.proofs.Turns as turns
-use Rattle.script_runs.proofs.Settling.{each_front, origin_still, opened_later}
+use Rattle.script_runs.proofs.Settling.{each_front, origin_still, opened_later, offered_note}
 use Rattle.script_runs.proofs.Winding as winding
 use Rattle.script_runs.proofs.Winding.{Begins}
 use Rattle.script_runs.proofs.Taking.{length_numbers}
@@ -218,7 +218,7 @@ module _ {H E : Type 0} (means : Handling H E ServerNote) (t : Terms) (groups : 
   refused_run = (or_parts (is_refusal {N = ServerNote} Ended) (list_any is_refusal run) (winding.any_right is_refusal wound (Ended ∷ run) refused_all)).1
 
   numbered : EachStep IsNumbered run
-  numbered = whole.numbered means t None groups journal r (wound ++ Ended ∷ []) run whole_run refused_run
+  numbered = whole.numbered means t None groups journal r
 
   -- ---- the number of each connection
 
@@ -242,7 +242,7 @@ module _ {H E : Type 0} (means : Handling H E ServerNote) (t : Terms) (groups : 
       let is : by.handle.0 ≡ opened (by.first ∷ by.before) = opened_is most (by.first ∷ by.before) by.handle by.mask here in
       let talks = turns.connection most steps None all legal begun left closed c o in
       let origin : origin_of all (suc c) ≡ origin_of run (suc c) = ap (λ (p : List (Entry ServerNote)). origin_of p (suc c)) whole_run ∙ origin_still most (wound ++ Ended ∷ []) run (suc c) (sym (ap (is_legal most) whole_run) ∙ legal) o_run in
-      is_number c k.0 (by.first ∷ by.before) by.origin k.1 (turns.offered_note most steps None all legal begun left closed (by.first ∷ by.before) by.origin by.here)
+      is_number c k.0 (by.first ∷ by.before) by.origin k.1 (offered_note (by.first ∷ by.before) by.origin by.here)
       (same_number c k.0 (sym by.mine ∙ is ∙ k.2)) talks.number talks.moment (sym talks.origin ∙ origin ∙ by.of_it)
     where
       same_number : (c k : ℕ) → suc c ≡ k + 1 → k ≡ c

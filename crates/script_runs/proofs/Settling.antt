@@ -74,6 +74,33 @@ origin_still most (e ∷ later) past x legal o =
     step : (e : Entry ServerNote) (past : List (Entry ServerNote)) → opens x e ≡ false → origin_of (e ∷ past) x ≡ origin_of past x
     step e past o = rw (o, origin_of) refl
 
+-- what a turn notes that offers a handler
+pub offered_note : (past : List (Entry ServerNote)) (o : Origin ServerNote) → offered_here past ≡ Some o → note_settled past ≡ Some o.note
+offered_note [] o h = absurd (none h)
+  where
+    none : ◌≡◌ {A = Option (Origin ServerNote)} None (Some o) → ⊥
+    none q = cc
+offered_note (Returned event answer said ∷ past) o h = same h
+  where
+    same : Some (record { note = said; moment = started_at past event }) ≡ Some o → Some said ≡ Some o.note
+    same q = ap (λ (x : Option (Origin ServerNote)). elim x [ None ↦ Some said | Some y ↦ Some y.note ]) q
+offered_note (Closed handle other ∷ (Returned event answer said ∷ past)) o h = same h
+  where
+    same : Some (record { note = said; moment = started_at past event }) ≡ Some o → Some said ≡ Some o.note
+    same q = ap (λ (x : Option (Origin ServerNote)). elim x [ None ↦ Some said | Some y ↦ Some y.note ]) q
+offered_note (Closed handle other ∷ []) o h = absurd (none h)
+  where
+    none : ◌≡◌ {A = Option (Origin ServerNote)} None (Some o) → ⊥
+    none q = cc
+offered_note (Closed handle other ∷ (_ ∷ past)) o h = absurd (none h)
+  where
+    none : ◌≡◌ {A = Option (Origin ServerNote)} None (Some o) → ⊥
+    none q = cc
+offered_note (_ ∷ past) o h = absurd (none h)
+  where
+    none : ◌≡◌ {A = Option (Origin ServerNote)} None (Some o) → ⊥
+    none q = cc
+
 -- a handler that was closed was opened before
 pub opened_before_closed : (most : ℕ) (later past : List (Entry ServerNote)) (handle : Handle) (said : ServerNote) (x : ℕ) → is_legal most (later ++ Closed handle said ∷ past) ≡ true → handle.0 ≡ x → was_opened past x ≡ true
 opened_before_closed most later past handle said x legal mine =

@@ -42,8 +42,9 @@ use Rattle.script_runs.specs.Runs.{first_handle}
 use Rattle.script_runs.proofs.Handles.{Found, found, had_found, had_closed, Grows, had_grows, IsBegun, origin_first, Offered, offered}
 use Rattle.script_runs.proofs.Notes.{Listens, is_listening, course_listens, all_left, all_last, number_next, of_none}
 use Rattle.script_runs.proofs.Numbering.{IsNumbered, NumberedNote}
+use Rattle.script_runs.proofs.Offering.{RefusedOffers}
 use Rattle.script_runs.proofs.Settling as settling
-use Rattle.script_runs.proofs.Settling.{each_front, opened_later, origin_still}
+use Rattle.script_runs.proofs.Settling.{each_front, opened_later, origin_still, offered_note}
 
 module _ (most : ℕ) (steps : List ScriptStep) (idle : Option ℕ) (all : List (Entry ServerNote)) (legal : is_legal most all ≡ true) (begun : EachStep IsBegun all) (left : AreLeft steps idle all)
     (closed : (x : ℕ) → was_opened all x ≡ true → was_closed all x ≡ true) where
@@ -198,32 +199,6 @@ module _ (most : ℕ) (steps : List ScriptStep) (idle : Option ℕ) (all : List 
 
   -- ---- numbers
 
-  pub offered_note : (past : List (Entry ServerNote)) (o : Origin ServerNote) → offered_here past ≡ Some o → note_settled past ≡ Some o.note
-  offered_note [] o h = absurd (none h)
-    where
-      none : ◌≡◌ {A = Option (Origin ServerNote)} None (Some o) → ⊥
-      none q = cc
-  offered_note (Returned event answer said ∷ past) o h = same h
-    where
-      same : Some (record { note = said; moment = started_at past event }) ≡ Some o → Some said ≡ Some o.note
-      same q = ap (λ (x : Option (Origin ServerNote)). elim x [ None ↦ Some said | Some y ↦ Some y.note ]) q
-  offered_note (Closed handle other ∷ (Returned event answer said ∷ past)) o h = same h
-    where
-      same : Some (record { note = said; moment = started_at past event }) ≡ Some o → Some said ≡ Some o.note
-      same q = ap (λ (x : Option (Origin ServerNote)). elim x [ None ↦ Some said | Some y ↦ Some y.note ]) q
-  offered_note (Closed handle other ∷ []) o h = absurd (none h)
-    where
-      none : ◌≡◌ {A = Option (Origin ServerNote)} None (Some o) → ⊥
-      none q = cc
-  offered_note (Closed handle other ∷ (_ ∷ past)) o h = absurd (none h)
-    where
-      none : ◌≡◌ {A = Option (Origin ServerNote)} None (Some o) → ⊥
-      none q = cc
-  offered_note (_ ∷ past) o h = absurd (none h)
-    where
-      none : ◌≡◌ {A = Option (Origin ServerNote)} None (Some o) → ⊥
-      none q = cc
-
   registered : (later past : List (Entry ServerNote)) (d : Entry ServerNote) (handle : Handle) (mask : Mask) → all ≡ later ++ Opened handle mask ∷ (d ∷ past) → IsNumbered (d ∷ past) (Opened handle mask)
   registered later past d handle mask is = (by_handle handle.0 refl, b.0.1)
     where
@@ -298,19 +273,17 @@ module _ (most : ℕ) (steps : List ScriptStep) (idle : Option ℕ) (all : List 
   first_numbered : (e : Entry ServerNote) → IsBegun [] e → IsNumbered [] e
   first_numbered e h = subst (IsNumbered []) (sym h) refl
 
-  one_numbered : (later past : List (Entry ServerNote)) (e d : Entry ServerNote) → all ≡ later ++ e ∷ (d ∷ past) → was_opened all 0 ≡ true → is_refusal e ≡ false → IsNumbered (d ∷ past) e
-  one_numbered later past (Opened handle mask) d is first none = registered later past d handle mask is
-  one_numbered later past (Returned event answer said) d is first none = settled later past d event answer said is first
-  one_numbered later past (Refused live fault said) d is first none = absurd (false≢true (sym none))
-  one_numbered later past _ d is first none = tt
+  one_numbered : (later past : List (Entry ServerNote)) (e d : Entry ServerNote) → all ≡ later ++ e ∷ (d ∷ past) → was_opened all 0 ≡ true → RefusedOffers (d ∷ past) e → IsNumbered (d ∷ past) e
+  one_numbered later past (Opened handle mask) d is first offers = registered later past d handle mask is
+  one_numbered later past (Returned event answer said) d is first offers = settled later past d event answer said is first
+  one_numbered later past (Refused live fault said) d is first offers = offers
+  one_numbered later past _ d is first offers = tt
 
-  -- where none is refused, each connection has its number
-  pub numbered : (later past : List (Entry ServerNote)) → all ≡ later ++ past → was_opened all 0 ≡ true → list_any is_refusal past ≡ false → EachStep IsNumbered past
-  numbered later [] is first none = tt
-  numbered later (e ∷ []) is first none = (first_numbered e (each_front IsBegun later (e ∷ []) (subst (EachStep IsBegun) is begun)).0, tt)
-  numbered later (e ∷ (d ∷ past)) is first none =
-      let parts = or_parts (is_refusal e) (list_any is_refusal (d ∷ past)) none in
-      (one_numbered later past e d is first parts.0, numbered (later ++ e ∷ []) (d ∷ past) (shifted later e (d ∷ past) is) first parts.1)
+  -- each connection has its number
+  pub numbered : (later past : List (Entry ServerNote)) → all ≡ later ++ past → was_opened all 0 ≡ true → EachStep RefusedOffers past → EachStep IsNumbered past
+  numbered later [] is first offers = tt
+  numbered later (e ∷ []) is first offers = (first_numbered e (each_front IsBegun later (e ∷ []) (subst (EachStep IsBegun) is begun)).0, tt)
+  numbered later (e ∷ (d ∷ past)) is first offers = (one_numbered later past e d is first offers.0, numbered (later ++ e ∷ []) (d ∷ past) (shifted later e (d ∷ past) is) first offers.1)
 
   -- ---- the lines of a connection
 

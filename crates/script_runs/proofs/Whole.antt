@@ -52,6 +52,7 @@ use Rattle.script_runs.proofs.Numbering.{IsNumbered, Balanced, balanced, accepte
 use Rattle.script_runs.proofs.Standing.{OpenedFor, opened_for_later, end_of_origin}
 use Rattle.script_runs.proofs.Turns as turns
 use Rattle.script_runs.proofs.Settling.{each_front, origin_still, opened_later}
+use Rattle.script_runs.proofs.Offering.{run_offers}
 use Rattle.script_runs.proofs.Winding as winding
 use Rattle.script_runs.proofs.Winding.{Begins}
 
@@ -136,5 +137,6 @@ module _ {H E : Type 0} (means : Handling H E ServerNote) (t : Terms) (idle : Op
       (opened_for_later by.later (Opened by.handle by.mask ∷ (by.first ∷ by.before)) k (suc c) (inl (by.mine, end_of_origin (by.first ∷ by.before) by.origin k by.here says)))
 
   -- each connection that is accepted has its number, and each handler behind the first its acceptance
-  pub numbered : (later past : List (Entry ServerNote)) → all ≡ later ++ past → list_any is_refusal past ≡ false → EachStep IsNumbered past
-  numbered later past is none = turns.numbered most steps idle all legal begun left closed later past is first none
+  pub numbered : EachStep IsNumbered run
+  numbered = turns.numbered most steps idle all legal begun left closed (wound ++ Ended ∷ []) run whole_run first
+      (run_offers steps idle t run None begins turned_run (each_front (Rattle.script_runs.specs.Connections.IsLeft steps idle) (wound ++ Ended ∷ []) run (subst (AreLeft steps idle) whole_run left)))

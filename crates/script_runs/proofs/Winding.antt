@@ -38,7 +38,7 @@ pub record Begins (past : List (Entry ServerNote)) : Type 0 where
   pub later : List (Entry ServerNote)
   pub is : past ≡ later ++ Opened first_handle read_alone ∷ []
 
-begins_tail : (e d : Entry ServerNote) (past : List (Entry ServerNote)) → Begins (e ∷ (d ∷ past)) → Begins (d ∷ past)
+pub begins_tail : (e d : Entry ServerNote) (past : List (Entry ServerNote)) → Begins (e ∷ (d ∷ past)) → Begins (d ∷ past)
 begins_tail e d past b = by_later b.later b.is
   where
     by_later : (later : List (Entry ServerNote)) → e ∷ (d ∷ past) ≡ later ++ Opened first_handle read_alone ∷ [] → Begins (d ∷ past)
@@ -51,7 +51,7 @@ begins_tail e d past b = by_later b.later b.is
         tail : e ∷ (d ∷ past) ≡ x ∷ (later ++ Opened first_handle read_alone ∷ []) → d ∷ past ≡ later ++ Opened first_handle read_alone ∷ []
         tail q = cc
 
-begins_one : (e : Entry ServerNote) → Begins (e ∷ []) → e ≡ Opened first_handle read_alone
+pub begins_one : (e : Entry ServerNote) → Begins (e ∷ []) → e ≡ Opened first_handle read_alone
 begins_one e b = by_later b.later b.is
   where
     by_later : (later : List (Entry ServerNote)) → e ∷ [] ≡ later ++ Opened first_handle read_alone ∷ [] → e ≡ Opened first_handle read_alone
