@@ -11,5 +11,6 @@ pub mod Winding
 pub mod Taking
 pub mod Offering
 pub mod Whole
+pub mod Living
 pub mod Refusing
 pub mod Second

@@ -55,36 +55,12 @@ use Rattle.script_runs.proofs.Settling.{each_front, origin_still, opened_later, 
 use Rattle.script_runs.proofs.Winding as winding
 use Rattle.script_runs.proofs.Winding.{Begins}
 use Rattle.script_runs.proofs.Taking.{length_numbers}
+use Rattle.script_runs.proofs.Living as living
 use Rattle.script_runs.proofs.Whole as whole
 use Rattle.script_runs.proofs.Glue.{Ends, groups_lines}
 use Rattle.script_runs.proofs.Scripts.{few}
 
 -- ---- small facts
-
--- an acceptor never ends itself
-stays_accept : (gave : accepting.Gives) (before after : accepting.Progress) (item : Item ServerNote) → accepting.ServesAccept gave before item after → stays item.answer ≡ true
-stays_accept (accepting.OneEnd serial) before after item h = ap stays h.answers
-stays_accept accepting.NoEnd before after item h = ap stays h.answers
-stays_accept accepting.Failure before after item h = ap stays h.answers
-
-stays_input : (b : Bool) (before after : accepting.Progress) (item : Item ServerNote) → accepting.ServesInput b before item after → stays item.answer ≡ true
-stays_input true before after item h = stays_accept h.gave before after item h.serves
-stays_input false before after item h = ap stays h.answers
-
-stays_turn : (up : Upcall) (before after : accepting.Progress) (item : Item ServerNote) → accepting.ServesUpcall up before item after → stays item.answer ≡ true
-stays_turn Input before after item h = stays_input _ before after item h
-stays_turn Output before after item h = ap stays h.answers
-stays_turn Except before after item h = ap stays h.answers
-stays_turn (Timeout timer) before after item h = ap stays h.answers
-stays_turn (Notice kind) before after item h = ap stays h.answers
-
-course_stays : (start p : accepting.Progress) (items : List (Item ServerNote)) → accepting.Course start items p → list_all (λ item. stays item.answer) items ≡ true
-course_stays start p [] course = refl
-course_stays start p (item ∷ items) course = and_from _ _ (stays_turn item.upcall start course.0 item course.1) (course_stays course.0 p items course.2)
-
-last_stays : (xs : List (Item ServerNote)) (item : Item ServerNote) → list_all (λ item. stays item.answer) (xs ++ item ∷ []) ≡ true → stays item.answer ≡ true
-last_stays [] item h = (and_parts (stays item.answer) true h).0
-last_stays (x ∷ xs) item h = last_stays xs item (and_parts (stays x.answer) (list_all (λ item. stays item.answer) (xs ++ item ∷ [])) h).1
 
 ends_close : (xs : List (Item ServerNote)) (item : Item ServerNote) → item.answer ≡ Close → EndsInClose (xs ++ item ∷ [])
 ends_close [] item h = subst IsClose (sym h) tt
@@ -116,9 +92,6 @@ nothing_owed (Polled moment ∷ past) h = refl
 nothing_owed (Due timer ∷ past) h = refl
 nothing_owed (Ready handle kind ∷ past) h = refl
 nothing_owed (_ ∷ past) h = absurd (false≢true h)
-
-reason_own : (past : List (Entry ServerNote)) (x : ℕ) → ended_itself past x ≡ true → reason_of past x ≡ Own
-reason_own past x h = ap (λ (b : Bool). cond b Own ByRemoval) h
 
 not_refused : (past : List (Entry ServerNote)) (x : ℕ) (kept : Option EndKind) (word : EndKind) → (kept ≡ Some end.Refused → ⊥) → IsClosing (reason_of past x) kept word → word ≢ end.Refused
 not_refused past x kept word none h = by_reason (ended_itself past x) h
@@ -250,27 +223,20 @@ module _ {H E : Type 0} (means : Handling H E ServerNote) (t : Terms) (groups : 
 
   -- ---- the acceptor
 
-  listens : ListensThrough steps (had all 0) (turns.left_by most steps None all legal begun left closed 0 first).f.said
-  listens = turns.acceptor most steps None all legal begun left closed first
+  abbrev listens : (said : ServerNote) × ListensThrough steps (had all 0) said
+  listens = living.listens means t None groups journal r
 
-  listener_course : accepting.Course (accepting.at_start (Some (Rattle.script_turns.specs.Laws.unoffered (Rattle.event_script.specs.Stories.offers steps)))) (had run 0) listens.now
-  listener_course = subst (λ (h : List (Item ServerNote)). accepting.Course (accepting.at_start (Some (Rattle.script_turns.specs.Laws.unoffered (Rattle.event_script.specs.Stories.offers steps)))) h listens.now) (had_is 0) listens.course
+  listener_course : accepting.Course (accepting.at_start (Some (Rattle.script_turns.specs.Laws.unoffered (Rattle.event_script.specs.Stories.offers steps)))) (had run 0) listens.1.now
+  listener_course = living.listener_course means t None groups journal r
 
   alive_first : is_alive run 0 ≡ true
-  alive_first = ⊎_elim (λ (h : is_alive run 0 ≡ true). h)
-      (λ (h : is_alive run 0 ≡ false).
-      let l : Last ServerNote (had run 0) = ended_last most run 0 legal_run (winding.removed_itself run 0 keeps (dead_was_removed run 0 first_run h)) in
-      let s = course_stays _ listens.now (had run 0) listener_course in
-      absurd (both_ways (stays l.last.answer) (ap stays l.closes) (last_stays l.before l.last (sym (ap (list_all (λ item. stays item.answer)) l.are) ∙ s))))
-      (cases_Bool (is_alive run 0))
+  alive_first = living.alive_first means t None groups journal r
 
-  accepted_all : accepted all ≡ listens.now.taken
-  accepted_all =
-      let account = acceptor_accounts.accounts _ (had all 0) listens.now listens.course in
-      turns.counts most steps None all legal begun left closed [] all refl ∙ ap length account.notes ∙ length_numbers 0 listens.now.taken
+  accepted_all : accepted all ≡ listens.1.now.taken
+  accepted_all = living.accepted_all means t None groups journal r
 
   accepted_journal : accepted journal ≡ accepted all
-  accepted_journal = sym (count-past accepts journal) ∙ ap accepted all_is
+  accepted_journal = living.accepted_journal means t None groups journal r
 
   accepted_run : accepted run ≡ accepted all
   accepted_run =
@@ -317,24 +283,6 @@ module _ {H E : Type 0} (means : Handling H E ServerNote) (t : Terms) (groups : 
   abbrev EndsHere : ℕ → Type 0
   EndsHere c = Ends t groups most run legal_run free r.ends.at_over.idle.no_pick r.ends.at_over.idle.none_open numbered follows_run r.ends.at_over.behind r.ends.at_over.over c (had all (suc c)) (lines_of c journal)
 
-  -- a connection that was closed by another was alive at the end of the run
-  alive_if : (c : ℕ) (before later : List (Entry ServerNote)) (handle : Handle) (said : ServerNote) → all ≡ later ++ Closed handle said ∷ before → handle.0 ≡ suc c → was_opened run (suc c) ≡ true
-      → reason_of before (suc c) ≢ Own → is_alive run (suc c) ≡ true
-  alive_if c before later handle said is mine o other = ⊎_elim (λ (h : is_alive run (suc c) ≡ true). h)
-      (λ (h : is_alive run (suc c) ≡ false).
-      let gone : was_removed run (suc c) ≡ true = dead_was_removed run (suc c) o h in
-      let itself : ended_itself run (suc c) ≡ true = winding.removed_itself run (suc c) keeps gone in
-      let w = Rattle.reactor_journal.proofs.Closing.closing before handle.0 (Rattle.reactor_journal.proofs.Basics.may_fits most before (Closed handle said) (and_parts (may_follow most before (Closed handle said)) (is_legal most before) here).0) in
-      let dead : was_removed before (suc c) ≡ true = subst (λ (x : ℕ). was_removed before x ≡ true) mine (dead_was_removed before handle.0 w.0 w.1) in
-      let same : ended_itself before (suc c) ≡ ended_itself run (suc c) =
-      sym (winding.itself_still (later ++ Closed handle said ∷ []) before (suc c) dead) ∙ ap (λ (p : List (Entry ServerNote)). ended_itself p (suc c)) (append_assoc later (Closed handle said ∷ []) before ∙ sym is ∙ whole_run)
-      ∙ winding.itself_still (wound ++ Ended ∷ []) run (suc c) gone in
-      absurd (other (reason_own before (suc c) (same ∙ itself))))
-      (cases_Bool (is_alive run (suc c)))
-    where
-      here : is_legal most (Closed handle said ∷ before) ≡ true
-      here = is_legal-front most later (Closed handle said ∷ before) (sym (ap (is_legal most) is) ∙ legal)
-
   not_lacking : (c : ℕ) (word : EndKind) (said : ServerNote) (handle : Handle) → said ≡ note.Finished c word → entry_lacks (Closed handle said) ≡ false → word ≢ end.NoMemory
   not_lacking c word said handle is h = λ e. absurd (both_ways (entry_lacks (Closed handle said)) h (ap (λ (s : ServerNote). entry_lacks (Closed handle s)) (is ∙ ap (note.Finished c) e)))
 
@@ -357,7 +305,7 @@ module _ {H E : Type 0} (means : Handling H E ServerNote) (t : Terms) (groups : 
         course = through.course;
         closing = through.closing;
         opened_for = whole.opened_for means t None groups journal r c c conn.moment o (subst (λ (k : ℕ). origin_of all (suc c) ≡ Some (record { note = note.Accepted k; moment = conn.moment })) (numbers c o_all) conn.origin);
-        by_others = λ other. (alive_if c before later handle said is mine o other, had_is (suc c));
+        by_others = λ other. (living.alive_if means t None groups journal r (suc c) before later handle said is mine o other, had_is (suc c));
         by_itself = λ own none.
             let l : Last ServerNote (had before (suc c)) = ended_last most before (suc c) before_legal (own_reason before (suc c) own) in
             let closes : EndsInClose (had all (suc c)) = subst EndsInClose (sym (had_before ∙ l.are)) (ends_close l.before l.last l.closes) in
@@ -401,4 +349,4 @@ module _ {H E : Type 0} (means : Handling H E ServerNote) (t : Terms) (groups : 
   pub second_law : lines_by_connection journal ≡ grouped (steps_of groups)
   second_law =
       groups_lines t groups most run legal_run free r.ends.at_over.idle.no_pick r.ends.at_over.idle.none_open numbered follows_run r.ends.at_over.behind r.ends.at_over.over
-      journal (λ c. had all (suc c)) listens.now r.script (few steps r.script) alive_first listener_course (accepted_journal ∙ accepted_all) each_ends
+      journal (λ c. had all (suc c)) listens.1.now r.script (few steps r.script) alive_first listener_course (accepted_journal ∙ accepted_all) each_ends
