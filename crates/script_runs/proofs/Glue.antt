@@ -106,7 +106,7 @@ pauses_are : (items : List (Item ServerNote)) → list_all (λ item. stays item.
 pauses_are [] h = refl
 pauses_are (item ∷ items) h = sym (one_step (rests item) (finds_nothing item) (count rests items) (pauses_had items) (sym (kept_turn item (and_parts _ _ h).0)) (sym (pauses_are items (and_parts (stays item.answer) (list_all (λ item. stays item.answer) items) h).1)))
 
-no_close : (items : List (Item ServerNote)) → list_all (λ item. stays item.answer) items ≡ true → NoClose items
+pub no_close : (items : List (Item ServerNote)) → list_all (λ item. stays item.answer) items ≡ true → NoClose items
 no_close [] h = tt
 no_close (item ∷ items) h = (goes item.answer (and_parts _ _ h).0, no_close items (and_parts (stays item.answer) (list_all (λ item. stays item.answer) items) h).1)
   where

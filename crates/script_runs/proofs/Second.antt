@@ -275,10 +275,10 @@ module _ {H E : Type 0} (means : Handling H E ServerNote) (t : Terms) (groups : 
       above c j a o l e f = omega arith
 
   follows_run : Rattle.script_told.specs.Told.FollowsBefore (groups_told groups) run []
-  follows_run = (winding.follows_back (groups_told groups) most wound (Ended ∷ run) legal refl (subst (λ (p : List (Entry ServerNote)). Rattle.script_told.specs.Told.FollowsBefore (groups_told groups) p []) all_is r.follows)).1
+  follows_run = whole.follows_run means t None groups journal r
 
   free : list_any Rattle.report_turns.specs.Laws.holds_back run ≡ false
-  free = winding.run_free t run None begins turned_run
+  free = whole.free means t None groups journal r
 
   abbrev EndsHere : ℕ → Type 0
   EndsHere c = Ends t groups most run legal_run free r.ends.at_over.idle.no_pick r.ends.at_over.idle.none_open numbered follows_run r.ends.at_over.behind r.ends.at_over.over c (had all (suc c)) (lines_of c journal)

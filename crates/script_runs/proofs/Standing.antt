@@ -341,3 +341,48 @@ stands_first (Resumed handle ∷ past) most legal n = (tt, stands_first past mos
 stands_first (Removed handle ∷ past) most legal n = (tt, stands_first past most (and_parts _ _ legal).1 n.1)
 stands_first (Closed handle other ∷ past) most legal n = (tt, stands_first past most (and_parts _ _ legal).1 n.1)
 stands_first (Ended ∷ past) most legal n = (tt, stands_first past most (and_parts _ _ legal).1 n.1)
+
+-- ---- no two handlers are of one connection
+
+pub one_handler : (past : List (Entry ServerNote)) (c x y : ℕ) → StandsOnlyAt x (AtConnection c) past → OpenedFor past c y → y ≡ x
+one_handler [] c x y s o = absurd o
+one_handler (Opened handle mask ∷ past) c x y s (inl o) = sym o.0 ∙ eqb-true handle.0 x (s.0.0 ∙ same_end (end_offered past) c o.1)
+one_handler (Opened handle mask ∷ past) c x y s (inr o) = one_handler past c x y s.1 o
+one_handler (Scheduled timer handle first every ∷ past) c x y s o = one_handler past c x y s.1 o
+one_handler (Cancelled timer ∷ past) c x y s o = one_handler past c x y s.1 o
+one_handler (Polled moment ∷ past) c x y s o = one_handler past c x y s.1 o
+one_handler (Due timer ∷ past) c x y s o = one_handler past c x y s.1 o
+one_handler (Ready handle kind ∷ past) c x y s o = one_handler past c x y s.1 o
+one_handler (Posted handle kind from seq ∷ past) c x y s o = one_handler past c x y s.1 o
+one_handler (Stale handle from seq ∷ past) c x y s o = one_handler past c x y s.1 o
+one_handler (Started event ∷ past) c x y s o = one_handler past c x y s.1 o
+one_handler (Returned event answer said ∷ past) c x y s o = one_handler past c x y s.1 o
+one_handler (Masked handle mask ∷ past) c x y s o = one_handler past c x y s.1 o
+one_handler (Suspended handle ∷ past) c x y s o = one_handler past c x y s.1 o
+one_handler (Resumed handle ∷ past) c x y s o = one_handler past c x y s.1 o
+one_handler (Refused live fault said ∷ past) c x y s o = one_handler past c x y s.1 o
+one_handler (Removed handle ∷ past) c x y s o = one_handler past c x y s.1 o
+one_handler (Closed handle other ∷ past) c x y s o = one_handler past c x y s.1 o
+one_handler (Ended ∷ past) c x y s o = one_handler past c x y s.1 o
+
+-- a handler is of one connection
+pub conn_number : (past : List (Entry ServerNote)) (k c x : ℕ) → OpenedFor past k x → StandsOnlyAt x (AtConnection c) past → k ≡ c
+conn_number [] k c x o s = absurd o
+conn_number (Opened handle mask ∷ past) k c x (inl o) s = eqb-true k c (sym (ap (λ (e : StepEnd). is_end e (AtConnection c)) o.1) ∙ sym s.0.0 ∙ eq-eqb handle.0 x o.0)
+conn_number (Opened handle mask ∷ past) k c x (inr o) s = conn_number past k c x o s.1
+conn_number (Scheduled timer handle first every ∷ past) k c x o s = conn_number past k c x o s.1
+conn_number (Cancelled timer ∷ past) k c x o s = conn_number past k c x o s.1
+conn_number (Polled moment ∷ past) k c x o s = conn_number past k c x o s.1
+conn_number (Due timer ∷ past) k c x o s = conn_number past k c x o s.1
+conn_number (Ready handle kind ∷ past) k c x o s = conn_number past k c x o s.1
+conn_number (Posted handle kind from seq ∷ past) k c x o s = conn_number past k c x o s.1
+conn_number (Stale handle from seq ∷ past) k c x o s = conn_number past k c x o s.1
+conn_number (Started event ∷ past) k c x o s = conn_number past k c x o s.1
+conn_number (Returned event answer said ∷ past) k c x o s = conn_number past k c x o s.1
+conn_number (Masked handle mask ∷ past) k c x o s = conn_number past k c x o s.1
+conn_number (Suspended handle ∷ past) k c x o s = conn_number past k c x o s.1
+conn_number (Resumed handle ∷ past) k c x o s = conn_number past k c x o s.1
+conn_number (Refused live fault said ∷ past) k c x o s = conn_number past k c x o s.1
+conn_number (Removed handle ∷ past) k c x o s = conn_number past k c x o s.1
+conn_number (Closed handle other ∷ past) k c x o s = conn_number past k c x o s.1
+conn_number (Ended ∷ past) k c x o s = conn_number past k c x o s.1

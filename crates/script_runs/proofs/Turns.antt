@@ -108,16 +108,16 @@ module _ (most : ℕ) (steps : List ScriptStep) (idle : Option ℕ) (all : List 
   piece_in : (k : ℕ) (xs : List (Item ServerNote)) (item : Item ServerNote) (ys whole : List (Item ServerNote)) → whole ≡ (xs ++ item ∷ []) ++ ys → AllByRecursion (IsPieceOf k) whole → IsPieceOf k item
   piece_in k xs item ys whole is h = all_last (IsPieceOf k) xs item ys (subst (AllByRecursion (IsPieceOf k)) is h)
 
-  listen_in : (xs : List (Item ServerNote)) (item : Item ServerNote) (ys whole : List (Item ServerNote)) → whole ≡ (xs ++ item ∷ []) ++ ys → AllByRecursion Listens whole → Listens item
+  pub listen_in : (xs : List (Item ServerNote)) (item : Item ServerNote) (ys whole : List (Item ServerNote)) → whole ≡ (xs ++ item ∷ []) ++ ys → AllByRecursion Listens whole → Listens item
   listen_in xs item ys whole is h = all_last Listens xs item ys (subst (AllByRecursion Listens) is h)
 
-  conn_note : (c : ℕ) (event : ℕ) (answer : Answer) (said : ServerNote) (later past : List (Entry ServerNote)) → all ≡ later ++ Returned event answer said ∷ past → (t : settling.Turn most all legal event answer said past (suc c))
+  pub conn_note : (c : ℕ) (event : ℕ) (answer : Answer) (said : ServerNote) (later past : List (Entry ServerNote)) → all ≡ later ++ Returned event answer said ∷ past → (t : settling.Turn most all legal event answer said past (suc c))
       → (o : was_opened all (suc c) ≡ true) → IsPieceOf (connection c o).number t.item
   conn_note c event answer said later past is t o =
       let talks = connection c o in
       piece_in talks.number (had past (suc c)) t.item t.more (had all (suc c)) t.among (accounts talks.number idle talks.moment _ (had all (suc c)) talks.talks.now talks.talks.course).notes
 
-  opened_all : (later past : List (Entry ServerNote)) (e : Entry ServerNote) (x : ℕ) → all ≡ later ++ e ∷ past → was_opened past x ≡ true → was_opened all x ≡ true
+  pub opened_all : (later past : List (Entry ServerNote)) (e : Entry ServerNote) (x : ℕ) → all ≡ later ++ e ∷ past → was_opened past x ≡ true → was_opened all x ≡ true
   opened_all later past e x is o = ap (λ (p : List (Entry ServerNote)). was_opened p x) is ∙ opened_later later (e ∷ past) x (or_right (opens x e) (was_opened past x) o)
     where
       or_right : (b c : Bool) → c ≡ true → (b || c) ≡ true

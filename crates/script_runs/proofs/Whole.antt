@@ -140,3 +140,10 @@ module _ {H E : Type 0} (means : Handling H E ServerNote) (t : Terms) (idle : Op
   pub numbered : EachStep IsNumbered run
   numbered = turns.numbered most steps idle all legal begun left closed (wound ++ Ended ∷ []) run whole_run first
       (run_offers steps idle t run None begins turned_run (each_front (Rattle.script_runs.specs.Connections.IsLeft steps idle) (wound ++ Ended ∷ []) run (subst (AreLeft steps idle) whole_run left)))
+
+  -- it follows its script, and holds nothing back
+  pub follows_run : Rattle.script_told.specs.Told.FollowsBefore (groups_told groups) run []
+  follows_run = (winding.follows_back (groups_told groups) most wound (Ended ∷ run) legal refl (subst (λ (p : List (Entry ServerNote)). Rattle.script_told.specs.Told.FollowsBefore (groups_told groups) p []) all_is r.follows)).1
+
+  pub free : list_any Rattle.report_turns.specs.Laws.holds_back run ≡ false
+  free = winding.run_free t run None begins turned_run
