@@ -186,5 +186,5 @@ module _ {H E : Type 0} (means : Handling H E ServerNote) (t : Terms) (idle : Op
         let whole_sum : sum_by (took_for c) (e ∷ l) ≡ took_for c e + sum_by (took_for c) l = sum_by-cons (took_for c) e l in
         omega (arith, split, one, none, rest, whole_sum)
 
-    took_all_in_all : sum_by (took_for c) journal ≡ sum_by took_in (had all x)
+    pub took_all_in_all : sum_by (took_for c) journal ≡ sum_by took_in (had all x)
     took_all_in_all = sym (sum_reverse journal) ∙ ap (sum_by (took_for c)) (whole.all_is means t idle groups journal r) ∙ took_so_far [] all refl
