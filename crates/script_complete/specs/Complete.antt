@@ -1,6 +1,6 @@
 -- What a run over a script has done where it is over.
-use Rattle.std.specs.Prelude.{◌≡◌, if◌then◌else◌, ℕ, Bool, List, [], ◌∷◌, ◌++◌, length, Option}
-use Rattle.std.specs.List.{sum_by}
+use Rattle.std.specs.Prelude.{◌≡◌, if◌then◌else◌, ℕ, Bool, false, not, List, [], ◌∷◌, ◌++◌, length, Option}
+use Rattle.std.specs.List.{sum_by, list_any}
 use Rattle.ev_types.specs.declared.upcall.Handle.{Handle}
 use Rattle.ev_base.specs.Terms.{Terms}
 use Rattle.reactor_journal.specs.declared.entry.Entry.{Entry}
@@ -11,7 +11,10 @@ use Rattle.log_lines.specs.declared.end_kind.EndKind.TheVariants as end
 use Rattle.log_handler.specs.declared.note.ServerNote.{ServerNote}
 use Rattle.log_handler.specs.declared.note.ServerNote.TheVariants as note
 use Rattle.log_handler.specs.Laws.{took_of}
-use Rattle.event_script.specs.Script.{ScriptStep, ScriptGroup, steps_of, opened}
+use Rattle.ev_base.specs.Playing.{is_at}
+use Rattle.reactor_journal.specs.Past.{past_of}
+use Rattle.event_script.specs.Script.{ScriptStep, ScriptGroup, steps_of, opened, groups_told}
+use Rattle.script_told.specs.Told.{told}
 use Rattle.event_script.specs.Stories.{bytes_of}
 use Rattle.script_runs.specs.Connections.{accepted, is_note_of}
 use Rattle.script_runs.specs.Laws.{RunsOver}
@@ -40,3 +43,14 @@ AllBytesAreTaken means =
     (t : Terms) (idle : Option ℕ) (groups : List ScriptGroup) (journal : List (Entry ServerNote)) → RunsOver means t idle groups journal
     → (before after : List (Entry ServerNote)) (handle : Handle) (c : ℕ) (word : EndKind)
     → journal ≡ before ++ entry.Closed handle (note.Finished c word) ∷ after → TookAllAs word c journal (steps_of groups)
+
+-- no group is left, and no step but those of ends that were closed or refused
+pub record LeavesNoStep (groups : List ScriptGroup) (past : List (Entry ServerNote)) : Type 0 where
+  pub no_group : (told (groups_told groups) past).groups ≡ []
+  pub no_step : list_any (λ step. not (is_at (told (groups_told groups) past).gone step)) (told (groups_told groups) past).held ≡ false
+
+-- so it is where the run is over, before all handlers that are left are closed
+abbrev pub NoStepIsLeft : {H E : Type 0} → Handling H E ServerNote → Type 0
+NoStepIsLeft means =
+    (t : Terms) (idle : Option ℕ) (groups : List ScriptGroup) (journal : List (Entry ServerNote)) → (r : RunsOver means t idle groups journal)
+    → LeavesNoStep groups (past_of r.ends.run)

@@ -69,7 +69,7 @@ one_step false false n k e f = omega arith
 one_step true false n k e f = absurd (cc e)
 one_step false true n k e f = absurd (cc e)
 
-conn_steps : (c : ℕ) (steps : List ScriptStep) → steps_at (AtConnection c) (map report_step steps) ≡ steps_on c steps
+pub conn_steps : (c : ℕ) (steps : List ScriptStep) → steps_at (AtConnection c) (map report_step steps) ≡ steps_on c steps
 conn_steps c [] = refl
 conn_steps c (step ∷ steps) = one_step _ _ _ _ (conn_step c step) (conn_steps c steps)
 
@@ -77,7 +77,7 @@ listener_steps : (steps : List ScriptStep) → steps_at AtListener (map report_s
 listener_steps [] = refl
 listener_steps (step ∷ steps) = one_step _ _ _ _ (listener_step step) (listener_steps steps)
 
-told_steps : (groups : List ScriptGroup) → all_steps (groups_told groups) ≡ map report_step (steps_of groups)
+pub told_steps : (groups : List ScriptGroup) → all_steps (groups_told groups) ≡ map report_step (steps_of groups)
 told_steps [] = refl
 told_steps (g ∷ groups) = ap (λ (s : List Step). map report_step g.steps ++ s) (told_steps groups) ∙ map_both g.steps (steps_of groups)
   where

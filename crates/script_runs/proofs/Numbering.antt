@@ -9,7 +9,7 @@ use Rattle.ev_base.specs.Terms.{StepEnd, AtListener, AtConnection}
 use Rattle.reactor_journal.specs.declared.entry.Entry.{Entry}
 use Rattle.reactor_journal.specs.declared.entry.Entry.TheVariants.{Opened, Scheduled, Cancelled, Polled, Due, Ready, Posted, Stale, Started, Returned, Masked, Suspended, Resumed, Refused, Removed, Closed, Ended}
 use Rattle.reactor_journal.specs.Past.{count, opened, offered_here, turn_settled}
-use Rattle.reactor_journal.specs.Follow.{may_follow, is_legal}
+use Rattle.reactor_journal.specs.Follow.{may_follow, is_legal, follows_ready}
 use Rattle.reactor_journal.proofs.Basics.{may_fits}
 use Rattle.reactor_model.specs.Handling.{Deed}
 use Rattle.acceptor.specs.Servers.{read_alone, is_accepted as says_accepted}
@@ -41,6 +41,14 @@ IsNumbered (d ∷ past) e = Unit {0}
 -- whether a connection that was accepted is still to be registered
 abbrev pub owed : List (Entry ServerNote) → ℕ
 owed past = cond (is_accepted (note_settled past)) 1 0
+
+-- behind a wait none is
+pub nothing_owed : (past : List (Entry ServerNote)) → follows_ready past ≡ true → owed past ≡ 0
+nothing_owed [] h = absurd (false≢true h)
+nothing_owed (Polled moment ∷ past) h = refl
+nothing_owed (Due timer ∷ past) h = refl
+nothing_owed (Ready handle kind ∷ past) h = refl
+nothing_owed (_ ∷ past) h = absurd (false≢true h)
 
 -- the turn that was just settled has the number of the last connection that was accepted
 abbrev pub NumberOf : Option ServerNote → List (Entry ServerNote) → Type 0
@@ -80,7 +88,7 @@ settled_number (_ ∷ past) n = tt
 
 -- ---- handles and connections
 
-abbrev TurnNext : List (Entry ServerNote) → Entry ServerNote → Type 0
+abbrev pub TurnNext : List (Entry ServerNote) → Entry ServerNote → Type 0
 TurnNext past e = Installs says_accepted 1 past (Some e)
 
 says_same : (said : ServerNote) → is_accepted (Some said) ≡ true → says_accepted said ≡ true
@@ -115,7 +123,7 @@ none_owed true h = absurd (h refl)
 none_owed false h = refl
 
 -- where the next entry neither installs nor closes, no connection is owed
-not_owed : (past : List (Entry ServerNote)) (e : Entry ServerNote) → EachStep IsNumbered past → TurnNext past e → is_install_or_close (Some e) ≡ false → owed past ≡ 0
+pub not_owed : (past : List (Entry ServerNote)) (e : Entry ServerNote) → EachStep IsNumbered past → TurnNext past e → is_install_or_close (Some e) ≡ false → owed past ≡ 0
 not_owed [] e n turn plain = refl
 not_owed (Returned event answer said ∷ []) e n turn plain = absurd n.0
 not_owed (Returned event answer said ∷ (d ∷ past)) e n turn plain =
@@ -128,7 +136,7 @@ not_owed (Closed handle other ∷ (_ ∷ past)) e n turn plain = refl
 not_owed (_ ∷ past) e n turn plain = refl
 
 -- behind a `Closed` as much is owed as before it
-closed_owed : (past : List (Entry ServerNote)) (handle : Handle) (other : ServerNote) → EachStep IsNumbered past → TurnNext past (Closed handle other) → owed (Closed handle other ∷ past) ≡ owed past
+pub closed_owed : (past : List (Entry ServerNote)) (handle : Handle) (other : ServerNote) → EachStep IsNumbered past → TurnNext past (Closed handle other) → owed (Closed handle other ∷ past) ≡ owed past
 closed_owed [] handle other n turn = refl
 closed_owed (Returned event answer said ∷ past) handle other n turn = refl
 closed_owed (Closed handle' other' ∷ []) handle other n turn = refl

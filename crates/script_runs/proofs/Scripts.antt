@@ -9,7 +9,7 @@ use Rattle.event_script.specs.Script.{ScriptStep, Opens, Brings, Shuts, Fails, L
 use Rattle.script_turns.specs.Laws.{is_orderly}
 
 -- the last step may follow those before it
-step_parts : (step : ScriptStep) (past : List ScriptStep) → are_steps (step ∷ past) ≡ true → (may_follow past step ≡ true) × (are_steps past ≡ true)
+pub step_parts : (step : ScriptStep) (past : List ScriptStep) → are_steps (step ∷ past) ≡ true → (may_follow past step ≡ true) × (are_steps past ≡ true)
 step_parts step past h =
     let parts = and_parts (nat_lt (length past) most_steps && may_follow past step) (are_steps past) h in
     ((and_parts (nat_lt (length past) most_steps) (may_follow past step) parts.0).1, parts.1)
@@ -82,7 +82,7 @@ opened_append (Shuts conn ∷ a) b = opened_append a b
 opened_append (Fails conn ∷ a) b = opened_append a b
 opened_append (ListenerFails ∷ a) b = opened_append a b
 
-opened_reverse : (l : List ScriptStep) → opened (reverse l) ≡ opened l
+pub opened_reverse : (l : List ScriptStep) → opened (reverse l) ≡ opened l
 opened_reverse [] = refl
 opened_reverse (s ∷ l) = ap opened (reverse-append (s ∷ []) l) ∙ opened_append (reverse l) (s ∷ []) ∙ swap (opened (reverse l)) (opened l) (opened (s ∷ [])) (opened_reverse l) ∙ sym (opened_append (s ∷ []) l)
   where

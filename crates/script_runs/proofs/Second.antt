@@ -48,7 +48,7 @@ use Rattle.script_runs.specs.Steps.{EachStep}
 use Rattle.script_runs.specs.Runs.{first_handle}
 use Rattle.script_runs.specs.Laws.{RunsOver}
 use Rattle.script_runs.proofs.Handles.{IsBegun, Offered, offered}
-use Rattle.script_runs.proofs.Numbering.{IsNumbered, Balanced, balanced, accepted_number, settled_number, owed, refusals}
+use Rattle.script_runs.proofs.Numbering.{IsNumbered, Balanced, balanced, accepted_number, settled_number, owed, nothing_owed, refusals}
 use Rattle.script_runs.proofs.Standing.{OpenedFor, opened_is, opened_for_later, end_of_origin}
 use Rattle.script_runs.proofs.Turns as turns
 use Rattle.script_runs.proofs.Settling.{each_front, origin_still, opened_later, offered_note}
@@ -85,13 +85,6 @@ lines_reverse c [] = refl
 lines_reverse c (e ∷ past) =
     ap (lines_of c) (reverse-append (e ∷ []) past) ∙ flat_map-append (lines_in c) (reverse past) (e ∷ []) ∙ ap (λ (l : List ℕ). lines_of c (reverse past) ++ l) (append-nil (lines_in c e))
     ∙ ap (λ (l : List ℕ). l ++ lines_in c e) (lines_reverse c past)
-
-nothing_owed : (past : List (Entry ServerNote)) → follows_ready past ≡ true → owed past ≡ 0
-nothing_owed [] h = absurd (false≢true h)
-nothing_owed (Polled moment ∷ past) h = refl
-nothing_owed (Due timer ∷ past) h = refl
-nothing_owed (Ready handle kind ∷ past) h = refl
-nothing_owed (_ ∷ past) h = absurd (false≢true h)
 
 not_refused : (past : List (Entry ServerNote)) (x : ℕ) (kept : Option EndKind) (word : EndKind) → (kept ≡ Some end.Refused → ⊥) → IsClosing (reason_of past x) kept word → word ≢ end.Refused
 not_refused past x kept word none h = by_reason (ended_itself past x) h

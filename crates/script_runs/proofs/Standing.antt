@@ -56,15 +56,15 @@ end_of_origin past o c h is = ap (λ (x : Option (Origin ServerNote)). end_of_se
 
 -- the turn that accepted a connection stands last, or before a `Closed` that does
 pub record Accepts (past : List (Entry ServerNote)) : Type 0 where
-  k : ℕ
-  offers : end_offered past ≡ AtConnection k
-  before : List (Entry ServerNote)
-  all_before : accepted before ≡ k
-  legal_before : (most : ℕ) → is_legal most past ≡ true → is_legal most before ≡ true
-  numbered : EachStep IsNumbered before
-  same_opened : opened past ≡ opened before
-  stands : (x : ℕ) (end : StepEnd) → StandsOnlyAt x end before → StandsOnlyAt x end past
-  opened_for : (c x : ℕ) → OpenedFor past c x → OpenedFor before c x
+  pub k : ℕ
+  pub offers : end_offered past ≡ AtConnection k
+  pub before : List (Entry ServerNote)
+  pub all_before : accepted before ≡ k
+  pub legal_before : (most : ℕ) → is_legal most past ≡ true → is_legal most before ≡ true
+  pub numbered : EachStep IsNumbered before
+  pub same_opened : opened past ≡ opened before
+  pub stands : (x : ℕ) (end : StepEnd) → StandsOnlyAt x end before → StandsOnlyAt x end past
+  pub opened_for : (c x : ℕ) → OpenedFor past c x → OpenedFor before c x
 
 pub accepts_last : (past : List (Entry ServerNote)) → EachStep IsNumbered past → is_accepted (note_settled past) ≡ true → Accepts past
 accepts_last [] n h = absurd (false≢true h)
@@ -180,7 +180,7 @@ for_accepted (Removed handle ∷ past) c x n o = for_accepted past c x n.1 o
 for_accepted (Closed handle other ∷ past) c x n o = for_accepted past c x n.1 o
 for_accepted (Ended ∷ past) c x n o = for_accepted past c x n.1 o
 
-opened_before : (past : List (Entry ServerNote)) (c x most : ℕ) → is_legal most past ≡ true → OpenedFor past c x → x < opened past
+pub opened_before : (past : List (Entry ServerNote)) (c x most : ℕ) → is_legal most past ≡ true → OpenedFor past c x → x < opened past
 opened_before [] c x most legal o = absurd o
 opened_before (Opened handle mask ∷ past) c x most legal (inl o) = let is = opened_is most past handle mask legal in let same = o.0 in omega (arith, is, same)
 opened_before (Opened handle mask ∷ past) c x most legal (inr o) = let l = opened_before past c x most (and_parts _ _ legal).1 o in omega (arith, l)

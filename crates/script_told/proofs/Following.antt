@@ -88,9 +88,9 @@ same_come : (n m c t all : ℕ) → m ≡ n → c + (t + n) ≡ all → c + (t +
 same_come n m c t all e f = omega arith
 
 -- no group is left, and nothing that is held can be reported
-record NothingLeft (p : Playing) : Type 0 where
-  groups : p.groups ≡ []
-  held : given p.seats most_reports p.held ≡ []
+pub record NothingLeft (p : Playing) : Type 0 where
+  pub groups : p.groups ≡ []
+  pub held : given p.seats most_reports p.held ≡ []
 
 -- ---- entry by entry
 
@@ -330,7 +330,7 @@ module _ (groups : List ScriptGroup) (most x : ℕ) (end : StepEnd) where
 
   -- ---- the end
 
-  at_end : (past : List (Entry ServerNote)) → is_legal most past ≡ true → follows_ready past ≡ true → is_over (last_wait start past) ≡ true → NothingLeft (told start past)
+  pub at_end : (past : List (Entry ServerNote)) → is_legal most past ≡ true → follows_ready past ≡ true → is_over (last_wait start past) ≡ true → NothingLeft (told start past)
   at_end [] legal ready over = absurd (false≢true ready)
   at_end (Polled moment ∷ past) legal ready over = let o = over_leaves (time_left past) (told start past) over in record { groups = o.groups; held = o.held }
   at_end (Due timer ∷ past) legal ready over =
@@ -353,3 +353,10 @@ module _ (groups : List ScriptGroup) (most x : ℕ) (end : StepEnd) where
     where
       sums : (c h g all : ℕ) → h ≡ 0 → g ≡ 0 → c + (0 + (h + g)) ≡ all → c ≡ all
       sums c h g all e f k = omega arith
+
+  -- and none that is held is at its end
+  pub nothing_held : (past : List (Entry ServerNote)) → is_legal most past ≡ true → list_any holds_back past ≡ false → is_alive past x ≡ true → StandsOnlyAt x end past → follows_ready past ≡ true
+      → is_over (last_wait start past) ≡ true → steps_at end (told start past).held ≡ 0
+  nothing_held past legal free alive only ready over =
+      let s = standing past (record { legal = legal; free = free; lives = alive_not_removed past x alive; only = only }) in
+      none_held end (told start past).seats 255 (told start past).held (s.seated (alive_was_opened past x alive)) s.sees.held (at_end past legal ready over).held
