@@ -1,32 +1,30 @@
 -- No connection is accepted but those of the script: the acceptor, closed at last, had its turns over the listener's story.
-use Rattle.std.proofs.Common.{◌≡◌, ◌∙◌, ◌<◌, ◌≤◌, ◌+◌, ◌⊎◌, inl, inr, ℕ, zero, suc, Bool, true, false, List, [], ◌∷◌, ◌++◌, length, Option, Some, None, refl, sym, subst, ap, arith, length-append, append_assoc, ◌||◌}
+use Rattle.std.proofs.Common.{◌≡◌, ◌∙◌, ◌<◌, ◌≤◌, ◌+◌, inl, inr, ℕ, true, List, [], ◌∷◌, ◌++◌, length, Option, Some, refl, sym, subst, ap, arith, length-append, append_assoc}
 use Rattle.std.specs.Prelude.{flat_map}
 use Rattle.std.specs.List.{AllByRecursion}
 use Rattle.std.proofs.lemmas.Grind.{flat_map-append}
 use Rattle.ev_types.specs.declared.upcall.Answer.{Answer}
-use Rattle.ev_base.specs.Story.{Offer, Connection, NoneThere, OneFailure, Offering}
+use Rattle.ev_base.specs.Story.{Offering}
 use Rattle.ev_base.specs.End.{EndFacts}
 use Rattle.ev_base.specs.Terms.{Terms}
 use Rattle.reactor_journal.specs.Event.{Item}
 use Rattle.reactor_journal.specs.declared.entry.Entry.{Entry}
-use Rattle.reactor_journal.specs.declared.entry.Entry.TheVariants.{Opened, Scheduled, Cancelled, Polled, Due, Ready, Posted, Stale, Started, Returned, Masked, Suspended, Resumed, Refused, Removed, Closed, Ended}
-use Rattle.reactor_journal.specs.Past.{had, opens, origin_of, reason_of, was_opened, was_closed}
+use Rattle.reactor_journal.specs.declared.entry.Entry.TheVariants.{Returned, Closed}
+use Rattle.reactor_journal.specs.Past.{had, origin_of, reason_of, was_opened, was_closed}
 use Rattle.reactor_journal.specs.Follow.{is_legal}
 use Rattle.acceptor.specs.Accepting as accepting
-use Rattle.acceptor.specs.Laws.{number_in, number_accepted, numbers_from, serials_of, TakesOffers}
-use Rattle.acceptor.specs.Acceptors.{AcceptorGone}
+use Rattle.acceptor.specs.Laws.{number_in, number_accepted, numbers_from, TakesOffers}
 use Rattle.acceptor.specs.Servers.{ServerGone}
 use Rattle.acceptor.proofs.Accounts as acceptor_accounts
 use Rattle.log_handler.specs.declared.note.ServerNote.{ServerNote}
 use Rattle.log_handler.specs.declared.note.ServerNote.TheVariants as note
-use Rattle.log_handler.specs.Connections.{ConnectionGone}
 use Rattle.log_handler.specs.Laws.{IsPieceOf}
 use Rattle.log_handler.proofs.Accounts.{accounts}
-use Rattle.event_script.specs.Script.{ScriptStep, Opens, Brings, Shuts, Fails, ListenerFails, opened}
+use Rattle.event_script.specs.Script.{ScriptStep, opened}
 use Rattle.event_script.specs.Stories.{offers}
 use Rattle.script_turns.specs.Laws.{unoffered}
 use Rattle.script_runs.specs.Steps.{EachStep}
-use Rattle.script_runs.proofs.Handles.{Found, found, had_found}
+use Rattle.script_runs.proofs.Handles.{found, had_found}
 use Rattle.script_runs.proofs.Notes.{all_last, number_next}
 use Rattle.script_runs.proofs.Taking.{length_numbers, few_taken}
 use Rattle.script_runs.proofs.Settling as settling

@@ -1,5 +1,5 @@
 -- From the calls of a net to what its journal follows.
-use Rattle.std.proofs.Common.{◌≡◌, ◌∙◌, ◌-◌, ◌&&◌, ℕ, Bool, true, false, cond, List, [], ◌∷◌, map, Option, Some, None, option_map, refl, sym, subst, ap}
+use Rattle.std.proofs.Common.{◌≡◌, ◌∙◌, ◌-◌, ℕ, Bool, true, cond, List, [], ◌∷◌, map, Option, Some, None, option_map, refl, subst, ap}
 use Rattle.std.specs.List.{filter}
 use Rattle.std.proofs.lemmas.Bool.{and_parts}
 use Rattle.ev_base.specs.Terms.{Terms, Group}
@@ -10,10 +10,10 @@ use Rattle.ev_base.specs.declared.net.Waited.TheVariants as waited_by
 use Rattle.reactor_journal.specs.declared.entry.Entry.{Entry}
 use Rattle.reactor_journal.specs.declared.entry.Entry.TheVariants.{Opened, Scheduled, Cancelled, Polled, Due, Ready, Posted, Stale, Started, Returned, Masked, Suspended, Resumed, Refused, Removed, Closed, Ended}
 use Rattle.reactor_journal.specs.Past as P
-use Rattle.reactor_journal.specs.Follow.{may_follow, is_legal}
+use Rattle.reactor_journal.specs.Follow.{is_legal}
 use Rattle.reactor_summary.specs.declared.parts.ArmedTimer.{ArmedTimer}
 use Rattle.reactor_summary.specs.Summary.{Summary, summary}
-use Rattle.reactor_summary.specs.Tells.{Tells, armed_timer}
+use Rattle.reactor_summary.specs.Tells.{armed_timer}
 use Rattle.reactor_summary.proofs.Told as summary_told
 use Rattle.reactor_summary.proofs.Reading.{wanted_is}
 use Rattle.reactor_model.specs.Handling.{Handling, Names}
@@ -21,10 +21,9 @@ use Rattle.reactor_core.specs.Calls as C
 use Rattle.reactor_core.specs.Calls.{AreCalls, IsWait}
 use Rattle.log_handler.specs.declared.note.ServerNote.{ServerNote}
 use Rattle.ev_base.specs.Playing.{Playing, Plays, IsAnswer, played, waited, attached, mask_set, retired, turned_away, end_of_serial}
-use Rattle.script_told.specs.Told.{told, told_after, time_left, first_deadline, end_offered, number_accepted, is_taken, IsTold, IsAnsweredAt, FollowsBefore, taken_before}
+use Rattle.script_told.specs.Told.{told, time_left, first_deadline, number_accepted, is_taken, IsTold, IsAnsweredAt, FollowsBefore}
 use Rattle.ev_base.specs.Story.{Offer}
 use Rattle.reactor_journal.specs.Event.{Origin}
-use Rattle.log_handler.specs.Connections.{serial_named}
 use Rattle.script_calls.specs.Laws.{NamesAsServer}
 
 -- ---- the summary tells the time and the reports that are taken

@@ -1,17 +1,17 @@
 -- What a connection has taken that was closed in a run over a script.
-use Rattle.std.proofs.Common.{ℕ, zero, suc, ◌≡◌, ◌≢◌, ◌∙◌, ◌+◌, ◌⊎◌, inl, inr, Bool, true, false, cond, ◌&&◌, ◌||◌, List, [], ◌∷◌, ◌++◌, length, refl, sym, ap, subst, arith, Option, Some, None, ⊎_elim, append_assoc, append-nil}
+use Rattle.std.proofs.Common.{ℕ, zero, suc, ◌≡◌, ◌≢◌, ◌∙◌, Bool, true, false, cond, ◌||◌, List, [], ◌∷◌, ◌++◌, length, refl, sym, ap, subst, Option, Some, None, append_assoc, append-nil}
 use Rattle.std.specs.List.{list_all, sum_by}
-use Rattle.std.proofs.lemmas.Bool.{false≢true, and_parts, both_ways, cases_Bool, eq-eqb}
+use Rattle.std.proofs.lemmas.Bool.{eq-eqb}
 use Rattle.ev_types.specs.declared.upcall.Handle.{Handle}
 use Rattle.ev_types.specs.declared.upcall.Why.{Why}
-use Rattle.ev_types.specs.declared.upcall.Why.TheVariants.{Own, Removed as ByRemoval, Refused as ByRefusal}
+use Rattle.ev_types.specs.declared.upcall.Why.TheVariants.{Own, Removed as ByRemoval}
 use Rattle.ev_base.specs.Terms.{Terms}
-use Rattle.reactor_journal.specs.Event.{Item, Origin}
+use Rattle.reactor_journal.specs.Event.{Origin}
 use Rattle.reactor_journal.specs.declared.entry.Entry.{Entry}
 use Rattle.reactor_journal.specs.declared.entry.Entry.TheVariants.{Closed, Ended}
-use Rattle.reactor_journal.specs.Past.{past_of, had, origin_of, reason_of, ended_itself, is_alive, was_opened, was_closed}
-use Rattle.reactor_journal.specs.Follow.{may_follow, is_legal}
-use Rattle.reactor_journal.proofs.Turning.{past_split, is_legal-front}
+use Rattle.reactor_journal.specs.Past.{past_of, had, origin_of, reason_of, ended_itself, was_opened, was_closed}
+use Rattle.reactor_journal.specs.Follow.{is_legal}
+use Rattle.reactor_journal.proofs.Turning.{past_split}
 use Rattle.reactor_turns.specs.Laws.{stays}
 use Rattle.reactor_turns.proofs.Turns.{had_stays}
 use Rattle.reactor_model.specs.Handling.{Handling}
@@ -28,7 +28,7 @@ use Rattle.event_script.specs.Script.{ScriptGroup, steps_of}
 use Rattle.event_script.specs.Stories.{bytes_of, story}
 use Rattle.script_turns.specs.Laws.{ReadToEnd, pauses_had, steps_on, untold}
 use Rattle.script_turns.proofs.Saying.{takes_all_bytes}
-use Rattle.script_runs.specs.Connections.{IsLeft, Leaves, LeavesOffered, ListensThrough, TalksThrough}
+use Rattle.script_runs.specs.Connections.{IsLeft, Leaves, LeavesOffered}
 use Rattle.script_runs.specs.Laws.{RunsOver}
 use Rattle.script_runs.specs.Steps.{EachStep}
 use Rattle.script_runs.proofs.Glue as glue

@@ -1,8 +1,8 @@
 -- Each connection that was accepted was registered or refused.
-use Rattle.std.proofs.Common.{ℕ, zero, suc, ◌≡◌, ◌≢◌, ◌∙◌, ◌+◌, ◌≤◌, ◌<◌, ◌⊎◌, inl, inr, Bool, true, false, cond, List, [], ◌∷◌, refl, sym, ap, subst, arith, Option, Some, None, ⊎_elim}
-use Rattle.std.proofs.lemmas.Bool.{false≢true, cases_eq}
+use Rattle.std.proofs.Common.{ℕ, suc, ◌≡◌, ◌∙◌, ◌+◌, ◌<◌, ◌⊎◌, inl, inr, Bool, true, List, [], ◌∷◌, refl, ap, arith, Option, Some, ⊎_elim}
+use Rattle.std.proofs.lemmas.Bool.{cases_eq}
 use Rattle.ev_types.specs.declared.upcall.Upcall.{Upcall}
-use Rattle.ev_base.specs.Terms.{StepEnd, AtListener, AtConnection}
+use Rattle.ev_base.specs.Terms.{AtConnection}
 use Rattle.reactor_journal.specs.declared.entry.Entry.{Entry}
 use Rattle.reactor_journal.specs.declared.entry.Entry.TheVariants.{Opened, Scheduled, Cancelled, Polled, Due, Ready, Posted, Stale, Started, Returned, Masked, Suspended, Resumed, Refused, Removed, Closed, Ended}
 use Rattle.reactor_model.specs.Handling.{Deed}
@@ -13,7 +13,7 @@ use Rattle.script_told.specs.Told.{end_offered}
 use Rattle.script_runs.specs.Connections.{accepted}
 use Rattle.script_runs.specs.Runs.{is_accepted, note_settled}
 use Rattle.script_runs.specs.Steps.{EachStep}
-use Rattle.script_runs.proofs.ByTurns.{TurnsBefore, is_install_or_close}
+use Rattle.script_runs.proofs.ByTurns.{TurnsBefore}
 use Rattle.script_runs.proofs.Numbering.{IsNumbered, TurnNext, owed, not_owed, closed_owed}
 use Rattle.script_runs.proofs.Standing.{OpenedFor, accepts_last, accepted_total}
 use Rattle.script_complete.proofs.Playing.{RefusedFor}

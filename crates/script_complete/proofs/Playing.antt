@@ -1,16 +1,16 @@
 -- How far a script was played: what is left of its steps, and which ends are gone.
 use Rattle.std.proofs.Common.{ℕ, zero, suc, ◌≡◌, ◌≢◌, ◌∙◌, ◌==◌, ◌+◌, ◌≤◌, ◌<◌, ◌⊎◌, inl, inr, Bool, true, false, not, cond, ◌&&◌, ◌||◌, List, [], ◌∷◌, ◌++◌, map, refl, sym, ap, subst, arith, Option, Some, None, ⊎_elim}
 use Rattle.std.specs.List.{list_any, filter}
-use Rattle.std.proofs.lemmas.Bool.{false≢true, and_parts, and_from, or_parts, or_cases, both_ways, cases_Bool, eqb-true, eq-eqb}
+use Rattle.std.proofs.lemmas.Bool.{false≢true, and_parts, and_from, or_cases, both_ways, cases_Bool, eqb-true, eq-eqb}
 use Rattle.ev_types.specs.declared.upcall.Handle.{Handle}
 use Rattle.ev_types.specs.declared.upcall.Mask.{Mask}
 use Rattle.ev_base.specs.Terms.{StepEnd, AtListener, AtConnection, Step, Group}
-use Rattle.ev_base.specs.Playing.{Playing, Seat, Answered, is_end, is_at, without, dropped, has_handle, masked, waited, by_held, of_held, of_groups, of_group, of_time, is_late, given, left, leaves, report_at, most_reports, attached, mask_set, retired, turned_away}
+use Rattle.ev_base.specs.Playing.{Playing, Seat, is_end, is_at, without, dropped, has_handle, masked, waited, by_held, of_groups, of_group, of_time, is_late, given, left, leaves, report_at, most_reports}
 use Rattle.ev_base.specs.declared.net.Report.{Report}
 use Rattle.reactor_journal.specs.declared.entry.Entry.{Entry}
 use Rattle.reactor_journal.specs.declared.entry.Entry.TheVariants.{Opened, Scheduled, Cancelled, Polled, Due, Ready, Posted, Stale, Started, Returned, Masked, Suspended, Resumed, Refused, Removed, Closed, Ended}
 use Rattle.reactor_journal.specs.Past.{opened, was_closed, closes}
-use Rattle.reactor_journal.specs.Follow.{may_follow, is_legal}
+use Rattle.reactor_journal.specs.Follow.{is_legal}
 use Rattle.reactor_journal.proofs.Alive.{opened_below}
 use Rattle.reactor_journal.proofs.Closing.{closed_gone}
 use Rattle.reactor_journal.proofs.Turning.{count-append}

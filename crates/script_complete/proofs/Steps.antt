@@ -1,15 +1,15 @@
 -- Which steps are left where a run over a script is over.
-use Rattle.std.proofs.Common.{ℕ, zero, suc, ◌≡◌, ◌≢◌, ◌∙◌, ◌==◌, ◌+◌, ◌≤◌, ◌<◌, ◌⊎◌, inl, inr, Bool, true, false, not, cond, ◌&&◌, ◌||◌, List, [], ◌∷◌, ◌++◌, length, map, reverse, refl, sym, ap, subst, arith, Option, Some, None, ⊎_elim}
+use Rattle.std.proofs.Common.{ℕ, suc, ◌≡◌, ◌∙◌, ◌==◌, ◌+◌, ◌≤◌, ◌<◌, ◌⊎◌, inl, inr, Bool, true, false, not, cond, ◌||◌, List, [], ◌∷◌, ◌++◌, length, reverse, refl, sym, ap, subst, arith, Option, None, ⊎_elim}
 use Rattle.std.specs.Prelude.{flat_map}
 use Rattle.std.specs.List.{list_any}
-use Rattle.std.proofs.lemmas.Bool.{false≢true, and_parts, and_from, both_ways, cases_Bool, cases_lt, not-true, eqb-true, eq-eqb, ltb-true}
-use Rattle.std.proofs.lemmas.List.{reverse-append, reverse-reverse}
+use Rattle.std.proofs.lemmas.Bool.{and_parts, and_from, both_ways, cases_Bool, cases_lt, not-true, eqb-true, eq-eqb, ltb-true}
+use Rattle.std.proofs.lemmas.List.{reverse-append}
 use Rattle.ev_base.specs.Playing.{is_end, is_at}
 use Rattle.ev_base.specs.Terms.{Terms, StepEnd, AtListener, AtConnection, Step, Group}
 use Rattle.reactor_journal.specs.Event.{Item}
 use Rattle.reactor_journal.specs.declared.entry.Entry.{Entry}
 use Rattle.reactor_journal.specs.declared.entry.Entry.TheVariants.{Ended}
-use Rattle.reactor_journal.specs.Past.{past_of, had, is_alive, is_busy, is_open, opened, was_opened, was_closed, waits_for_closed, some_wait}
+use Rattle.reactor_journal.specs.Past.{is_alive, is_busy, is_open, opened, was_opened, was_closed, waits_for_closed, some_wait}
 use Rattle.reactor_journal.specs.Follow.{may_follow, is_legal}
 use Rattle.reactor_journal.proofs.Basics.{may_fits}
 use Rattle.reactor_journal.proofs.OneOpen.{any_below-from}
@@ -37,7 +37,6 @@ use Rattle.script_runs.proofs.Whole as whole
 use Rattle.script_runs.proofs.Winding as winding
 use Rattle.script_complete.specs.Complete.{LeavesNoStep}
 use Rattle.script_complete.proofs.Offered.{came, Came, no_debt}
-use Rattle.script_complete.proofs.Playing as playing
 use Rattle.script_complete.proofs.Playing.{IsGone, told_le, refused_gone, closed_gone_end}
 use Rattle.script_complete.proofs.Taking as taking
 

@@ -1,41 +1,27 @@
 -- What was accepted and taken in a run over a script.
-use Rattle.std.proofs.Common.{ℕ, zero, suc, ◌≡◌, ◌≢◌, ◌∙◌, ◌==◌, ◌+◌, ◌≤◌, ◌<◌, ◌⊎◌, inl, inr, Bool, true, false, cond, ◌&&◌, ◌||◌, List, [], ◌∷◌, ◌++◌, length, reverse, refl, sym, ap, subst, arith, Option, Some, None, ⊎_elim, append-nil, append_assoc}
-use Rattle.std.specs.List.{list_any, list_all, sum_by, AllByRecursion}
-use Rattle.std.proofs.lemmas.Bool.{false≢true, and_parts, and_from, both_ways, cases_Bool, cases_eq, eqb-true, eq-eqb, ne_eqb}
-use Rattle.std.proofs.lemmas.List.{reverse-append, reverse-reverse}
+use Rattle.std.proofs.Common.{ℕ, zero, suc, ◌≡◌, ◌≢◌, ◌∙◌, ◌+◌, ◌⊎◌, inl, inr, Bool, true, cond, List, [], ◌∷◌, ◌++◌, reverse, refl, sym, ap, subst, arith, Option, append_assoc}
+use Rattle.std.specs.List.{sum_by}
+use Rattle.std.proofs.lemmas.Bool.{cases_eq, eq-eqb, ne_eqb}
+use Rattle.std.proofs.lemmas.List.{reverse-append}
 use Rattle.std.proofs.lemmas.List.Sums.{sum_by-cons, sum_by-append}
 use Rattle.ev_types.specs.declared.upcall.Answer.{Answer}
-use Rattle.ev_types.specs.declared.upcall.Handle.{Handle}
-use Rattle.ev_types.specs.declared.upcall.Why.{Why}
-use Rattle.ev_types.specs.declared.upcall.Why.TheVariants.{Own, Removed as ByRemoval, Refused as ByRefusal}
 use Rattle.ev_base.specs.Terms.{Terms}
-use Rattle.reactor_journal.specs.Event.{Item, Origin}
+use Rattle.reactor_journal.specs.Event.{Item}
 use Rattle.reactor_journal.specs.declared.entry.Entry.{Entry}
-use Rattle.reactor_journal.specs.declared.entry.Entry.TheVariants.{Opened, Scheduled, Cancelled, Polled, Due, Ready, Posted, Stale, Started, Returned, Masked, Suspended, Resumed, Refused, Removed, Closed, Ended}
-use Rattle.reactor_journal.specs.Past.{past_of, had, items_made, origin_of, reason_of, ended_itself, is_alive, was_opened, was_closed}
+use Rattle.reactor_journal.specs.declared.entry.Entry.TheVariants.{Returned, Ended}
+use Rattle.reactor_journal.specs.Past.{had, items_made, was_opened, was_closed}
 use Rattle.reactor_journal.specs.Follow.{is_legal}
-use Rattle.reactor_turns.specs.Laws.{stays}
-use Rattle.reactor_turns.proofs.Turns.{had_stays}
 use Rattle.reactor_model.specs.Handling.{Handling}
-use Rattle.log_lines.specs.declared.end_kind.EndKind.{EndKind}
-use Rattle.log_lines.specs.declared.end_kind.EndKind.TheVariants as end
 use Rattle.log_handler.specs.declared.note.ServerNote.{ServerNote}
 use Rattle.log_handler.specs.declared.note.ServerNote.TheVariants as note
-use Rattle.log_handler.specs.Connection as connection
-use Rattle.log_handler.specs.Connections.{IsClosing}
-use Rattle.log_handler.specs.Laws.{IsPieceOf, took_in, took_of, EndedSo}
-use Rattle.log_handler.proofs.Accounts.{accounts}
-use Rattle.log_handler.proofs.Courses.{course-goes}
+use Rattle.log_handler.specs.Laws.{took_in, took_of}
 use Rattle.event_script.specs.Script.{ScriptGroup, steps_of}
 use Rattle.event_script.specs.Script as script
-use Rattle.event_script.specs.Stories.{bytes_of}
-use Rattle.script_turns.specs.Laws.{ReadToEnd, pauses_had, steps_on}
-use Rattle.script_turns.proofs.Saying.{takes_all_bytes}
-use Rattle.script_runs.specs.Connections.{AreLeft, accepted, is_note_of, Leaves, TalksThrough}
+use Rattle.script_runs.specs.Connections.{AreLeft, accepted}
 use Rattle.script_runs.specs.Laws.{RunsOver}
 use Rattle.script_runs.proofs.Glue as glue
 use Rattle.script_runs.proofs.Living as living
-use Rattle.script_runs.proofs.Scripts.{few, orderly}
+use Rattle.script_runs.proofs.Scripts.{few}
 use Rattle.script_runs.proofs.Whole as whole
 use Rattle.script_runs.proofs.Winding as winding
 use Rattle.script_runs.proofs.Turns as turns
@@ -48,7 +34,7 @@ use Rattle.script_runs.specs.Steps.{EachStep}
 use Rattle.script_told.specs.Laws.{StandsOnlyAt}
 use Rattle.ev_base.specs.Terms.{AtConnection}
 use Rattle.ev_types.specs.declared.upcall.Answer.TheVariants.{Keep}
-use Rattle.script_complete.specs.Complete.{took_for, TookAllAs}
+use Rattle.script_complete.specs.Complete.{took_for}
 
 module _ {H E : Type 0} (means : Handling H E ServerNote) (t : Terms) (idle : Option ℕ) (groups : List ScriptGroup) (journal : List (Entry ServerNote)) (r : RunsOver means t idle groups journal) where
   -- the acceptor, alive where the run was over, has taken all

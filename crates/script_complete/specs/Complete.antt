@@ -1,5 +1,5 @@
 -- What a run over a script has done where it is over.
-use Rattle.std.specs.Prelude.{◌≡◌, if◌then◌else◌, ℕ, Bool, false, not, List, [], ◌∷◌, ◌++◌, length, Option}
+use Rattle.std.specs.Prelude.{◌≡◌, if◌then◌else◌, ℕ, false, not, List, [], ◌∷◌, ◌++◌, length, Option}
 use Rattle.std.specs.List.{sum_by, list_any}
 use Rattle.ev_types.specs.declared.upcall.Handle.{Handle}
 use Rattle.ev_base.specs.Terms.{Terms}

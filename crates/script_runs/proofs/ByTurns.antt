@@ -1,12 +1,12 @@
 -- A run that goes by turns, read backwards: each entry of it beside those before it and the one behind it.
-use Rattle.std.proofs.Common.{ℕ, ◌≡◌, ◌∙◌, ◌+◌, ◌≤◌, Bool, true, false, List, [], ◌∷◌, ◌++◌, length, reverse, refl, sym, ap, subst, arith, Option, Some, None, append-nil, append_assoc}
+use Rattle.std.proofs.Common.{ℕ, ◌≡◌, ◌∙◌, ◌≤◌, Bool, true, false, List, [], ◌∷◌, ◌++◌, length, reverse, refl, sym, ap, subst, Option, Some, None, append-nil, append_assoc}
 use Rattle.std.proofs.lemmas.List.{length-reverse, reverse-append, reverse-reverse}
 use Rattle.ev_types.specs.declared.upcall.Mask.{Mask}
 use Rattle.ev_types.specs.declared.upcall.Upcall.{Upcall}
 use Rattle.ev_base.specs.Terms.{Terms}
 use Rattle.reactor_journal.specs.Event.{Event}
 use Rattle.reactor_journal.specs.declared.entry.Entry.{Entry}
-use Rattle.reactor_journal.specs.declared.entry.Entry.TheVariants.{Opened, Scheduled, Cancelled, Polled, Due, Ready, Posted, Stale, Started, Returned, Masked, Suspended, Resumed, Refused, Removed, Closed, Ended}
+use Rattle.reactor_journal.specs.declared.entry.Entry.TheVariants.{Opened, Cancelled, Returned, Masked, Suspended, Resumed, Refused, Removed, Closed, Ended}
 use Rattle.reactor_journal.specs.Past.{past_of, event_at, ended}
 use Rattle.reactor_model.specs.Handling.{Handling, Deed, Installing, Masking, Cancelling, Stopping}
 use Rattle.dispatch_turns.specs.ByTurns.{DispatchedByTurns, GoesByTurn, MayHere, OffersBehind, IsOfferBehind, returned_here}
@@ -103,7 +103,7 @@ module _ {H E N : Type 0} (means : Handling H E N) (t : Terms) (b : ℕ) where
         behind_returned later said (here past (Returned event answer said) later (moved (Returned event answer said) past later is) long)
     installs_behind (Closed handle other ∷ (Returned event answer said ∷ past)) later is = λ long s.
         installed later (here past (Returned event answer said) (Closed handle other ∷ later)
-            (moved (Returned event answer said) past (Closed handle other ∷ later) (moved (Closed handle other) (Returned event answer said ∷ past) later is)) long s)
+        (moved (Returned event answer said) past (Closed handle other ∷ later) (moved (Closed handle other) (Returned event answer said ∷ past) later is)) long s)
     installs_behind (Closed handle other ∷ []) later is = tt
     installs_behind (Closed handle other ∷ (_ ∷ past)) later is = tt
     installs_behind (_ ∷ past) later is = tt

@@ -1,21 +1,19 @@
 -- How the laws of turns, of reports and of numbers come together: the grouped text.
-use Rattle.std.proofs.Common.{ℕ, zero, suc, ◌≡◌, ◌≢◌, ◌==◌, ◌+◌, ◌≤◌, ◌<◌, Bool, true, false, not, cond, ◌&&◌, ◌||◌, List, [], ◌∷◌, ◌++◌, length, map, reverse, refl, sym, ap, ◌∙◌, subst, arith, Option, Some, None, ⊎_elim, append_assoc, ◌⊎◌, inl, inr}
+use Rattle.std.proofs.Common.{ℕ, zero, suc, ◌≡◌, ◌≢◌, ◌+◌, ◌<◌, Bool, true, false, not, cond, ◌&&◌, List, [], ◌∷◌, ◌++◌, map, reverse, refl, sym, ap, ◌∙◌, arith, Some, None, ⊎_elim, ◌⊎◌, inl, inr}
 use Rattle.std.specs.Prelude.{flat_map}
 use Rattle.std.specs.List.{list_any, list_all}
-use Rattle.std.proofs.lemmas.Bool.{false≢true, and_parts, and_from, or_parts, not-true, both_ways, cases_Bool, cond-true, cond-false, eqb-true}
-use Rattle.std.proofs.lemmas.List.{reverse-append}
+use Rattle.std.proofs.lemmas.Bool.{false≢true, and_parts}
 use Rattle.ev_types.specs.declared.upcall.Answer.{Answer}
 use Rattle.ev_types.specs.declared.upcall.Answer.TheVariants.{Keep, Again, Close}
 use Rattle.ev_types.specs.declared.upcall.Why.{Why}
 use Rattle.ev_types.specs.declared.upcall.Why.TheVariants.{Own, Removed as ByRemoval, Refused as ByRefusal}
-use Rattle.ev_base.specs.Terms.{Terms, StepEnd, AtListener, AtConnection, Step, Group}
+use Rattle.ev_base.specs.Terms.{Terms, AtListener, AtConnection, Step}
 use Rattle.ev_types.specs.declared.upcall.Upcall.{Upcall}
 use Rattle.ev_types.specs.declared.upcall.Upcall.TheVariants.{Input, Output, Except, Timeout, Notice}
 use Rattle.reactor_journal.specs.Event.{Item}
 use Rattle.reactor_journal.specs.declared.entry.Entry.{Entry}
-use Rattle.reactor_journal.specs.Past.{past_of, count, had, is_alive, is_pick, is_open}
+use Rattle.reactor_journal.specs.Past.{count, had, is_alive, is_pick, is_open}
 use Rattle.reactor_journal.specs.Follow.{is_legal, follows_ready}
-use Rattle.reactor_journal.proofs.Turning.{count-append}
 use Rattle.reactor_turns.specs.Laws.{stays}
 use Rattle.reactor_turns.proofs.Turns.{had_stays}
 use Rattle.reactor_model.specs.Handling.{NoClose, GoesOn}
@@ -30,18 +28,16 @@ use Rattle.log_handler.specs.Connections.{IsClosing}
 use Rattle.log_handler.specs.Laws.{records_in}
 use Rattle.log_handler.proofs.Courses.{course-goes}
 use Rattle.acceptor.specs.Accepting as accepting
-use Rattle.acceptor.specs.Servers.{ServerMay, is_accepted as says_accepted}
-use Rattle.event_script.specs.Script.{ScriptStep, Opens, Brings, Shuts, Fails, ListenerFails, ScriptGroup, groups_told, group_told, report_step, steps_of, opened, is_of, shuts, fails, is_done, may_follow, are_steps, goes_on}
+use Rattle.event_script.specs.Script.{ScriptStep, Opens, Brings, Shuts, Fails, ListenerFails, ScriptGroup, groups_told, report_step, steps_of, opened, is_of, are_steps}
 use Rattle.event_script.specs.Stories.{story, offers}
 use Rattle.script_turns.specs.Laws.{pauses_had, finds_nothing, steps_on, is_orderly, steps_on_listener, is_listening, untold, unoffered}
 use Rattle.script_turns.specs.Grouped.{grouped, grouped_lines, each_below}
 use Rattle.script_turns.proofs.Saying.{says_everything}
 use Rattle.script_turns.proofs.Listening.{takes_everything}
-use Rattle.script_told.specs.Laws.{StandsOnlyAt, steps_at, all_steps, is_step_at}
+use Rattle.script_told.specs.Laws.{steps_at, all_steps, is_step_at}
 use Rattle.script_told.specs.Told.{FollowsBefore, last_wait, is_over}
 use Rattle.script_told.proofs.Following.{reported}
 use Rattle.script_runs.specs.Connections.{lines_of, lines_by_connection, accepted}
-use Rattle.script_runs.proofs.ByTurns.{TurnsBefore}
 use Rattle.script_runs.specs.Steps.{EachStep}
 use Rattle.script_runs.proofs.Numbering.{IsNumbered}
 use Rattle.script_runs.proofs.Standing.{OpenedFor, stands_at, stands_first}

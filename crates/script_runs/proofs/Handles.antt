@@ -1,23 +1,18 @@
 -- What each handler of a whole journal leaves.
-use Rattle.std.proofs.Common.{ℕ, zero, suc, ◌≡◌, ◌≢◌, ◌==◌, ◌+◌, ◌≤◌, ◌<◌, Bool, true, false, not, cond, ◌&&◌, ◌||◌, List, [], ◌∷◌, ◌++◌, length, refl, sym, ap, ◌∙◌, subst, arith, Option, Some, None, is_some, ⊎_elim, append-nil, append_assoc}
-use Rattle.std.proofs.lemmas.Bool.{false≢true, and_parts, and_from, or_parts, not-true, both_ways, cases_Bool, eqb-true, eq-eqb, ne_eqb}
+use Rattle.std.proofs.Common.{ℕ, suc, ◌≡◌, ◌==◌, ◌≤◌, Bool, true, false, ◌||◌, List, [], ◌∷◌, ◌++◌, refl, sym, ap, ◌∙◌, subst, arith, Some, None, ⊎_elim, append-nil, append_assoc}
+use Rattle.std.proofs.lemmas.Bool.{false≢true, and_parts, cases_Bool, eqb-true, eq-eqb}
 use Rattle.ev_types.specs.declared.upcall.Handle.{Handle}
-use Rattle.ev_types.specs.declared.upcall.Answer.{Answer}
 use Rattle.ev_types.specs.declared.upcall.Mask.{Mask}
-use Rattle.reactor_journal.specs.Event.{Event, Item, Origin}
+use Rattle.reactor_journal.specs.Event.{Item, Origin}
 use Rattle.reactor_journal.specs.declared.entry.Entry.{Entry}
-use Rattle.reactor_journal.specs.declared.entry.Entry.TheVariants.{Opened, Scheduled, Cancelled, Polled, Due, Ready, Posted, Stale, Started, Returned, Masked, Suspended, Resumed, Refused, Removed, Closed, Ended}
-use Rattle.reactor_journal.specs.Past.{had, items_made, origin_of, reason_of, offered_here, turn_settled, opens, closes, returns, was_opened, was_closed, event_at, belongs_to, is_open, is_event, opened, started_at}
+use Rattle.reactor_journal.specs.declared.entry.Entry.TheVariants.{Opened, Closed}
+use Rattle.reactor_journal.specs.Past.{had, items_made, origin_of, offered_here, opens, closes, was_opened, was_closed, event_at, belongs_to, opened}
 use Rattle.reactor_journal.specs.Follow.{may_follow, is_legal}
 use Rattle.reactor_journal.proofs.Basics.{may_fits}
-use Rattle.reactor_journal.proofs.Alive.{opened_below}
 use Rattle.reactor_journal.proofs.Closing.{Gone, closed_gone}
 use Rattle.reactor_journal.proofs.HadLaw.{quiet, returned_is_open}
-use Rattle.reactor_journal.proofs.Steps.{open_is_event}
-use Rattle.reactor_journal.proofs.Turning.{is_legal-front}
 use Rattle.acceptor.specs.Servers.{read_alone}
 use Rattle.log_handler.specs.declared.note.ServerNote.{ServerNote}
-use Rattle.script_runs.specs.Runs.{note_settled}
 use Rattle.script_runs.specs.Steps.{EachStep}
 use Rattle.script_runs.specs.Runs.{first_handle}
 

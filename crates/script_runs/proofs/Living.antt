@@ -1,62 +1,35 @@
 -- Who is alive where a run over a script is over: the acceptor, and each handler that was not closed by its own answer.
-use Rattle.std.proofs.Common.{ℕ, zero, suc, ◌≡◌, ◌≢◌, ◌==◌, ◌+◌, ◌≤◌, ◌<◌, ◌⊎◌, inl, inr, Bool, true, false, not, cond, ◌&&◌, ◌||◌, List, [], ◌∷◌, ◌++◌, length, reverse, refl, sym, ap, ◌∙◌, subst, arith, Option, Some, None, ⊎_elim, append-nil, append_assoc, length-append}
-use Rattle.std.specs.Prelude.{flat_map}
-use Rattle.std.specs.List.{list_any, list_all, AllByRecursion}
-use Rattle.std.proofs.lemmas.Grind.{flat_map-append}
-use Rattle.std.proofs.lemmas.Bool.{false≢true, and_parts, and_from, or_parts, not-true, both_ways, cases_Bool, eqb-true, eq-eqb, ne_eqb, ltb-true}
-use Rattle.std.proofs.lemmas.List.{reverse-append, reverse-reverse}
-use Rattle.ev_types.specs.declared.upcall.Answer.{Answer}
-use Rattle.ev_types.specs.declared.upcall.Answer.TheVariants.{Keep, Again, Close}
+use Rattle.std.proofs.Common.{ℕ, ◌≡◌, ◌≢◌, Bool, true, false, cond, List, [], ◌∷◌, ◌++◌, length, refl, sym, ap, ◌∙◌, subst, Option, Some, ⊎_elim, append_assoc}
+use Rattle.std.specs.List.{list_any, list_all}
+use Rattle.std.proofs.lemmas.Bool.{and_parts, and_from, both_ways, cases_Bool}
 use Rattle.ev_types.specs.declared.upcall.Handle.{Handle}
 use Rattle.ev_types.specs.declared.upcall.Upcall.{Upcall}
 use Rattle.ev_types.specs.declared.upcall.Upcall.TheVariants.{Input, Output, Except, Timeout, Notice}
-use Rattle.ev_types.specs.declared.upcall.Why.{Why}
-use Rattle.ev_types.specs.declared.upcall.Why.TheVariants.{Own, Removed as ByRemoval, Refused as ByRefusal}
+use Rattle.ev_types.specs.declared.upcall.Why.TheVariants.{Own, Removed as ByRemoval}
 use Rattle.ev_base.specs.Terms.{Terms}
-use Rattle.reactor_journal.specs.Event.{Item, Origin}
+use Rattle.reactor_journal.specs.Event.{Item}
 use Rattle.reactor_journal.specs.declared.entry.Entry.{Entry}
-use Rattle.reactor_journal.specs.declared.entry.Entry.TheVariants.{Opened, Returned, Refused, Removed, Closed, Ended, Polled, Due, Ready}
-use Rattle.reactor_journal.specs.Past.{past_of, count, had, origin_of, reason_of, ended_itself, is_alive, was_opened, was_closed, was_removed, opened, offered_here, all_below}
-use Rattle.reactor_journal.specs.Follow.{may_follow, is_legal, follows_ready}
-use Rattle.reactor_journal.proofs.Alive.{opened_below, dead_was_removed}
-use Rattle.reactor_journal.proofs.Picking.{all_below-at}
-use Rattle.reactor_journal.proofs.Turning.{past_split, is_legal-front, count-past}
+use Rattle.reactor_journal.specs.declared.entry.Entry.TheVariants.{Closed, Ended}
+use Rattle.reactor_journal.specs.Past.{past_of, had, reason_of, ended_itself, is_alive, was_opened, was_closed, was_removed}
+use Rattle.reactor_journal.specs.Follow.{may_follow, is_legal}
+use Rattle.reactor_journal.proofs.Alive.{dead_was_removed}
+use Rattle.reactor_journal.proofs.Turning.{is_legal-front, count-past}
 use Rattle.reactor_turns.specs.Laws.{stays}
-use Rattle.reactor_turns.proofs.Turns.{Last, ended_last, own_reason}
-use Rattle.reactor_model.specs.Handling.{Handling, EndsInClose, IsClose}
+use Rattle.reactor_turns.proofs.Turns.{Last, ended_last}
+use Rattle.reactor_model.specs.Handling.{Handling}
 use Rattle.acceptor.specs.Accepting as accepting
-use Rattle.acceptor.specs.Laws.{number_in, numbers_from}
 use Rattle.acceptor.proofs.Accounts as acceptor_accounts
-use Rattle.acceptor.specs.Servers.{ServerMay, is_accepted as says_accepted}
-use Rattle.log_lines.specs.declared.end_kind.EndKind.{EndKind}
-use Rattle.log_lines.specs.declared.end_kind.EndKind.TheVariants as end
 use Rattle.log_handler.specs.declared.note.ServerNote.{ServerNote}
-use Rattle.log_handler.specs.declared.note.ServerNote.TheVariants as note
-use Rattle.log_handler.specs.Connection as connection
-use Rattle.log_handler.specs.Connections.{IsClosing}
-use Rattle.log_handler.specs.Laws.{EndedSo}
-use Rattle.log_handler.specs.Notes.{note_lines}
-use Rattle.log_handler.proofs.Courses.{course-closed}
-use Rattle.log_handler.proofs.Accounts.{accounts}
-use Rattle.event_script.specs.Script.{ScriptStep, Opens, Brings, Shuts, Fails, ListenerFails, ScriptGroup, groups_told, steps_of, may_follow as step_may_follow, are_steps}
-use Rattle.event_script.specs.Script as script
-use Rattle.script_turns.specs.Grouped.{grouped}
-use Rattle.script_runs.specs.Connections.{lines_in, lines_of, lines_by_connection, accepted, accepts, AreLeft, HadMemory, entry_lacks, ListensThrough, TalksThrough}
-use Rattle.script_runs.specs.Runs.{is_refusal, is_accepted, note_settled}
-use Rattle.script_runs.proofs.ByTurns.{TurnsBefore, read_backwards, turns_so}
+use Rattle.event_script.specs.Script.{ScriptStep, ScriptGroup, steps_of}
+use Rattle.script_runs.specs.Connections.{accepted, accepts, AreLeft, ListensThrough}
 use Rattle.script_runs.specs.Steps.{EachStep}
-use Rattle.script_runs.specs.Runs.{first_handle}
 use Rattle.script_runs.specs.Laws.{RunsOver}
-use Rattle.script_runs.proofs.Handles.{IsBegun, Offered, offered}
-use Rattle.script_runs.proofs.Numbering.{IsNumbered, Balanced, balanced, accepted_number, settled_number, owed, refusals}
-use Rattle.script_runs.proofs.Standing.{OpenedFor, opened_is, opened_for_later, end_of_origin}
+use Rattle.script_runs.proofs.Handles.{IsBegun}
 use Rattle.script_runs.proofs.Turns as turns
-use Rattle.script_runs.proofs.Settling.{each_front, origin_still, opened_later, offered_note}
 use Rattle.script_runs.proofs.Winding as winding
 use Rattle.script_runs.proofs.Winding.{Begins}
 use Rattle.script_runs.proofs.Taking.{length_numbers}
 use Rattle.script_runs.proofs.Whole as whole
-
 
 -- an acceptor never ends itself
 stays_accept : (gave : accepting.Gives) (before after : accepting.Progress) (item : Item ServerNote) → accepting.ServesAccept gave before item after → stays item.answer ≡ true

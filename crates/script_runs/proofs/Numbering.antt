@@ -1,25 +1,22 @@
 -- The handle of each connection, where none was refused.
-use Rattle.std.proofs.Common.{ℕ, zero, suc, ◌≡◌, ◌==◌, ◌+◌, ◌≤◌, ◌<◌, Bool, true, false, not, cond, ◌&&◌, ◌||◌, List, [], ◌∷◌, ◌++◌, length, refl, sym, ap, ◌∙◌, subst, arith, Option, Some, None, ⊎_elim}
-use Rattle.std.proofs.lemmas.Bool.{false≢true, and_parts, and_from, or_parts, both_ways, cases_Bool, cond-true, cond-false, eqb-true, eq-eqb, ne_eqb}
+use Rattle.std.proofs.Common.{ℕ, suc, ◌≡◌, ◌+◌, Bool, true, false, cond, List, [], ◌∷◌, refl, sym, ap, arith, Option, Some, None}
+use Rattle.std.proofs.lemmas.Bool.{false≢true, both_ways}
 use Rattle.ev_types.specs.declared.upcall.Answer.{Answer}
 use Rattle.ev_types.specs.declared.upcall.Upcall.{Upcall}
 use Rattle.ev_types.specs.declared.upcall.Handle.{Handle}
-use Rattle.ev_types.specs.declared.upcall.Mask.{Mask}
-use Rattle.ev_base.specs.Terms.{StepEnd, AtListener, AtConnection}
+use Rattle.ev_base.specs.Terms.{AtConnection}
 use Rattle.reactor_journal.specs.declared.entry.Entry.{Entry}
 use Rattle.reactor_journal.specs.declared.entry.Entry.TheVariants.{Opened, Scheduled, Cancelled, Polled, Due, Ready, Posted, Stale, Started, Returned, Masked, Suspended, Resumed, Refused, Removed, Closed, Ended}
-use Rattle.reactor_journal.specs.Past.{count, opened, offered_here, turn_settled}
-use Rattle.reactor_journal.specs.Follow.{may_follow, is_legal, follows_ready}
-use Rattle.reactor_journal.proofs.Basics.{may_fits}
+use Rattle.reactor_journal.specs.Past.{count, opened}
+use Rattle.reactor_journal.specs.Follow.{follows_ready}
 use Rattle.reactor_model.specs.Handling.{Deed}
 use Rattle.acceptor.specs.Servers.{read_alone, is_accepted as says_accepted}
 use Rattle.log_handler.specs.declared.note.ServerNote.{ServerNote}
 use Rattle.log_handler.specs.declared.note.ServerNote.TheVariants as note
-use Rattle.ev_base.specs.Playing.{is_end, end_of_serial}
+use Rattle.ev_base.specs.Playing.{end_of_serial}
 use Rattle.log_handler.specs.Connections.{accepted_in}
-use Rattle.script_told.specs.Laws.{StandsOnlyAt, IsOnlyAt}
-use Rattle.script_told.specs.Told.{end_offered, number_accepted}
-use Rattle.script_runs.specs.Connections.{accepts, accepted}
+use Rattle.script_told.specs.Told.{end_offered}
+use Rattle.script_runs.specs.Connections.{accepted}
 use Rattle.script_runs.specs.Runs.{note_settled, is_accepted, is_refusal}
 use Rattle.script_runs.proofs.ByTurns.{TurnsBefore, Installs, is_install, is_install_or_close}
 use Rattle.script_runs.specs.Steps.{EachStep}

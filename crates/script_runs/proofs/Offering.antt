@@ -1,20 +1,17 @@
 -- A handler that was refused was offered by a turn that accepted a connection.
-use Rattle.std.proofs.Common.{◌≡◌, ◌∙◌, ◌+◌, ◌≤◌, ℕ, Bool, true, false, ◌&&◌, ◌||◌, List, [], ◌∷◌, ◌++◌, length, reverse, Option, Some, None, refl, sym, subst, ap, arith}
-use Rattle.std.specs.List.{list_all}
-use Rattle.std.proofs.lemmas.Bool.{false≢true, and_parts, and_from}
-use Rattle.std.proofs.lemmas.List.{reverse-append}
+use Rattle.std.proofs.Common.{◌≡◌, ℕ, true, List, [], ◌∷◌, Option, Some, refl, sym, subst, ap, arith}
+use Rattle.std.proofs.lemmas.Bool.{false≢true}
 use Rattle.ev_types.specs.declared.upcall.Why.TheVariants.{Refused as ByRefusal}
 use Rattle.ev_base.specs.Terms.{Terms}
 use Rattle.reactor_journal.specs.Event.{Origin}
 use Rattle.reactor_journal.specs.declared.entry.Entry.{Entry}
-use Rattle.reactor_journal.specs.declared.entry.Entry.TheVariants.{Opened, Scheduled, Cancelled, Polled, Due, Ready, Posted, Stale, Started, Returned, Masked, Suspended, Resumed, Refused, Removed, Closed, Ended}
-use Rattle.reactor_journal.specs.Past.{offered_here}
+use Rattle.reactor_journal.specs.declared.entry.Entry.TheVariants.{Refused}
 use Rattle.acceptor.specs.Servers.{ServerMay, is_accepted as says_accepted}
 use Rattle.log_handler.specs.declared.note.ServerNote.{ServerNote}
 use Rattle.log_handler.specs.declared.note.ServerNote.TheVariants as note
 use Rattle.event_script.specs.Script.{ScriptStep}
 use Rattle.script_runs.specs.Connections.{AreLeft, Leaves, LeavesOffered}
-use Rattle.script_runs.specs.Runs.{is_closing, is_accepted, note_settled}
+use Rattle.script_runs.specs.Runs.{is_accepted, note_settled}
 use Rattle.script_runs.specs.Steps.{EachStep}
 use Rattle.script_runs.proofs.ByTurns.{TurnsBefore}
 use Rattle.script_runs.proofs.Settling.{offered_note}

@@ -1,32 +1,25 @@
 -- Where there is room for all connections of a script, none is refused.
-use Rattle.std.proofs.Common.{ℕ, zero, suc, ◌≡◌, ◌==◌, ◌+◌, ◌-◌, ◌≤◌, ◌<◌, ◌⊎◌, inl, inr, Bool, true, false, cond, ◌&&◌, ◌||◌, List, [], ◌∷◌, ◌++◌, length, reverse, refl, sym, ap, ◌∙◌, subst, arith, Option, Some, None, ⊎_elim, append_assoc, length-append}
-use Rattle.std.specs.Prelude.{flat_map}
+use Rattle.std.proofs.Common.{ℕ, suc, ◌≡◌, ◌==◌, ◌+◌, ◌-◌, ◌≤◌, ◌<◌, Bool, true, false, cond, ◌&&◌, ◌||◌, List, [], ◌∷◌, ◌++◌, length, reverse, refl, sym, ap, ◌∙◌, subst, arith, Option, Some, None, append_assoc}
 use Rattle.std.specs.List.{list_any, list_all}
-use Rattle.std.proofs.lemmas.Bool.{false≢true, and_parts, or_parts, both_ways, cases_Bool, eqb-true}
+use Rattle.std.proofs.lemmas.Bool.{false≢true, and_parts, both_ways, eqb-true}
 use Rattle.std.proofs.lemmas.List.{reverse-reverse}
-use Rattle.ev_types.specs.declared.upcall.Why.TheVariants.{Refused as ByRefusal}
 use Rattle.ev_base.specs.Terms.{Terms}
-use Rattle.reactor_journal.specs.Event.{Item, Origin}
 use Rattle.reactor_journal.specs.declared.entry.Entry.{Entry}
 use Rattle.reactor_journal.specs.declared.entry.Entry.TheVariants.{Opened, Scheduled, Cancelled, Polled, Due, Ready, Posted, Stale, Started, Returned, Masked, Suspended, Resumed, Refused, Removed, Closed, Ended}
-use Rattle.reactor_journal.specs.Past.{past_of, count, had, is_opened, is_closed, live, opened, ended, offered_here}
+use Rattle.reactor_journal.specs.Past.{count, had, is_closed, live, opened, ended}
 use Rattle.reactor_journal.specs.Follow.{may_follow, is_legal, most_handles}
 use Rattle.reactor_journal.proofs.Basics.{may_fits}
 use Rattle.reactor_journal.proofs.Turning.{is_legal-front}
 use Rattle.reactor_model.specs.Handling.{Handling}
 use Rattle.acceptor.specs.Accepting as accepting
-use Rattle.acceptor.specs.Laws.{TakesOffers}
 use Rattle.acceptor.specs.Servers.{ServerMay, is_accepted as says_accepted}
 use Rattle.acceptor.proofs.Accounts as acceptor_accounts
 use Rattle.log_handler.specs.declared.note.ServerNote.{ServerNote}
-use Rattle.log_handler.specs.declared.note.ServerNote.TheVariants as note
 use Rattle.event_script.specs.Script.{ScriptGroup, steps_of}
 use Rattle.event_script.specs.Script as script
-use Rattle.event_script.specs.Stories.{offers}
-use Rattle.script_turns.specs.Laws.{unoffered}
-use Rattle.script_runs.specs.Connections.{accepts, accepted, Leaves, LeavesOffered}
+use Rattle.script_runs.specs.Connections.{accepts, accepted}
 use Rattle.script_runs.specs.Laws.{RunsOver}
-use Rattle.script_runs.specs.Runs.{is_refusal, is_fault, is_closing, is_accepted, note_settled}
+use Rattle.script_runs.specs.Runs.{is_refusal, is_fault, is_closing}
 use Rattle.script_runs.specs.Steps.{EachStep}
 use Rattle.script_runs.proofs.ByTurns.{TurnsBefore}
 use Rattle.script_runs.proofs.Numbering.{IsNumbered, balanced, owed, refusals}

@@ -1,5 +1,5 @@
 -- The steps of a script: how many connections they have, and that nothing of a connection follows its end.
-use Rattle.std.proofs.Common.{ℕ, zero, suc, ◌≡◌, ◌==◌, ◌+◌, ◌≤◌, ◌<◌, Bool, true, false, not, cond, ◌&&◌, ◌||◌, List, [], ◌∷◌, ◌++◌, length, reverse, refl, sym, ap, ◌∙◌, subst, arith, ⊎_elim, append_assoc}
+use Rattle.std.proofs.Common.{ℕ, ◌≡◌, ◌+◌, ◌≤◌, ◌<◌, Bool, true, false, not, cond, ◌&&◌, ◌||◌, List, [], ◌∷◌, ◌++◌, length, reverse, refl, sym, ap, ◌∙◌, subst, arith, ⊎_elim, append_assoc}
 use Rattle.std.specs.Prelude.{nat_lt}
 use Rattle.std.specs.List.{list_any}
 use Rattle.std.proofs.lemmas.Bool.{false≢true, and_parts, not-true, both_ways, cases_Bool, eqb-true, ltb-true}
@@ -94,4 +94,3 @@ few steps h =
     let le : opened (reverse steps) ≤ 65536 = few_past (reverse steps) h in
     let same : opened (reverse steps) ≡ opened steps = opened_reverse steps in
     omega (arith, le, same)
-

@@ -1,17 +1,12 @@
 -- The turn that an entry settles, among all the turns of its handler.
-use Rattle.std.proofs.Common.{ℕ, zero, suc, ◌≡◌, ◌≢◌, ◌==◌, ◌+◌, ◌≤◌, ◌<◌, ◌⊎◌, inl, inr, Bool, true, false, not, cond, ◌&&◌, ◌||◌, List, [], ◌∷◌, ◌++◌, length, refl, sym, ap, ◌∙◌, subst, arith, Option, Some, None, is_some, ⊎_elim, append-nil, append_assoc, length-append}
-use Rattle.std.specs.Prelude.{flat_map}
-use Rattle.std.specs.List.{AllByRecursion}
-use Rattle.std.proofs.lemmas.Grind.{flat_map-append}
-use Rattle.std.proofs.lemmas.Bool.{false≢true, and_parts, and_from, or_parts, not-true, both_ways, cases_Bool, eqb-true, eq-eqb, ne_eqb}
+use Rattle.std.proofs.Common.{ℕ, ◌≡◌, ◌≢◌, ◌<◌, Bool, true, false, cond, ◌||◌, List, [], ◌∷◌, ◌++◌, refl, sym, ap, ◌∙◌, subst, arith, Option, Some, None, is_some, ⊎_elim}
+use Rattle.std.proofs.lemmas.Bool.{false≢true, and_parts, cases_Bool, eqb-true, eq-eqb, ne_eqb}
 use Rattle.ev_types.specs.declared.upcall.Handle.{Handle}
 use Rattle.ev_types.specs.declared.upcall.Answer.{Answer}
-use Rattle.ev_types.specs.declared.upcall.Mask.{Mask}
-use Rattle.ev_types.specs.declared.upcall.Why.{Why}
 use Rattle.reactor_journal.specs.Event.{Event, Item, Origin}
 use Rattle.reactor_journal.specs.declared.entry.Entry.{Entry}
-use Rattle.reactor_journal.specs.declared.entry.Entry.TheVariants.{Opened, Scheduled, Cancelled, Polled, Due, Ready, Posted, Stale, Started, Returned, Masked, Suspended, Resumed, Refused, Removed, Closed, Ended}
-use Rattle.reactor_journal.specs.Past.{had, items_made, item_of, origin_of, reason_of, offered_here, opens, was_opened, was_closed, event_at, belongs_to, is_open, is_event, opened, started_at, waits_for_closed}
+use Rattle.reactor_journal.specs.declared.entry.Entry.TheVariants.{Opened, Returned, Closed}
+use Rattle.reactor_journal.specs.Past.{had, items_made, item_of, origin_of, offered_here, opens, was_opened, event_at, belongs_to, is_open, opened, started_at}
 use Rattle.reactor_journal.specs.Follow.{may_follow, is_legal}
 use Rattle.reactor_journal.proofs.Basics.{may_fits}
 use Rattle.reactor_journal.proofs.Alive.{opened_below}
@@ -20,27 +15,10 @@ use Rattle.reactor_journal.proofs.HadLaw.{returned_is_open}
 use Rattle.reactor_journal.proofs.Steps.{open_is_event}
 use Rattle.reactor_journal.proofs.Turning.{is_legal-front}
 use Rattle.reactor_summary.proofs.Opened.{open_opened}
-use Rattle.acceptor.specs.Servers.{read_alone}
-use Rattle.acceptor.specs.Accepting as accepting
-use Rattle.acceptor.specs.Laws.{number_in, number_accepted}
-use Rattle.acceptor.proofs.Accounts as acceptor_accounts
 use Rattle.log_handler.specs.declared.note.ServerNote.{ServerNote}
-use Rattle.log_handler.specs.declared.note.ServerNote.TheVariants as note
-use Rattle.log_handler.specs.Laws.{IsPieceOf}
-use Rattle.log_handler.proofs.Accounts.{accounts}
-use Rattle.event_script.specs.Script.{ScriptStep}
-use Rattle.log_lines.specs.Texts.{record_lines, record_line, closing_line}
-use Rattle.log_handler.specs.Notes.{note_lines, entry_lines}
-use Rattle.log_handler.specs.Laws.{records_in, records_of_note}
-use Rattle.reactor_journal.proofs.Closing.{Gone, closed_gone}
-use Rattle.reactor_journal.specs.Past.{closes}
-use Rattle.script_runs.specs.Connections.{lines_in, is_note_of, Leaves, LeavesOffered, ListensThrough, TalksThrough, IsLeft, AreLeft, accepted, accepts}
-use Rattle.script_runs.specs.Runs.{note_settled, is_accepted}
+use Rattle.script_runs.specs.Runs.{note_settled}
 use Rattle.script_runs.specs.Steps.{EachStep}
-use Rattle.script_runs.specs.Runs.{first_handle}
-use Rattle.script_runs.proofs.Handles.{Found, found, had_found, had_closed, Grows, had_grows, IsBegun, origin_first, Offered, offered}
-use Rattle.script_runs.proofs.Notes.{Listens, is_listening, course_listens, all_left, all_last, number_next, of_none}
-use Rattle.script_runs.proofs.Numbering.{IsNumbered, NumberedNote}
+use Rattle.script_runs.proofs.Handles.{had_grows}
 
 pub each_front : (P : List (Entry ServerNote) → Entry ServerNote → Type 0) (later past : List (Entry ServerNote)) → EachStep P (later ++ past) → EachStep P past
 each_front P [] past h = h
@@ -164,4 +142,3 @@ module _ (most : ℕ) (all : List (Entry ServerNote)) (legal : is_legal most all
                   ∙ ap (λ (b : Bool). cond b (record { upcall = ev.upcall; moment = started_at past event; answer = answer; note = said } ∷ []) []) (ne_eqb ev.handle y (λ q. ne (sym q)));
             };
           }
-

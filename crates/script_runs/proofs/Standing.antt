@@ -1,5 +1,5 @@
 -- Which handle stands at which end: that of a connection is the one that was registered behind its acceptance, and no other.
-use Rattle.std.proofs.Common.{ℕ, zero, suc, ◌≡◌, ◌≢◌, ◌∙◌, ◌==◌, ◌+◌, ◌≤◌, ◌<◌, ◌⊎◌, inl, inr, Bool, true, false, cond, ◌&&◌, ◌||◌, List, [], ◌∷◌, ◌++◌, length, refl, sym, ap, subst, arith, Option, Some, None, ⊎_elim}
+use Rattle.std.proofs.Common.{ℕ, ◌≡◌, ◌≢◌, ◌∙◌, ◌+◌, ◌≤◌, ◌<◌, ◌⊎◌, inl, inr, true, false, List, [], ◌∷◌, ◌++◌, refl, sym, ap, arith, Option, Some, None}
 use Rattle.std.proofs.lemmas.Bool.{false≢true, and_parts, eqb-true, eq-eqb, ne_eqb}
 use Rattle.ev_types.specs.declared.upcall.Handle.{Handle}
 use Rattle.ev_types.specs.declared.upcall.Mask.{Mask}
@@ -15,7 +15,7 @@ use Rattle.acceptor.specs.Servers.{read_alone}
 use Rattle.log_handler.specs.declared.note.ServerNote.{ServerNote}
 use Rattle.log_handler.specs.declared.note.ServerNote.TheVariants as note
 use Rattle.log_handler.specs.Connections.{accepted_in}
-use Rattle.script_told.specs.Laws.{StandsOnlyAt, IsOnlyAt}
+use Rattle.script_told.specs.Laws.{StandsOnlyAt}
 use Rattle.script_told.specs.Told.{end_offered, number_accepted}
 use Rattle.script_runs.specs.Connections.{accepted}
 use Rattle.script_runs.specs.Runs.{note_settled, is_accepted}
@@ -213,9 +213,10 @@ none_yet (Opened handle mask ∷ (d ∷ past)) c x most legal n a o =
     let other : handle.0 ≢ x = (λ e. omega (arith, is, e, o)) in
     let last = accepts_last (d ∷ past) n.1 n.0.0 in
     let total : accepted (d ∷ past) ≡ last.k + 1 = accepted_total (d ∷ past) last.k n.1 last.offers n.0.0 in
-    let ne : last.k ≢ c = (λ e. omega (arith, total, e, a)) in
-    ((ne_eqb handle.0 x other ∙ sym (other_end (end_offered (d ∷ past)) last.k c last.offers ne), λ e. never handle.0 x other e),
-      none_yet (d ∷ past) c x most (and_parts _ _ legal).1 n.1 a (omega (arith, o)))
+    let ne : last.k ≢ c = (λ e. omega (arith, total, e, a)) in (
+      (ne_eqb handle.0 x other ∙ sym (other_end (end_offered (d ∷ past)) last.k c last.offers ne), λ e. never handle.0 x other e),
+      none_yet (d ∷ past) c x most (and_parts _ _ legal).1 n.1 a (omega (arith, o)),
+    )
 none_yet (Refused live fault said ∷ []) c x most legal n a o = absurd n.0
 none_yet (Refused live fault said ∷ (d ∷ past)) c x most legal n a o =
     let last = accepts_last (d ∷ past) n.1 n.0 in

@@ -1,27 +1,21 @@
 -- The turns of each handler of a whole journal over a script.
-use Rattle.std.proofs.Common.{ℕ, zero, suc, ◌≡◌, ◌≢◌, ◌==◌, ◌+◌, ◌≤◌, ◌<◌, ◌⊎◌, inl, inr, Bool, true, false, not, cond, ◌&&◌, ◌||◌, List, [], ◌∷◌, ◌++◌, length, refl, sym, ap, ◌∙◌, subst, arith, Option, Some, None, is_some, ⊎_elim, append-nil, append_assoc, length-append}
+use Rattle.std.proofs.Common.{ℕ, zero, suc, ◌≡◌, ◌≢◌, ◌==◌, ◌+◌, ◌⊎◌, inl, inr, Bool, true, false, cond, ◌||◌, List, [], ◌∷◌, ◌++◌, length, refl, sym, ap, ◌∙◌, subst, arith, Option, Some, None, ⊎_elim, append-nil, append_assoc, length-append}
 use Rattle.std.specs.Prelude.{flat_map}
 use Rattle.std.specs.List.{AllByRecursion}
 use Rattle.std.proofs.lemmas.Grind.{flat_map-append}
-use Rattle.std.proofs.lemmas.Bool.{false≢true, and_parts, and_from, or_parts, not-true, both_ways, cases_Bool, eqb-true, eq-eqb, ne_eqb}
+use Rattle.std.proofs.lemmas.Bool.{false≢true, and_parts, both_ways, cases_Bool, eqb-true, eq-eqb, ne_eqb}
 use Rattle.ev_types.specs.declared.upcall.Handle.{Handle}
 use Rattle.ev_types.specs.declared.upcall.Answer.{Answer}
 use Rattle.ev_types.specs.declared.upcall.Mask.{Mask}
-use Rattle.ev_types.specs.declared.upcall.Why.{Why}
 use Rattle.reactor_journal.specs.Event.{Event, Item, Origin}
 use Rattle.reactor_journal.specs.declared.entry.Entry.{Entry}
 use Rattle.reactor_journal.specs.declared.entry.Entry.TheVariants.{Opened, Scheduled, Cancelled, Polled, Due, Ready, Posted, Stale, Started, Returned, Masked, Suspended, Resumed, Refused, Removed, Closed, Ended}
-use Rattle.reactor_journal.specs.Past.{had, items_made, item_of, origin_of, reason_of, offered_here, opens, was_opened, was_closed, event_at, belongs_to, is_open, is_event, opened, started_at, waits_for_closed}
+use Rattle.reactor_journal.specs.Past.{had, items_made, item_of, origin_of, reason_of, offered_here, opens, was_opened, was_closed, event_at, belongs_to, started_at}
 use Rattle.reactor_journal.specs.Follow.{may_follow, is_legal}
 use Rattle.reactor_journal.proofs.Basics.{may_fits}
-use Rattle.reactor_journal.proofs.Alive.{opened_below}
 use Rattle.reactor_journal.proofs.Closing.{closing}
 use Rattle.reactor_journal.proofs.HadLaw.{returned_is_open}
-use Rattle.reactor_journal.proofs.Steps.{open_is_event}
 use Rattle.reactor_journal.proofs.Turning.{is_legal-front}
-use Rattle.reactor_summary.proofs.Opened.{open_opened}
-use Rattle.acceptor.specs.Servers.{read_alone}
-use Rattle.acceptor.specs.Accepting as accepting
 use Rattle.acceptor.specs.Laws.{number_in, number_accepted}
 use Rattle.acceptor.proofs.Accounts as acceptor_accounts
 use Rattle.log_handler.specs.declared.note.ServerNote.{ServerNote}
@@ -30,17 +24,16 @@ use Rattle.log_handler.specs.Laws.{IsPieceOf}
 use Rattle.log_handler.proofs.Accounts.{accounts}
 use Rattle.event_script.specs.Script.{ScriptStep}
 use Rattle.log_lines.specs.Texts.{record_lines, record_line, closing_line}
-use Rattle.log_handler.specs.Notes.{note_lines, entry_lines}
+use Rattle.log_handler.specs.Notes.{note_lines}
 use Rattle.log_handler.specs.Laws.{records_in, records_of_note}
 use Rattle.reactor_journal.proofs.Closing.{Gone, closed_gone}
 use Rattle.reactor_journal.specs.Past.{closes}
-use Rattle.script_runs.specs.Connections.{lines_in, is_note_of, Leaves, LeavesOffered, ListensThrough, TalksThrough, IsLeft, AreLeft, accepted, accepts}
+use Rattle.script_runs.specs.Connections.{lines_in, Leaves, LeavesOffered, ListensThrough, TalksThrough, IsLeft, AreLeft, accepted}
 use Rattle.std.specs.List.{list_any}
 use Rattle.script_runs.specs.Runs.{note_settled, is_accepted, is_refusal}
 use Rattle.script_runs.specs.Steps.{EachStep}
-use Rattle.script_runs.specs.Runs.{first_handle}
-use Rattle.script_runs.proofs.Handles.{Found, found, had_found, had_closed, Grows, had_grows, IsBegun, origin_first, Offered, offered}
-use Rattle.script_runs.proofs.Notes.{Listens, is_listening, course_listens, all_left, all_last, number_next, of_none}
+use Rattle.script_runs.proofs.Handles.{Found, found, had_found, had_closed, IsBegun, origin_first, offered}
+use Rattle.script_runs.proofs.Notes.{Listens, is_listening, course_listens, all_last, number_next, of_none}
 use Rattle.script_runs.proofs.Numbering.{IsNumbered, NumberedNote}
 use Rattle.script_runs.proofs.Offering.{RefusedOffers}
 use Rattle.script_runs.proofs.Settling as settling

@@ -1,61 +1,34 @@
 -- A whole run over a script: its run, its end and its winding up, read backwards.
-use Rattle.std.proofs.Common.{ℕ, zero, suc, ◌≡◌, ◌≢◌, ◌==◌, ◌+◌, ◌≤◌, ◌<◌, ◌⊎◌, inl, inr, Bool, true, false, not, cond, ◌&&◌, ◌||◌, List, [], ◌∷◌, ◌++◌, length, reverse, refl, sym, ap, ◌∙◌, subst, arith, Option, Some, None, ⊎_elim, append-nil, append_assoc, length-append}
-use Rattle.std.specs.Prelude.{flat_map}
-use Rattle.std.specs.List.{list_any, list_all, AllByRecursion}
-use Rattle.std.proofs.lemmas.Grind.{flat_map-append}
-use Rattle.std.proofs.lemmas.Bool.{false≢true, and_parts, and_from, or_parts, not-true, both_ways, cases_Bool, eqb-true, eq-eqb, ne_eqb, ltb-true}
-use Rattle.std.proofs.lemmas.List.{reverse-append, reverse-reverse}
-use Rattle.ev_types.specs.declared.upcall.Answer.{Answer}
-use Rattle.ev_types.specs.declared.upcall.Answer.TheVariants.{Keep, Again, Close}
-use Rattle.ev_types.specs.declared.upcall.Handle.{Handle}
-use Rattle.ev_types.specs.declared.upcall.Upcall.{Upcall}
-use Rattle.ev_types.specs.declared.upcall.Upcall.TheVariants.{Input, Output, Except, Timeout, Notice}
-use Rattle.ev_types.specs.declared.upcall.Why.{Why}
-use Rattle.ev_types.specs.declared.upcall.Why.TheVariants.{Own, Removed as ByRemoval, Refused as ByRefusal}
+use Rattle.std.proofs.Common.{ℕ, suc, ◌≡◌, inl, true, false, List, [], ◌∷◌, ◌++◌, refl, sym, ap, ◌∙◌, subst, Option, Some, None, append-nil, append_assoc}
+use Rattle.std.specs.List.{list_any}
+use Rattle.std.proofs.lemmas.Bool.{and_parts}
 use Rattle.ev_base.specs.Terms.{Terms}
-use Rattle.reactor_journal.specs.Event.{Item, Origin}
+use Rattle.reactor_journal.specs.Event.{Origin}
 use Rattle.reactor_journal.specs.declared.entry.Entry.{Entry}
-use Rattle.reactor_journal.specs.declared.entry.Entry.TheVariants.{Opened, Returned, Refused, Removed, Closed, Ended, Polled, Due, Ready}
+use Rattle.reactor_journal.specs.declared.entry.Entry.TheVariants.{Opened, Ended}
 use Rattle.reactor_journal.specs.Past.{past_of, count, had, origin_of, reason_of, ended_itself, is_alive, was_opened, was_closed, was_removed, opened, offered_here, all_below}
-use Rattle.reactor_journal.specs.Follow.{may_follow, is_legal, follows_ready}
-use Rattle.reactor_journal.proofs.Alive.{opened_below, dead_was_removed}
+use Rattle.reactor_journal.specs.Follow.{may_follow, is_legal}
+use Rattle.reactor_journal.proofs.Alive.{opened_below}
 use Rattle.reactor_journal.proofs.Picking.{all_below-at}
-use Rattle.reactor_journal.proofs.Turning.{past_split, is_legal-front, count-past}
-use Rattle.reactor_turns.specs.Laws.{stays}
-use Rattle.reactor_turns.proofs.Turns.{Last, ended_last, own_reason}
-use Rattle.reactor_model.specs.Handling.{Handling, EndsInClose, IsClose}
-use Rattle.acceptor.specs.Accepting as accepting
-use Rattle.acceptor.specs.Laws.{number_in, numbers_from}
-use Rattle.acceptor.proofs.Accounts as acceptor_accounts
+use Rattle.reactor_journal.proofs.Turning.{past_split, is_legal-front}
+use Rattle.reactor_model.specs.Handling.{Handling}
 use Rattle.acceptor.specs.Servers.{ServerMay, is_accepted as says_accepted}
-use Rattle.log_lines.specs.declared.end_kind.EndKind.{EndKind}
-use Rattle.log_lines.specs.declared.end_kind.EndKind.TheVariants as end
 use Rattle.log_handler.specs.declared.note.ServerNote.{ServerNote}
 use Rattle.log_handler.specs.declared.note.ServerNote.TheVariants as note
-use Rattle.log_handler.specs.Connection as connection
-use Rattle.log_handler.specs.Connections.{IsClosing}
-use Rattle.log_handler.specs.Laws.{EndedSo}
-use Rattle.log_handler.specs.Notes.{note_lines}
-use Rattle.log_handler.proofs.Courses.{course-closed}
-use Rattle.log_handler.proofs.Accounts.{accounts}
-use Rattle.event_script.specs.Script.{ScriptStep, Opens, Brings, Shuts, Fails, ListenerFails, ScriptGroup, groups_told, steps_of, may_follow as step_may_follow, are_steps}
-use Rattle.event_script.specs.Script as script
-use Rattle.script_turns.specs.Grouped.{grouped}
+use Rattle.event_script.specs.Script.{ScriptStep, ScriptGroup, groups_told, steps_of}
 use Rattle.script_runs.specs.Connections.{lines_in, lines_of, lines_by_connection, accepted, accepts, AreLeft, HadMemory, entry_lacks, ListensThrough, TalksThrough}
-use Rattle.script_runs.specs.Runs.{is_refusal, is_accepted, note_settled}
 use Rattle.script_runs.proofs.ByTurns.{TurnsBefore, read_backwards, turns_so}
 use Rattle.script_runs.specs.Steps.{EachStep}
 use Rattle.script_runs.specs.Runs.{first_handle}
 use Rattle.script_runs.specs.Laws.{RunsOver}
-use Rattle.script_runs.proofs.Handles.{IsBegun, Offered, offered}
-use Rattle.script_runs.proofs.Numbering.{IsNumbered, Balanced, balanced, accepted_number, settled_number, owed}
+use Rattle.script_runs.proofs.Handles.{IsBegun, offered}
+use Rattle.script_runs.proofs.Numbering.{IsNumbered}
 use Rattle.script_runs.proofs.Standing.{OpenedFor, opened_for_later, end_of_origin}
 use Rattle.script_runs.proofs.Turns as turns
 use Rattle.script_runs.proofs.Settling.{each_front, origin_still, opened_later}
 use Rattle.script_runs.proofs.Offering.{run_offers}
 use Rattle.script_runs.proofs.Winding as winding
 use Rattle.script_runs.proofs.Winding.{Begins}
-
 
 module _ {H E : Type 0} (means : Handling H E ServerNote) (t : Terms) (idle : Option ℕ) (groups : List ScriptGroup) (journal : List (Entry ServerNote)) (r : RunsOver means t idle groups journal) where
   abbrev pub steps : List ScriptStep

@@ -1,10 +1,9 @@
 -- The end of a run: what was open, who was alive, and what stands behind `Ended`.
-use Rattle.std.proofs.Common.{ℕ, zero, suc, ◌≡◌, ◌≢◌, ◌==◌, ◌+◌, ◌≤◌, ◌<◌, ◌⊎◌, inl, inr, Bool, true, false, not, cond, ◌&&◌, ◌||◌, List, [], ◌∷◌, ◌++◌, length, reverse, refl, sym, ap, ◌∙◌, subst, arith, Option, Some, None, is_some, ⊎_elim, append-nil, append_assoc}
+use Rattle.std.proofs.Common.{ℕ, ◌≡◌, ◌==◌, ◌<◌, Bool, true, false, not, ◌||◌, List, [], ◌∷◌, ◌++◌, reverse, refl, sym, ap, ◌∙◌, arith, Option, Some, None, ⊎_elim, append-nil}
 use Rattle.std.specs.List.{list_any}
-use Rattle.std.proofs.lemmas.Bool.{false≢true, and_parts, and_from, or_parts, not-true, both_ways, cases_Bool, eqb-true, eq-eqb, ne_eqb}
+use Rattle.std.proofs.lemmas.Bool.{false≢true, and_parts, or_parts, not-true, both_ways, cases_Bool, eqb-true, eq-eqb}
 use Rattle.std.proofs.lemmas.List.{reverse-append}
-use Rattle.ev_types.specs.declared.upcall.Answer.{Answer}
-use Rattle.ev_types.specs.declared.upcall.Answer.TheVariants.{Keep, Again, Close}
+use Rattle.ev_types.specs.declared.upcall.Answer.TheVariants.{Close}
 use Rattle.ev_types.specs.declared.upcall.Mask.{Mask}
 use Rattle.ev_types.specs.declared.upcall.Upcall.{Upcall}
 use Rattle.ev_types.specs.declared.upcall.Upcall.TheVariants.{Input, Output, Except, Timeout, Notice}
@@ -12,18 +11,17 @@ use Rattle.ev_base.specs.Terms.{Terms}
 use Rattle.reactor_journal.specs.Event.{Event, Item, Origin}
 use Rattle.reactor_journal.specs.declared.entry.Entry.{Entry}
 use Rattle.reactor_journal.specs.declared.entry.Entry.TheVariants.{Opened, Scheduled, Cancelled, Polled, Due, Ready, Posted, Stale, Started, Returned, Masked, Suspended, Resumed, Refused, Removed, Closed, Ended}
-use Rattle.reactor_journal.specs.Past.{had, items_made, offered_here, opens, starts, ended, ends, closes_itself, ended_itself, was_opened, was_removed, event_at, belongs_to, is_open, opened}
+use Rattle.reactor_journal.specs.Past.{had, items_made, offered_here, opens, starts, ended, ends, closes_itself, ended_itself, was_opened, was_removed, event_at, is_open, opened}
 use Rattle.reactor_journal.specs.Follow.{may_follow, is_legal, winds_up}
 use Rattle.reactor_journal.proofs.Basics.{may_fits}
 use Rattle.reactor_journal.proofs.OneOpen.{open_cases}
 use Rattle.reactor_journal.proofs.HadLaw.{quiet, returned_is_open}
-use Rattle.reactor_journal.proofs.Turning.{is_legal-front}
 use Rattle.reactor_model.specs.Handling.{Installing, Masking, Cancelling}
 use Rattle.report_turns.specs.Laws.{holds_back}
 use Rattle.acceptor.specs.Servers.{ServerMay, read_alone, is_accepted as says_accepted}
 use Rattle.log_handler.specs.declared.note.ServerNote.{ServerNote}
 use Rattle.dispatch_turns.specs.ByTurns.{returned_here}
-use Rattle.script_runs.proofs.ByTurns.{TurnsBefore, IsByTurn, ActsBehind}
+use Rattle.script_runs.proofs.ByTurns.{TurnsBefore, IsByTurn}
 use Rattle.script_runs.specs.Steps.{EachStep}
 use Rattle.script_runs.specs.Runs.{first_handle}
 use Rattle.ev_base.specs.Terms.{Group}

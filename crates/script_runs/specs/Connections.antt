@@ -1,5 +1,5 @@
 -- Which entries of a journal are of which connection, and the lines of a journal connection after connection (this project's own).
-use Rattle.std.specs.Prelude.{◌≡◌, ℕ, ◌+◌, ◌==◌, Bool, true, false, if◌then◌else◌, List, [], ◌∷◌, ◌++◌, flat_map, Option, Some, None}
+use Rattle.std.specs.Prelude.{◌≡◌, ℕ, ◌==◌, Bool, true, false, if◌then◌else◌, List, [], flat_map, Option, Some, None}
 use Rattle.ev_types.specs.declared.upcall.Why.{Why}
 use Rattle.ev_types.specs.declared.upcall.Why.TheVariants.{Refused as ByRefusal}
 use Rattle.log_lines.specs.declared.end_kind.EndKind.{EndKind}
@@ -8,7 +8,7 @@ use Rattle.std.specs.List.{list_any}
 use Rattle.reactor_journal.specs.Event.{Item, Origin}
 use Rattle.reactor_journal.specs.declared.entry.Entry.{Entry}
 use Rattle.reactor_journal.specs.declared.entry.Entry.TheVariants.{Returned, Refused, Closed}
-use Rattle.reactor_journal.specs.Past.{past_of, count, had, origin_of, reason_of, offered_here}
+use Rattle.reactor_journal.specs.Past.{count, had, origin_of, reason_of, offered_here}
 use Rattle.log_handler.specs.declared.note.ServerNote.{ServerNote}
 use Rattle.log_handler.specs.declared.note.ServerNote.TheVariants as note
 use Rattle.log_handler.specs.Notes.{entry_lines}
@@ -17,7 +17,6 @@ use Rattle.log_handler.specs.Connections.{IsClosing}
 use Rattle.acceptor.specs.Accepting as accepting
 use Rattle.event_script.specs.Script.{ScriptStep}
 use Rattle.event_script.specs.Stories.{story, offers}
-use Rattle.script_told.specs.Told.{number_accepted}
 use Rattle.script_turns.specs.Grouped.{each_below}
 use Rattle.script_runs.specs.Steps.{EachStep}
 use Rattle.script_turns.specs.Laws.{untold, unoffered}

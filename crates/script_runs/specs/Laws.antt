@@ -1,28 +1,19 @@
 -- What holds of whole runs over a script.
-use Rattle.std.specs.Prelude.{◌≡◌, ◌<◌, if◌then◌else◌, ℕ, Bool, true, false, not, List, [], ◌∷◌, ◌++◌, reverse, Option, Some, None, length}
-use Rattle.std.specs.List.{list_any, sum_by}
+use Rattle.std.specs.Prelude.{◌≡◌, ◌<◌, ℕ, true, false, List, ◌∷◌, reverse, Option, Some, None}
+use Rattle.std.specs.List.{list_any}
 use Rattle.ev_types.specs.declared.upcall.Upcall.{Upcall}
-use Rattle.ev_base.specs.Terms.{StepEnd, AtListener, AtConnection, Step, Terms}
-use Rattle.cdr_record.specs.Decoding.{decode}
+use Rattle.ev_base.specs.Terms.{Terms}
 use Rattle.reactor_journal.specs.declared.entry.Entry.{Entry}
-use Rattle.reactor_journal.specs.declared.entry.Entry.TheVariants as entry
 use Rattle.reactor_journal.specs.declared.entry.Entry.TheVariants.{Opened}
-use Rattle.ev_types.specs.declared.upcall.Handle.{Handle}
 use Rattle.reactor_journal.specs.Past.{past_of}
-use Rattle.log_lines.specs.declared.end_kind.EndKind.{EndKind}
-use Rattle.log_lines.specs.declared.end_kind.EndKind.TheVariants as end
 use Rattle.log_handler.specs.declared.note.ServerNote.{ServerNote}
-use Rattle.log_handler.specs.declared.note.ServerNote.TheVariants as note
-use Rattle.log_handler.specs.Laws.{took_of}
 use Rattle.reactor_model.specs.Handling.{Handling, Deed}
 use Rattle.acceptor.specs.Servers.{read_alone, ServerMay, is_accepted}
 use Rattle.dispatch_turns.specs.ByTurns.{DispatchedByTurns}
-use Rattle.event_script.specs.Script.{ScriptStep, ScriptGroup, steps_of, groups_told, are_steps, opened}
-use Rattle.event_script.specs.Stories.{bytes_of}
-use Rattle.ev_base.specs.Playing.{is_at}
-use Rattle.script_told.specs.Told.{Follows, told}
+use Rattle.event_script.specs.Script.{ScriptGroup, steps_of, groups_told, are_steps, opened}
+use Rattle.script_told.specs.Told.{Follows}
 use Rattle.script_turns.specs.Grouped.{grouped}
-use Rattle.script_runs.specs.Connections.{lines_by_connection, AreLeft, HadMemory, accepted, is_note_of}
+use Rattle.script_runs.specs.Connections.{lines_by_connection, AreLeft, HadMemory}
 use Rattle.script_runs.specs.Runs.{IsWhole, EndsAtOver, is_notice, is_timer, is_refusal, is_fault}
 use Rattle.script_runs.specs.Runs.{first_handle}
 

@@ -1,16 +1,12 @@
 -- How a run over a script ends (POSA2, Leader/Followers; C++NPv2 chapter 4).
-use Rattle.std.specs.Prelude.{◌≡◌, ◌≤◌, ◌+◌, ℕ, Bool, true, false, not, ◌&&◌, List, [], ◌∷◌, ◌++◌, length, Option, Some, None, option_map, IsTrue}
-use Rattle.std.specs.List.{list_any, list_all}
-use Rattle.ev_types.specs.declared.upcall.Mask.{Mask}
-use Rattle.ev_types.specs.declared.upcall.Upcall.{Upcall}
+use Rattle.std.specs.Prelude.{◌≡◌, ℕ, Bool, true, false, List, ◌∷◌, ◌++◌, Option, Some, None, IsTrue}
+use Rattle.std.specs.List.{list_all}
 use Rattle.ev_types.specs.declared.upcall.Handle.{Handle}
 use Rattle.ev_base.specs.Terms.{Group}
-use Rattle.reactor_journal.specs.Event.{Event}
 use Rattle.reactor_journal.specs.declared.entry.Entry.{Entry}
-use Rattle.reactor_journal.specs.declared.entry.Entry.TheVariants.{Opened, Scheduled, Cancelled, Polled, Due, Ready, Posted, Stale, Started, Returned, Masked, Suspended, Resumed, Refused, Removed, Closed, Ended}
-use Rattle.reactor_journal.specs.Past.{past_of, event_at, ended, opened, was_closed, all_below, is_pick, is_open, now}
+use Rattle.reactor_journal.specs.declared.entry.Entry.TheVariants.{Scheduled, Posted, Stale, Returned, Refused, Removed, Closed, Ended}
+use Rattle.reactor_journal.specs.Past.{past_of, ended, opened, was_closed, all_below, is_pick, is_open}
 use Rattle.reactor_journal.specs.Follow.{Legal, follows_ready}
-use Rattle.reactor_model.specs.Handling.{Deed, Installing, Masking, Cancelling, Stopping}
 use Rattle.log_handler.specs.declared.note.ServerNote.{ServerNote}
 use Rattle.log_handler.specs.declared.note.ServerNote.TheVariants as note
 use Rattle.script_told.specs.Told.{last_wait, is_over}

@@ -1,5 +1,5 @@
 -- The turns of a handler over its story are fixed, one by one, by the upcalls and their moments.
-use Rattle.std.proofs.Common.{◌≡◌, ◌≢◌, ◌∙◌, ◌⊎◌, inl, inr, ℕ, suc, Bool, true, false, List, [], ◌∷◌, ◌++◌, length, Option, Some, None, refl, sym, subst, ap}
+use Rattle.std.proofs.Common.{◌≡◌, ◌≢◌, ◌∙◌, ◌⊎◌, inl, inr, ℕ, suc, Bool, true, false, List, [], ◌∷◌, ◌++◌, Option, Some, None, refl, sym, subst, ap}
 use Rattle.std.specs.Prelude.{nat_lt}
 use Rattle.ev_types.specs.declared.upcall.Answer.{Answer}
 use Rattle.ev_types.specs.declared.upcall.Answer.TheVariants.{Keep, Again}
@@ -8,16 +8,15 @@ use Rattle.ev_types.specs.declared.upcall.Upcall.TheVariants.{Input, Output, Exc
 use Rattle.ev_base.specs.Story.{Telling, TellsNext, Offer, Connection, NoneThere, OneFailure, Offering, TakesOffer, NoOfferLeft}
 use Rattle.ev_base.specs.End.{Accepted, Paused, Faulted, TakesSerial}
 use Rattle.ev_base.specs.declared.source.Got.{Got}
-use Rattle.ev_base.specs.declared.source.Got.TheVariants as got
 use Rattle.log_lines.specs.declared.end_kind.EndKind.{EndKind}
 use Rattle.log_lines.specs.declared.end_kind.EndKind.TheVariants as end
 use Rattle.reactor_journal.specs.Event.{Item}
 use Rattle.log_handler.specs.declared.note.ServerNote.{ServerNote}
 use Rattle.log_handler.specs.declared.note.ServerNote.TheVariants as note
-use Rattle.log_handler.specs.Connection.{Progress, Course, Turns, ServesUpcall, ServesRead, AnswersTimeout, MakesNoRead, ReadsOnce, is_idle, piece_room}
+use Rattle.log_handler.specs.Connection.{Progress, Course, ServesUpcall, AnswersTimeout, MakesNoRead, is_idle, piece_room}
 use Rattle.acceptor.specs.Accepting as accepting
 use Rattle.acceptor.specs.Accepting.{OneEnd, NoEnd, Failure, most_connections}
-use Rattle.script_serial.proofs.Same.{SameTurn, same_turn}
+use Rattle.script_serial.proofs.Same.{same_turn}
 
 -- ---- connections
 

@@ -1,14 +1,11 @@
 -- An entry of a serial journal, and all that is known of it by its place.
-use Rattle.std.proofs.Common.{◌≡◌, ◌∙◌, ◌+◌, ◌⊎◌, ℕ, Bool, true, false, cond, ◌&&◌, ◌||◌, List, [], ◌∷◌, ◌++◌, Option, Some, None, refl, sym, subst, ap, append_assoc}
+use Rattle.std.proofs.Common.{◌≡◌, ◌∙◌, ℕ, true, false, List, [], ◌∷◌, ◌++◌, Option, sym, subst, ap, append_assoc}
 use Rattle.std.specs.List.{list_any}
-use Rattle.std.proofs.lemmas.Bool.{and_parts, eq-eqb}
-use Rattle.ev_types.specs.declared.upcall.Answer.{Answer}
-use Rattle.ev_types.specs.declared.upcall.Handle.{Handle}
-use Rattle.ev_types.specs.declared.upcall.Why.TheVariants.{Own, Removed as ByRemoval}
+use Rattle.std.proofs.lemmas.Bool.{and_parts}
 use Rattle.reactor_journal.specs.Event.{Item, Origin}
 use Rattle.reactor_journal.specs.declared.entry.Entry.{Entry}
-use Rattle.reactor_journal.specs.declared.entry.Entry.TheVariants.{Returned, Closed}
-use Rattle.reactor_journal.specs.Past.{past_of, had, origin_of, reason_of, ended_itself, was_opened, was_closed, opened, all_below}
+use Rattle.reactor_journal.specs.declared.entry.Entry.TheVariants.{Closed}
+use Rattle.reactor_journal.specs.Past.{past_of, had, origin_of, reason_of, ended_itself, was_opened, was_closed, opened}
 use Rattle.reactor_journal.specs.Follow.{may_follow, is_legal, follows_ready}
 use Rattle.reactor_journal.proofs.Alive.{opened_below}
 use Rattle.reactor_journal.proofs.Picking.{all_below-at}
@@ -16,7 +13,7 @@ use Rattle.reactor_journal.proofs.Turning.{is_legal-front}
 use Rattle.event_script.specs.Script.{ScriptGroup, groups_told, steps_of}
 use Rattle.log_handler.specs.declared.note.ServerNote.{ServerNote}
 use Rattle.script_told.specs.Told.{FollowsBefore}
-use Rattle.script_runs.specs.Connections.{AreLeft, IsLeft, HadMemory, entry_lacks, lacks_memory, Leaves}
+use Rattle.script_runs.specs.Connections.{AreLeft, IsLeft, HadMemory, entry_lacks, Leaves}
 use Rattle.script_runs.specs.Steps.{EachStep}
 use Rattle.script_runs.proofs.Handles.{Found, found, had_found}
 use Rattle.script_runs.proofs.Settling as settling

@@ -1,7 +1,6 @@
 -- What handlers leave at their closing, and the turns before it, are fixed by what came before.
-use Rattle.std.proofs.Common.{◌≡◌, ◌≢◌, ◌∙◌, ◌⊎◌, inl, inr, ℕ, Bool, true, false, cond, List, [], ◌∷◌, ◌++◌, Option, Some, None, refl, sym, subst, ap}
-use Rattle.std.proofs.lemmas.Bool.{false≢true, both_ways}
-use Rattle.ev_types.specs.declared.upcall.Answer.{Answer}
+use Rattle.std.proofs.Common.{◌≡◌, ◌≢◌, ◌∙◌, ℕ, Bool, true, false, cond, List, [], ◌∷◌, ◌++◌, Option, Some, None, refl, sym, subst, ap}
+use Rattle.std.proofs.lemmas.Bool.{both_ways}
 use Rattle.ev_types.specs.declared.upcall.Why.{Why}
 use Rattle.ev_types.specs.declared.upcall.Why.TheVariants.{Own, Removed as ByRemoval, Refused as ByRefusal}
 use Rattle.log_lines.specs.declared.end_kind.EndKind.{EndKind}
@@ -15,7 +14,7 @@ use Rattle.log_handler.specs.Connections.{IsClosing}
 use Rattle.event_script.specs.Script.{ScriptStep}
 use Rattle.event_script.specs.Stories.{story, offers}
 use Rattle.script_turns.specs.Laws.{untold, unoffered}
-use Rattle.script_runs.specs.Connections.{Leaves, LeavesOffered, ListensThrough, TalksThrough, lacks_memory}
+use Rattle.script_runs.specs.Connections.{Leaves, LeavesOffered, TalksThrough, lacks_memory}
 use Rattle.script_serial.proofs.Courses.{same_course, next_turn, next_accept, Tells, Offers}
 
 -- ---- words

@@ -1,8 +1,8 @@
 -- What may follow in a serial journal where no turn is under way and no handler is about to be registered or closed.
-use Rattle.std.proofs.Common.{◌≡◌, ◌∙◌, ◌+◌, ◌<◌, ◌≤◌, ◌⊎◌, inl, inr, ℕ, ◌==◌, Bool, true, false, not, cond, ◌&&◌, ◌||◌, List, [], ◌∷◌, ◌++◌, Option, Some, None, refl, sym, subst, ap, arith, append-nil, ⊎_elim}
+use Rattle.std.proofs.Common.{◌≡◌, ◌∙◌, ◌<◌, ◌≤◌, ◌⊎◌, inl, inr, ℕ, ◌==◌, Bool, true, false, not, ◌||◌, List, [], ◌∷◌, ◌++◌, Option, refl, sym, ap, arith, append-nil, ⊎_elim}
 use Rattle.std.specs.Prelude.{nat_le}
 use Rattle.std.specs.List.{list_any}
-use Rattle.std.proofs.lemmas.Bool.{false≢true, and_parts, both_ways, cases_Bool, cases_lt, cases_eq, not-true, eqb-true, eq-eqb}
+use Rattle.std.proofs.lemmas.Bool.{false≢true, and_parts, both_ways, cases_lt, cases_eq, not-true, eqb-true, eq-eqb}
 use Rattle.std.proofs.lemmas.List.{append_cancel_left}
 use Rattle.ev_types.specs.declared.upcall.Handle.{Handle}
 use Rattle.ev_types.specs.declared.upcall.Kind.{Kind}
@@ -13,7 +13,7 @@ use Rattle.ev_base.specs.declared.net.Waited.TheVariants as waited_by
 use Rattle.reactor_journal.specs.declared.entry.Entry.{Entry}
 use Rattle.reactor_journal.specs.declared.entry.Entry.TheVariants.{Opened, Scheduled, Cancelled, Polled, Due, Ready, Posted, Stale, Started, Returned, Masked, Suspended, Resumed, Refused, Removed, Closed, Ended}
 use Rattle.reactor_journal.specs.Past.{now, armed, ended, is_alive, is_overdue, is_pick, any_below}
-use Rattle.reactor_journal.specs.Follow.{may_follow, is_legal, follows_ready, follows_due, is_first_due, winds_up}
+use Rattle.reactor_journal.specs.Follow.{may_follow, follows_ready, is_first_due, winds_up}
 use Rattle.reactor_journal.proofs.Alive.{dead_was_removed}
 use Rattle.reactor_journal.proofs.Basics.{may_fits}
 use Rattle.reactor_journal.proofs.Closing.{closing}
@@ -121,11 +121,15 @@ module _ (most : ℕ) (idle : Option ℕ) (groups : List ScriptGroup) where
       record {
         move = Readies handle kind;
         is = refl;
-        facts = (calm, goes (Ready handle kind) past most n.may refl, record {
-          behind = fits.0;
-          rest = gathered later [];
-          are = told_made (groups_told groups) most past (record { handle = handle; kind = kind } ∷ gathered later []) n.before fits.0 n.told.1;
-        });
+        facts = (
+          calm,
+          goes (Ready handle kind) past most n.may refl,
+          record {
+            behind = fits.0;
+            rest = gathered later [];
+            are = told_made (groups_told groups) most past (record { handle = handle; kind = kind } ∷ gathered later []) n.before fits.0 n.told.1;
+          },
+        );
       }
   moves later (Started event) past free n plain =
       let fits = and_parts _ _ (may_fits most past (Started event) n.may) in

@@ -1,35 +1,32 @@
 -- Two serial journals of one script: behind the same entries stands the same entry, and one ends where the other does.
-use Rattle.std.proofs.Common.{◌≡◌, ◌∙◌, ◌+◌, ◌⊎◌, inl, inr, ℕ, ◌==◌, Bool, true, false, not, cond, ◌&&◌, ◌||◌, List, [], ◌∷◌, ◌++◌, Option, Some, None, refl, sym, subst, ap, append_assoc, append-nil, reverse, ⊎_elim}
-use Rattle.std.specs.List.{list_any}
-use Rattle.std.proofs.lemmas.Bool.{false≢true, and_parts, both_ways, cases_Bool, not-true, eqb-true, eq-eqb}
+use Rattle.std.proofs.Common.{◌≡◌, ◌∙◌, ℕ, Bool, true, List, [], ◌∷◌, ◌++◌, Option, Some, None, refl, sym, subst, ap, append_assoc, append-nil, reverse}
+use Rattle.std.proofs.lemmas.Bool.{false≢true, and_parts, both_ways, eqb-true, eq-eqb}
 use Rattle.std.proofs.lemmas.List.{reverse-append, reverse-reverse}
 use Rattle.ev_types.specs.declared.upcall.Answer.{Answer}
 use Rattle.ev_types.specs.declared.upcall.Answer.TheVariants.{Keep, Again, Close}
 use Rattle.ev_types.specs.declared.upcall.Handle.{Handle}
 use Rattle.ev_types.specs.declared.upcall.Mask.{Mask}
 use Rattle.ev_types.specs.declared.upcall.Upcall.{Upcall}
-use Rattle.reactor_journal.specs.Event.{Event, Item, Origin}
+use Rattle.reactor_journal.specs.Event.{Event}
 use Rattle.reactor_journal.specs.declared.entry.Entry.{Entry}
-use Rattle.reactor_journal.specs.declared.entry.Entry.TheVariants.{Opened, Scheduled, Cancelled, Polled, Due, Ready, Posted, Stale, Started, Returned, Masked, Suspended, Resumed, Refused, Removed, Closed, Ended}
-use Rattle.reactor_journal.specs.Past.{past_of, had, origin_of, offered_here, opened, scheduled, live, ended, ended_itself, event_at, belongs_to, started_at, was_opened, was_closed, is_alive, now}
-use Rattle.reactor_journal.specs.Follow.{may_follow, is_legal}
+use Rattle.reactor_journal.specs.declared.entry.Entry.TheVariants.{Opened, Scheduled, Started, Returned, Refused, Removed, Closed}
+use Rattle.reactor_journal.specs.Past.{past_of, had, origin_of, offered_here, opened, scheduled, live, ended, ended_itself, event_at, was_opened, was_closed}
 use Rattle.reactor_journal.proofs.Alive.{alive_was_opened, opened_below}
 use Rattle.reactor_journal.proofs.Picking.{all_below-at}
 use Rattle.reactor_journal.proofs.Turning.{past_split}
 use Rattle.reactor_journal.proofs.Basics.{may_fits}
 use Rattle.reactor_journal.proofs.Closing.{closing, closed_gone, dead}
 use Rattle.event_script.specs.Script.{ScriptGroup, steps_of}
-use Rattle.acceptor.specs.Servers.{read_alone}
 use Rattle.log_handler.specs.declared.note.ServerNote.{ServerNote}
 use Rattle.log_handler.specs.declared.note.ServerNote.TheVariants as note
-use Rattle.script_runs.specs.Connections.{HadMemory, Leaves}
-use Rattle.script_runs.specs.Runs.{first_handle, is_closing}
+use Rattle.script_runs.specs.Connections.{HadMemory}
+use Rattle.script_runs.specs.Runs.{is_closing}
 use Rattle.script_runs.proofs.Settling as settling
-use Rattle.script_serial.specs.Serial.{Serial, IsSettledAtOnce, InstallsOnly, IsInstalled, IsTimedBy, OnlyClosesUp, has_room, is_installing}
+use Rattle.script_serial.specs.Serial.{Serial, IsInstalled, IsTimedBy, OnlyClosesUp, has_room}
 use Rattle.script_serial.proofs.Entering.{Entrance, enters, has_all}
 use Rattle.script_serial.proofs.Leaving.{one_turn, same_closing, same_refusal}
-use Rattle.script_serial.proofs.Moves.{IsFree, same_free}
-use Rattle.script_serial.proofs.Quiet.{StartsLast, EndsLast, same_handle}
+use Rattle.script_serial.proofs.Moves.{same_free}
+use Rattle.script_serial.proofs.Quiet.{same_handle}
 
 same_number : (a b : Handle) → a.0 ≡ b.0 → a ≡ b
 same_number a b h = ap (λ (n : ℕ). record { 0 = n }) h

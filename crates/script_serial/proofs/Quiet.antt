@@ -1,12 +1,12 @@
 -- Where each turn is settled at once, nothing is open and no handler waits for its closing, but directly behind what makes it so.
-use Rattle.std.proofs.Common.{◌≡◌, ◌≢◌, ◌∙◌, ◌⊎◌, inl, inr, ℕ, ◌==◌, Bool, true, false, ◌&&◌, ◌||◌, not, List, [], ◌∷◌, refl, sym, subst, ap, Option, Some, None, ⊎_elim}
-use Rattle.std.proofs.lemmas.Bool.{false≢true, and_parts, or_cases, or_parts, both_ways, cases_Bool, eqb-true, eq-eqb}
-use Rattle.ev_types.specs.declared.upcall.Answer.TheVariants.{Keep, Again, Close}
+use Rattle.std.proofs.Common.{◌≡◌, ◌∙◌, ℕ, Bool, true, false, ◌||◌, List, [], ◌∷◌, sym, ap, Option, Some, None, ⊎_elim}
+use Rattle.std.proofs.lemmas.Bool.{false≢true, or_cases, or_parts, both_ways, eqb-true, eq-eqb}
+use Rattle.ev_types.specs.declared.upcall.Answer.TheVariants.{Close}
 use Rattle.ev_types.specs.declared.upcall.Handle.{Handle}
 use Rattle.reactor_journal.specs.Event.{Event}
 use Rattle.reactor_journal.specs.declared.entry.Entry.{Entry}
-use Rattle.reactor_journal.specs.declared.entry.Entry.TheVariants.{Opened, Scheduled, Cancelled, Polled, Due, Ready, Posted, Stale, Started, Returned, Masked, Suspended, Resumed, Refused, Removed, Closed, Ended}
-use Rattle.reactor_journal.specs.Past.{event_at, belongs_to, ends, closes, starts, returns, is_open, was_removed, was_closed, was_returned}
+use Rattle.reactor_journal.specs.declared.entry.Entry.TheVariants.{Started, Returned, Removed, Closed}
+use Rattle.reactor_journal.specs.Past.{event_at, belongs_to, ends, closes, starts, is_open, was_removed, was_closed, was_returned}
 use Rattle.reactor_journal.proofs.OneOpen.{open_cases}
 use Rattle.reactor_journal.proofs.Steps.{open_parts}
 use Rattle.log_handler.specs.declared.note.ServerNote.{ServerNote}

@@ -1,7 +1,7 @@
 -- The reports of a wait that are taken, and how many of them stand behind it so far.
-use Rattle.std.proofs.Common.{◌≡◌, ◌∙◌, ◌⊎◌, inl, inr, ℕ, Bool, true, false, ◌&&◌, ◌||◌, not, List, [], ◌∷◌, ◌++◌, refl, sym, subst, ap, append_assoc, append-nil, ⊎_elim}
+use Rattle.std.proofs.Common.{◌≡◌, ◌∙◌, ◌⊎◌, inl, inr, ℕ, true, false, List, [], ◌∷◌, ◌++◌, refl, sym, append_assoc, ⊎_elim}
 use Rattle.std.specs.List.{filter}
-use Rattle.std.proofs.lemmas.Bool.{false≢true, and_parts, both_ways, cases_Bool}
+use Rattle.std.proofs.lemmas.Bool.{false≢true, and_parts, both_ways}
 use Rattle.ev_base.specs.Playing.{waited}
 use Rattle.ev_base.specs.Terms.{Group}
 use Rattle.ev_base.specs.declared.net.Report.{Report}
@@ -10,7 +10,7 @@ use Rattle.reactor_journal.specs.declared.entry.Entry.TheVariants.{Opened, Sched
 use Rattle.reactor_journal.specs.Follow.{may_follow, is_legal, follows_due, follows_ready}
 use Rattle.reactor_journal.proofs.Basics.{may_fits}
 use Rattle.log_handler.specs.declared.note.ServerNote.{ServerNote}
-use Rattle.script_told.specs.Told.{FollowsBefore, IsToldEntry, taken_before, is_taken, time_left, told}
+use Rattle.script_told.specs.Told.{FollowsBefore, taken_before, is_taken, time_left, told}
 
 -- the reports of the last wait that are taken, as the script tells them, and those that stand behind it
 abbrev pub reports_told : List Group → List (Entry ServerNote) → List Report

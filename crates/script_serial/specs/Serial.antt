@@ -1,11 +1,9 @@
 -- The journal of a server with one worker over a script: each entry is determined by those before it.
-use Rattle.std.specs.Prelude.{◌≡◌, ◌+◌, ◌==◌, ℕ, Bool, true, false, not, ◌&&◌, ◌||◌, List, [], ◌∷◌, ◌++◌, length, Option, Some, None, IsTrue}
+use Rattle.std.specs.Prelude.{◌≡◌, ◌+◌, ◌==◌, ℕ, Bool, true, false, not, ◌&&◌, List, [], ◌∷◌, Option, Some, None}
 use Rattle.std.specs.List.{list_any}
-use Rattle.ev_types.specs.declared.upcall.Handle.{Handle}
 use Rattle.ev_types.specs.declared.upcall.Answer.TheVariants.{Close}
-use Rattle.ev_types.specs.declared.upcall.Mask.{Mask}
 use Rattle.reactor_journal.specs.declared.entry.Entry.{Entry}
-use Rattle.reactor_journal.specs.declared.entry.Entry.TheVariants.{Opened, Scheduled, Cancelled, Polled, Due, Ready, Posted, Stale, Started, Returned, Masked, Suspended, Resumed, Refused, Removed, Closed, Ended}
+use Rattle.reactor_journal.specs.declared.entry.Entry.TheVariants.{Opened, Scheduled, Cancelled, Polled, Posted, Stale, Started, Returned, Masked, Suspended, Resumed, Refused, Removed, Closed, Ended}
 use Rattle.reactor_journal.specs.Past.{past_of, event_at, belongs_to, ended, opened, live, now, is_alive, is_overdue, is_pick, any_below, all_below, was_closed}
 use Rattle.reactor_journal.specs.Follow.{Legal, most_handles, follows_ready}
 use Rattle.acceptor.specs.Servers.{read_alone}
