@@ -1,0 +1,2 @@
+pub mod ByTurns
+pub mod Laws

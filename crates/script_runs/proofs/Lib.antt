@@ -1,0 +1,16 @@
+pub mod ByTurns
+pub mod Scripts
+pub mod Numbering
+pub mod Standing
+pub mod Glue
+pub mod Handles
+pub mod Settling
+pub mod Notes
+pub mod Turns
+pub mod Winding
+pub mod Taking
+pub mod Offering
+pub mod Whole
+pub mod Living
+pub mod Refusing
+pub mod Second
