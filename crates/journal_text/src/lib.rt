@@ -2,9 +2,9 @@
 #![tactic(auto)]
 
 mod entries;
-
+mod journal_sink;
 mod notes;
 mod words;
 
 pub use entries::{put_entry_line, put_most_line};
-
+pub use journal_sink::JournalSink;
