@@ -6,8 +6,8 @@ ghost use Rattle.log_lines.specs.Texts.{type_text, record_text, record_line, rec
 
 use crate::EndKind;
 use crate::message::put_message;
+use crate::numbers::{put_signed, put_unsigned};
 use cdr_record::LogRecord;
-use itoa::Buffer;
 use sink_buffer::TextOut;
 
 /// Puts a record's text: `SEC,USEC PID NAME: MESSAGE`.
@@ -75,22 +75,6 @@ fn put_word_and_number<T: TextOut>(out: &mut T, word: &[u8], number: u64)
 {
     out.put(word);
     put_unsigned(out, number);
-}
-
-/// Puts a number in decimal digits.
-fn put_unsigned<T: TextOut>(out: &mut T, number: u64)
-    ensures { Puts T.stands out.old (decimal number) out.new }
-{
-    let mut digits = Buffer::new();
-    out.put(digits.format(number).as_bytes());
-}
-
-/// Puts a number in decimal digits, behind a minus sign if it is below 0.
-fn put_signed<T: TextOut>(out: &mut T, number: i64)
-    ensures { Puts T.stands out.old (signed_decimal number) out.new }
-{
-    let mut digits = Buffer::new();
-    out.put(digits.format(number).as_bytes());
 }
 
 /// Puts a record's type: the name of a priority, or the number.

@@ -1,0 +1,8 @@
+use Rattle.std.proofs.Common.{take}
+use Rattle.journal_text.specs.Texts.{record_words}
+use Rattle.sink_buffer.specs.Texts.{Puts}
+use Rattle.journal_text.proofs.notes.put_records.Given as goal
+
+-- the words of the records so far
+abbrev pub invariant-loop-entry : goal.invariant-loop-entry
+invariant-loop-entry g l = Puts g.T.TextOut.stands l.fn.out (record_words (take l.entry-index l.records)) l.out

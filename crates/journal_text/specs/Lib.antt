@@ -1,0 +1,3 @@
+pub mod Texts
+pub mod JournalSink
+pub mod Faults
