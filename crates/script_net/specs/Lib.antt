@@ -6,3 +6,6 @@ pub mod Listeners
 pub mod Keeps
 pub mod ScriptEnd
 pub mod StoryOfEnd
+pub mod Seating
+pub mod LatestPlaces
+pub mod Sorting

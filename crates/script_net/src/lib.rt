@@ -7,6 +7,8 @@ mod end;
 mod listener;
 mod peer;
 mod script;
+mod seats;
+mod sorting;
 
 pub use end::ScriptEnd;
 pub use script::{Connection, End, Group, Offer, Part};
