@@ -5,3 +5,6 @@ pub mod KeepsEnds
 pub mod SeatingLemmas
 pub mod SeatsKept
 pub mod SortingLemmas
+pub mod PlayerLemmas
+pub mod NetLemmas
+pub mod StandsKept

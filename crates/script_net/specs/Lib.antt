@@ -9,3 +9,7 @@ pub mod StoryOfEnd
 pub mod Seating
 pub mod LatestPlaces
 pub mod Sorting
+pub mod Player
+pub mod NetContent
+pub mod NetRoom
+pub mod NetLaws

@@ -1,5 +1,7 @@
 //! The ends of a script.
 ghost use Rattle.std.specs.Prelude.{◌≡◌, ◌≤◌, ◌<◌, ◌↔◌, true, false, length};
+ghost use Rattle.ev_base.specs.Playing.{end_of_serial};
+ghost use Rattle.script_net.specs.Scripts.{end_view};
 ghost use Rattle.script_net.specs.ScriptEnd.{script_end_facts, role_held};
 
 use crate::listener::Listener;
@@ -33,6 +35,26 @@ impl ScriptEnd {
         match &self.role {
             Role::Listener(_) => &[],
             Role::Connection(peer) => peer.held(),
+        }
+    }
+
+    // The end at which the steps of a script reach it.
+    pub(crate) fn place(&self) -> End
+        ensures { end_view result ≡ end_of_serial (script_end_facts self.now).serial }
+    {
+        match &self.role {
+            Role::Listener(_) => End::Listener,
+            Role::Connection(peer) => End::Connection(peer.number()),
+        }
+    }
+
+    // Its serial number, if it has one: a listener has none.
+    pub(crate) fn serial(&self) -> Option<u64>
+        ensures { result ≡ (script_end_facts self.now).serial }
+    {
+        match &self.role {
+            Role::Listener(_) => None,
+            Role::Connection(peer) => Some(peer.number()),
         }
     }
 }

@@ -5,10 +5,13 @@
 
 mod end;
 mod listener;
+mod net;
 mod peer;
+mod player;
 mod script;
 mod seats;
 mod sorting;
 
 pub use end::ScriptEnd;
+pub use net::ScriptNet;
 pub use script::{Connection, End, Group, Offer, Part};

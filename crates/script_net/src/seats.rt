@@ -97,6 +97,13 @@ impl Seats {
         })
     }
 
+    /// How many ends were attached in all.
+    pub(crate) fn made(&self) -> usize
+        ensures { result ≡ self.now.made }
+    {
+        self.places.len()
+    }
+
     /// Makes room for n ends more. After `NoMemory` there is no less than before.
     pub(crate) fn reserve(&mut self, n: usize) -> Result<(), NoMemory>
         ensures same { self.new ≡ record self.old { room = self.new.room } }
