@@ -6,6 +6,7 @@ use Rattle.std.specs.declared.alloc.Global.{Global}
 use Rattle.std.proofs.lemmas.Bool.{eqb-true, eq-eqb}
 use Rattle.std.proofs.lemmas.Bool.Decides.{nat_tests}
 use Rattle.ev_types.specs.declared.upcall.Mask.{Mask}
+use Rattle.ev_base.specs.Counts.{counted}
 use Rattle.ev_base.specs.Terms.{StepEnd, Step, Group}
 use Rattle.ev_base.specs.Net.{Call, Waits, AnswersWait, NetWaits, AreWanted, is_wanted, mask_has, changed_mask, without_mask, SetsMaskOf, RetiresEnd, with_one, NetFacts, SetsMask, Retires}
 use Rattle.ev_base.specs.Net as net
@@ -248,3 +249,16 @@ fewer handle (seat ∷ seats) (zero, lt, is) =
     let out : length (kept handle (seat ∷ seats)) ≡ length (kept handle seats) = ap (λ b. length (cond (not b) (seat ∷ kept handle seats) (kept handle seats))) (eq-eqb seat.handle handle is) in
     omega (arith, out, no_more handle seats)
 fewer handle (seat ∷ seats) (suc k, lt, is) = fewer_if handle seat seats (not (seat.handle == handle)) (fewer handle seats (k, omega (arith, lt), is))
+
+-- the net behind a wait, field by field
+pub after_is : (n : NetContent) (most : Option ℕ) (groups : List Group) (calls : List Call) (reports : List Report) (waits : ℕ) → groups ≡ n.groups
+    → calls ≡ Waits most (waited most (playing_of n)).answer (waited most (playing_of n)).reports ∷ n.calls → reports ≡ (waited most (playing_of n)).reports → waits ≡ counted n.waits
+    → record n { groups = groups; calls = calls; reports = reports; waits = waits } ≡ after_wait most n
+after_is n most groups calls reports waits e f g h = λ i. record n { groups = e i; calls = f i; reports = g i; waits = h i }
+
+pub waits_as : (n old new : NetContent) (most : Option ℕ) (answer : Waited) → n ≡ old → AreInOrder (playing_of n).moment (playing_of n).groups → (playing_of n).moment ≤ last_moment
+    → answer ≡ (waited most (playing_of n)).answer → new ≡ after_wait most n → NetWaits (script_net_facts old) most answer (script_net_facts new)
+waits_as n old new most answer is order last answered after =
+    subst (λ (o : NetContent). NetWaits (script_net_facts o) most answer (script_net_facts new)) is
+    (subst (λ (a : Waited). NetWaits (script_net_facts n) most a (script_net_facts new)) (sym answered)
+      (subst (λ (m : NetContent). NetWaits (script_net_facts n) most (waited most (playing_of n)).answer (script_net_facts m)) (sym after) (net_waits n most order last)))

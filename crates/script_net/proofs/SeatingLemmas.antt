@@ -401,3 +401,16 @@ module _ (h : ℕ) where
 
   pub ends_taken : (ps : List Place) (k : ℕ) → AreOnce ps → (at : IsPlaceOf ps h k) → map (λ (s : Seat). s.end) (taken (seats_of ps)) ≡ end_view at.place.end ∷ []
   ends_taken ps k once at = ap (map (λ (s : Seat). s.end)) (seats_taken ps k (length ps) (slice_get_within ps k at.place at.there) once at)
+
+-- no more ends are attached than were in all
+few_if : (p : Place) (seats : List Seat) (n : ℕ) (b : Bool) → length seats ≤ n → length (cond b (seat_of p ∷ seats) seats) ≤ suc n
+few_if p seats n true le = omega arith
+few_if p seats n false le = omega arith
+
+few_step : (o : Option Place) (seats : List Seat) (n : ℕ) → length seats ≤ n → length (and_seat o seats) ≤ suc n
+few_step None seats n le = omega arith
+few_step (Some p) seats n le = few_if p seats n p.attached le
+
+pub seats_few : (ps : List Place) (n : ℕ) → length (seats_to ps n) ≤ n
+seats_few ps zero = omega arith
+seats_few ps (suc n) = few_step (slice_get ps n) (seats_to ps n) n (seats_few ps n)

@@ -99,7 +99,8 @@ impl Seats {
 
     /// How many ends were attached in all.
     pub(crate) fn made(&self) -> usize
-        ensures { result ≡ self.now.made }
+        ensures made { result ≡ self.now.made }
+        ensures few { length self.now.seats ≤ self.now.made }
     {
         self.places.len()
     }
