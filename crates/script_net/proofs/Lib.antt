@@ -8,3 +8,4 @@ pub mod SortingLemmas
 pub mod PlayerLemmas
 pub mod NetLemmas
 pub mod StandsKept
+pub mod Made

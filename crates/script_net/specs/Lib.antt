@@ -4,6 +4,7 @@ pub mod Scripts
 pub mod Ends
 pub mod Listeners
 pub mod Keeps
+pub mod Numbering
 pub mod ScriptEnd
 pub mod StoryOfEnd
 pub mod Seating
@@ -13,3 +14,6 @@ pub mod Player
 pub mod NetContent
 pub mod NetRoom
 pub mod NetLaws
+pub mod Hosts
+pub mod Host
+pub mod HostLaws

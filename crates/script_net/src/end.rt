@@ -2,6 +2,7 @@
 ghost use Rattle.std.specs.Prelude.{◌≡◌, ◌≤◌, ◌<◌, ◌↔◌, true, false, length};
 ghost use Rattle.ev_base.specs.Playing.{end_of_serial};
 ghost use Rattle.script_net.specs.Scripts.{end_view};
+ghost use Rattle.script_net.specs.Numbering.{IsNumbered};
 ghost use Rattle.script_net.specs.ScriptEnd.{script_end_facts, role_held};
 
 use crate::listener::Listener;
@@ -28,6 +29,25 @@ pub struct ScriptEnd {
 }
 
 impl ScriptEnd {
+    // The end of a listener.
+    pub(crate) fn of_listener(listener: Listener) -> ScriptEnd
+        ensures { result.role ≡ Role.Listener listener }
+    {
+        ScriptEnd {
+            role: Role::Listener(listener),
+        }
+    }
+
+    // Says that the connections which a listener offers have rising numbers.
+    pub(crate) fn is_numbered(&self) -> bool
+        ensures { IsNumbered (script_end_facts self.now).offering }
+    {
+        match &self.role {
+            Role::Listener(listener) => listener.is_numbered(),
+            Role::Connection(_) => true,
+        }
+    }
+
     /// The bytes that were written to it, in order. A listener has none.
     pub fn held(&self) -> &[u8]
         ensures { result.now ≡ role_held self.now.role }

@@ -9,9 +9,11 @@ mod net;
 mod peer;
 mod player;
 mod script;
+mod script_host;
 mod seats;
 mod sorting;
 
 pub use end::ScriptEnd;
 pub use net::ScriptNet;
 pub use script::{Connection, End, Group, Offer, Part};
+pub use script_host::{Script, ScriptHost, ScriptWake};

@@ -67,6 +67,13 @@ impl Listener {
         }
     }
 
+    /// Says that the connections which it offers have rising numbers.
+    pub(crate) fn is_numbered(&self) -> bool
+        ensures { AreNumbered (many_offered self.now.offering.given) self.now.offering.left }
+    {
+        self.next <= self.offers.len() || self.faults == 0
+    }
+
     /// Takes the next of its story.
     pub(crate) fn accept(&mut self) -> Taken<Peer>
         ensures accepts { Accepts peer_facts (listener_facts self.old) result (listener_facts self.new) }

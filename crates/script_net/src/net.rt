@@ -1,14 +1,20 @@
 //! A demultiplexer that plays a script.
-ghost use Rattle.std.specs.Prelude.{◌≡◌, ◌≤◌, ◌<◌, ◌+◌, ◌-◌, ◌∷◌, ℕ, [], length, option_map, Some, None, OnOk, IsOk, Contains};
+ghost use Rattle.std.specs.Prelude.{◌≡◌, ◌≤◌, ◌<◌, ◌+◌, ◌-◌, ◌∷◌, ℕ, [], length, option_map, reverse, Some, None, OnOk, IsOk, IfOk, Contains};
 ghost use Rattle.ev_base.specs.Counts.{counted};
 ghost use Rattle.ev_base.specs.Playing.{waited};
+ghost use Rattle.script_net.specs.Scripts.{group_views};
+ghost use Rattle.script_net.specs.Playable.{AreInOrder, AllWithin, many_steps};
 ghost use Rattle.script_net.specs.NetContent.{script_net_facts, script_net_keeps, playing_of, after_failed_wait, after_wait, retired_of};
 
 use crate::end::ScriptEnd;
 use crate::player::Player;
+use crate::script::Group;
+use crate::seats::Seats;
+use crate::sorting::MOST_REPORTS;
 use ev_base::{Net, Report, Waited};
 use ev_types::{Handle, Mask, NetFailed, NoMemory};
 use net_calls::{Calls, Made};
+use std::alloc::Global;
 use std::marker::Model;
 
 /// A demultiplexer that plays the groups of a script. It takes no memory but in `reserve`.
@@ -51,6 +57,51 @@ impl Model for ScriptNet {
 }
 
 impl ScriptNet {
+    ghost use Rattle.script_net.specs.Hosts.{new_net};
+
+    // A net that made no call. It has room to hold back all steps of its groups.
+    pub(crate) fn new(
+        alloc: Global,
+        groups: Vec<Group>,
+        connections: usize,
+        steps: usize,
+    ) -> Result<ScriptNet, NoMemory>
+        requires order { AreInOrder 0 (group_views groups.items) }
+        requires within { AllWithin connections (group_views groups.items) }
+        requires steps { many_steps (group_views groups.items) ≤ steps }
+        ensures { IfOk result (λ net. net ≡ new_net (group_views groups.items)) }
+    {
+        Ok(ScriptNet {
+            player: Player {
+                groups,
+                next: 0,
+                now: 0,
+                held: Vec::with_capacity(alloc, steps)?,
+                first: 0,
+                passed: Vec::with_capacity(alloc, steps)?,
+                reports: Vec::with_capacity(alloc, MOST_REPORTS)?,
+                seats: Seats::new(alloc, connections)?,
+            },
+            retired: Vec::new(alloc),
+            turned_away: Vec::new(alloc),
+            spare: 0,
+            waits: 0,
+            attaches: 0,
+            fail_waits: Vec::new(alloc),
+            fail_attaches: Vec::new(alloc),
+            failed_waits: 0,
+            failed_attaches: 0,
+            calls: Calls::none(),
+        })
+    }
+
+    /// The end that was retired last under a handle, or `None` where there is none.
+    pub fn retired(&self, handle: Handle) -> Option<&ScriptEnd>
+        ensures { option_map (λ end. end.now) result ≡ retired_of handle.0 self.now.retired }
+    {
+        last_of(&self.retired, handle.0)
+    }
+
     /// Names the waits that fail, by their numbers from 0, in the place of those that were named before.
     pub fn fail_waits(&mut self, numbers: Vec<u64>)
         ensures { self.new ≡ record self.old { fail_waits = numbers.items } }
@@ -187,4 +238,19 @@ impl Net for ScriptNet {
     ghost sound = { net_is_sound };
 
     ghost keeps_groups = { net_follows_groups };
+}
+
+// The end that stands last under a handle.
+fn last_of(retired: &[(u64, ScriptEnd)], handle: u64) -> Option<&ScriptEnd>
+    ensures { option_map (λ end. end.now) result ≡ retired_of handle (reverse retired.now) }
+{
+    let mut left = retired.len();
+    while left > 0 {
+        left -= 1;
+        let entry = &retired[left];
+        if entry.0 == handle {
+            return Some(&entry.1);
+        }
+    }
+    None
 }
