@@ -1,11 +1,11 @@
 -- What an accept does to what the listener tells.
-use Rattle.std.proofs.Common.{◌≡◌, ◌∙◌, ℕ, zero, suc, ◌+◌, ◌<◌, ◌≤◌, ◌⊎◌, inl, inr, List, [], ◌∷◌, ◌++◌, length, take, drop, Option, Some, None, refl, sym, ap, subst, arith}
+use Rattle.std.proofs.Common.{◌≡◌, ◌∙◌, ℕ, suc, ◌+◌, ◌<◌, inr, List, [], ◌∷◌, ◌++◌, length, Some, refl, sym, ap, subst, arith}
 use Rattle.ev_base.specs.Counts.{counted}
 use Rattle.ev_base.specs.Story.{Part, Offer, Connection, NoneThere, OneFailure, Offering, AreNumbered}
 use Rattle.ev_base.specs.End.{Try, Accepted, Paused, Faulted, AcceptsEnd, AcceptsNone, FailsToAccept, CountsAccept}
-use Rattle.script_net.specs.Content.{ConnectionContent, PeerContent, ListenerContent}
+use Rattle.script_net.specs.Content.{ConnectionContent, ListenerContent}
 use Rattle.script_net.specs.Playable.{many_offered}
-use Rattle.script_net.specs.Ends.{listener_facts, peer_facts, new_peer, front_bytes, IsListener, offering_at}
+use Rattle.script_net.specs.Ends.{listener_facts, peer_facts, new_peer, front_bytes, IsListener}
 
 -- an offer was told: it was the first that was left
 pub record Moves (old : Offering) (offer : Offer) (new : Offering) : Type 0 where

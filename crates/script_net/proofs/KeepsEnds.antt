@@ -1,13 +1,12 @@
 -- That the calls of the ends keep the stories that the terms have of them.
-use Rattle.std.proofs.Common.{◌≡◌, ◌∙◌, ℕ, zero, suc, ◌+◌, ◌<◌, ◌≤◌, ◌⊎◌, inl, inr, Bool, true, false, cond, List, [], ◌∷◌, ◌++◌, length, take, drop, Option, Some, None, refl, sym, ap, subst, arith, add-zero}
+use Rattle.std.proofs.Common.{◌≡◌, ◌∙◌, ℕ, suc, ◌+◌, ◌⊎◌, inl, inr, Bool, true, false, cond, List, [], ◌∷◌, ◌++◌, length, take, Option, Some, None, refl, sym, ap, subst, arith, add-zero}
 use Rattle.std.specs.Prelude.{nat_lt}
-use Rattle.std.specs.List.{slice_get}
-use Rattle.std.proofs.lemmas.List.{append-nil, append_assoc}
+use Rattle.std.proofs.lemmas.List.{append_assoc}
 use Rattle.ev_base.specs.Bytes.{ReaderBytes, MovesOn}
 use Rattle.ev_base.specs.Story.{Part, Piece, Pausing, Ending, Failing, Offer, Connection, NoneThere, OneFailure, Story, OfBytes, OfParts, Telling, Offering, told_after, TakesOffer, NoOfferLeft}
 use Rattle.ev_base.specs.Terms.{Terms, story_of}
 use Rattle.ev_base.specs.KeepsStory.{KeepsStory, IsStory}
-use Rattle.ev_base.specs.End.{EndReads, EndFacts, Accepts, AcceptsNone}
+use Rattle.ev_base.specs.End.{EndReads}
 use Rattle.ev_base.specs.declared.source.Got.{Got}
 use Rattle.ev_base.specs.declared.source.Got.TheVariants as got
 use Rattle.script_net.specs.Content.{ConnectionContent, PeerContent, ListenerContent}

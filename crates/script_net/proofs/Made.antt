@@ -1,19 +1,17 @@
 -- What is made of a script.
-use Rattle.std.proofs.Common.{◌≡◌, ◌∙◌, ℕ, zero, suc, ◌+◌, ◌<◌, ◌≤◌, ◌==◌, cond, Bool, true, false, List, [], ◌∷◌, ◌++◌, length, take, drop, get_or, reverse, replicate, Option, Some, None, Vec, vec_capacity, refl, sym, ap, subst, arith}
+use Rattle.std.proofs.Common.{◌≡◌, ◌∙◌, ℕ, zero, suc, ◌+◌, ◌<◌, ◌≤◌, ◌==◌, cond, Bool, true, false, List, [], ◌∷◌, length, take, drop, get_or, reverse, replicate, Some, vec_capacity, refl, sym, ap, subst, arith}
 use Rattle.std.specs.Prelude.{unwrap_or}
 use Rattle.std.specs.List.{slice_get}
-use Rattle.std.specs.declared.alloc.Global.{Global}
 use Rattle.std.proofs.lemmas.List.{take_more, reverse-append, length-replicate}
-use Rattle.ev_base.specs.Terms.{Terms, StepEnd, AtListener, AtConnection, Group}
+use Rattle.ev_base.specs.Terms.{Terms, AtListener, AtConnection}
 use Rattle.ev_base.specs.Playing.{at_start, without, most_reports}
-use Rattle.ev_base.specs.KeepsStory.{KeepsStory}
 use Rattle.script_net.specs.declared.player.Player.{Player}
 use Rattle.script_net.specs.Scripts.{group_views, steps_at}
 use Rattle.script_net.specs.Playable.{AreInOrder, AreWithin, AllWithin, many_steps}
-use Rattle.script_net.specs.Seating.{SeatsContent, Marks, is_marked, new_seats}
+use Rattle.script_net.specs.Seating.{SeatsContent, new_seats}
 use Rattle.script_net.specs.Sorting.{AreMarks}
 use Rattle.script_net.specs.Player.{Stands}
-use Rattle.script_net.specs.Ends.{new_listener, listener_facts}
+use Rattle.script_net.specs.Ends.{new_listener}
 use Rattle.script_net.specs.Keeps.{ListenerKeeps}
 use Rattle.script_net.specs.Hosts.{ScriptContent, LaysDown}
 use Rattle.script_net.specs.NetContent.{retired_of}
@@ -77,10 +75,10 @@ pub last_here : (retired : List Entry) (left k handle : ℕ) (x : Entry) → lef
     → Some x.1 ≡ retired_of handle (reverse (take left retired))
 last_here retired left k handle x is lt read same =
     sym (ap (λ (n : ℕ). retired_of handle (reverse (take n retired))) is ∙ ap (retired_of handle) (reverse_more retired k x lt)
-      ∙ ap (λ (y : Entry). retired_of handle (y ∷ reverse (take k retired))) (sym read) ∙ last_if handle x (reverse (take k retired)) true (eq-eqb x.0 handle same))
+    ∙ ap (λ (y : Entry). retired_of handle (y ∷ reverse (take k retired))) (sym read) ∙ last_if handle x (reverse (take k retired)) true (eq-eqb x.0 handle same))
 
 pub last_before : (retired : List Entry) (left k handle : ℕ) (x : Entry) → left ≡ k + 1 → k < length retired → x ≡ get_or retired k x → (x.0 == handle) ≡ false
     → retired_of handle (reverse (take k retired)) ≡ retired_of handle (reverse (take left retired))
 last_before retired left k handle x is lt read other =
     sym (ap (λ (n : ℕ). retired_of handle (reverse (take n retired))) is ∙ ap (retired_of handle) (reverse_more retired k x lt)
-      ∙ ap (λ (y : Entry). retired_of handle (y ∷ reverse (take k retired))) (sym read) ∙ last_if handle x (reverse (take k retired)) false other)
+    ∙ ap (λ (y : Entry). retired_of handle (y ∷ reverse (take k retired))) (sym read) ∙ last_if handle x (reverse (take k retired)) false other)

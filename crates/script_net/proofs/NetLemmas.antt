@@ -1,19 +1,17 @@
 -- What the calls of a net that plays a script do to what it tells.
-use Rattle.std.proofs.Common.{◌≡◌, ◌≢◌, ◌∙◌, ℕ, zero, suc, ◌+◌, ◌-◌, ◌<◌, ◌≤◌, ◌^◌, Bool, true, false, not, cond, ◌==◌, ◌&&◌, ◌||◌, List, [], ◌∷◌, ◌++◌, length, map, reverse, get_or, Option, Some, None, Vec, vec_capacity, refl, sym, ap, subst, arith}
-use Rattle.std.specs.Prelude.{nat_lt}
-use Rattle.std.specs.List.{filter, Contains, list_any, list_all}
-use Rattle.std.specs.declared.alloc.Global.{Global}
+use Rattle.std.proofs.Common.{◌≡◌, ◌∙◌, ℕ, zero, suc, ◌+◌, ◌<◌, ◌≤◌, Bool, true, false, not, cond, ◌==◌, ◌&&◌, ◌||◌, List, [], ◌∷◌, length, map, Option, Some, None, refl, sym, ap, subst, arith}
+use Rattle.std.specs.List.{filter, Contains, list_all}
 use Rattle.std.proofs.lemmas.Bool.{eqb-true, eq-eqb}
 use Rattle.std.proofs.lemmas.Bool.Decides.{nat_tests}
 use Rattle.ev_types.specs.declared.upcall.Mask.{Mask}
 use Rattle.ev_base.specs.Counts.{counted}
-use Rattle.ev_base.specs.Terms.{StepEnd, Step, Group}
+use Rattle.ev_base.specs.Terms.{Step, Group}
 use Rattle.ev_base.specs.Net.{Call, Waits, AnswersWait, NetWaits, AreWanted, is_wanted, mask_has, changed_mask, without_mask, SetsMaskOf, RetiresEnd, with_one, NetFacts, SetsMask, Retires}
 use Rattle.ev_base.specs.Net as net
-use Rattle.ev_base.specs.Playing.{Seat, Playing, Answered, is_end, is_at, report_at, gives, given, without, waited, by_held, of_held, of_groups, of_group, of_none, of_time, answer_at, is_late, time_up, most_reports, masked, has_handle, attached, mask_set, dropped, retired, turned_away, played, Plays}
+use Rattle.ev_base.specs.Playing.{Seat, Playing, Answered, is_end, report_at, gives, given, without, waited, by_held, of_groups, of_group, of_time, answer_at, is_late, time_up, most_reports, masked, has_handle}
 use Rattle.ev_base.specs.declared.net.Report.{Report}
 use Rattle.ev_base.specs.declared.net.Waited.{Waited}
-use Rattle.ev_base.specs.declared.net.Waited.TheVariants.{Reports, Quiet, Over, Failed}
+use Rattle.ev_base.specs.declared.net.Waited.TheVariants.{Quiet, Over}
 use Rattle.script_net.specs.Playable.{AreInOrder, last_moment}
 use Rattle.script_net.specs.declared.end.ScriptEnd.{ScriptEnd}
 use Rattle.script_net.specs.Seating.{handles_of}
@@ -261,4 +259,4 @@ pub waits_as : (n old new : NetContent) (most : Option ℕ) (answer : Waited) �
 waits_as n old new most answer is order last answered after =
     subst (λ (o : NetContent). NetWaits (script_net_facts o) most answer (script_net_facts new)) is
     (subst (λ (a : Waited). NetWaits (script_net_facts n) most a (script_net_facts new)) (sym answered)
-      (subst (λ (m : NetContent). NetWaits (script_net_facts n) most (waited most (playing_of n)).answer (script_net_facts m)) (sym after) (net_waits n most order last)))
+    (subst (λ (m : NetContent). NetWaits (script_net_facts n) most (waited most (playing_of n)).answer (script_net_facts m)) (sym after) (net_waits n most order last)))

@@ -1,21 +1,19 @@
 -- What the player of a script does to what it stands for.
-use Rattle.std.proofs.Common.{◌≡◌, ◌∙◌, ℕ, zero, suc, ◌+◌, ◌-◌, ◌<◌, ◌≤◌, Bool, true, false, not, cond, List, [], ◌∷◌, ◌++◌, length, drop, get_or, map, Option, Some, None, Vec, vec_capacity, refl, sym, ap, subst, arith}
-use Rattle.std.specs.Prelude.{nat_lt}
+use Rattle.std.proofs.Common.{◌≡◌, ◌∙◌, ℕ, zero, suc, ◌+◌, ◌-◌, ◌<◌, ◌≤◌, Bool, true, false, cond, List, [], ◌∷◌, ◌++◌, length, drop, get_or, Option, Some, None, Vec, vec_capacity, refl, sym, ap, subst, arith}
 use Rattle.std.specs.declared.alloc.Global.{Global}
 use Rattle.std.proofs.lemmas.Bool.Decides.{nat_tests}
 use Rattle.std.proofs.lemmas.Option.{same_Some}
 use Rattle.std.proofs.lemmas.List.{append_assoc, length-append, length-map, length-drop, drop_all, drop-drop, drop-append-le}
-use Rattle.ev_base.specs.Terms.{StepEnd, Step, Group}
+use Rattle.ev_base.specs.Terms.{Step, Group}
 use Rattle.ev_base.specs.Playing.{Seat, Playing, report_at, gives, leaves, given, left, without, waited, by_held, of_held, of_groups, of_none, of_time, of_group, answer_at, is_late, time_up, most_reports}
 use Rattle.ev_base.specs.declared.net.Report.{Report}
-use Rattle.ev_base.specs.declared.net.Waited.{Waited}
 use Rattle.ev_base.specs.declared.net.Waited.TheVariants.{Over, Quiet}
 use Rattle.script_net.specs.declared.player.Player.{Player}
 use Rattle.script_net.specs.declared.script.End.{End}
 use Rattle.script_net.specs.declared.script.Group.{Group as ScriptGroup}
 use Rattle.script_net.specs.Scripts.{step_at, steps_at, group_view, group_views}
 use Rattle.script_net.specs.Playable.{AreInOrder, AreWithin, AllWithin, many_steps, last_moment}
-use Rattle.script_net.specs.Sorting.{AreMarks, AreGiven, WaitSorts}
+use Rattle.script_net.specs.Sorting.{AreGiven, WaitSorts}
 use Rattle.script_net.specs.Player.{Stands, connections_of, held_of, GivesHeld, GivesGroup, PlayerWaits}
 use Rattle.script_net.proofs.Opened.{opened}
 use Rattle.script_net.proofs.SortingLemmas.{without_more}

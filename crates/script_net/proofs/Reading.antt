@@ -1,16 +1,14 @@
 -- What a read does to what the end of a connection tells.
-use Rattle.std.proofs.Common.{◌≡◌, ◌∙◌, ℕ, zero, suc, ◌+◌, ◌-◌, ◌<◌, ◌≤◌, min, Bool, true, false, cond, List, [], ◌∷◌, ◌++◌, length, take, drop, Option, Some, None, refl, sym, ap, subst, arith}
+use Rattle.std.proofs.Common.{◌≡◌, ◌∙◌, ℕ, zero, suc, ◌+◌, ◌-◌, ◌<◌, ◌≤◌, min, Bool, true, false, cond, List, [], ◌∷◌, ◌++◌, length, take, drop, Some, refl, sym, ap, subst, arith}
 use Rattle.std.specs.Prelude.{nat_lt}
 use Rattle.std.specs.List.{flat_map}
 use Rattle.std.proofs.lemmas.Bool.Decides.{nat_tests}
-use Rattle.std.proofs.lemmas.List.{append-nil, append_assoc, length-append, length-take-le, length-drop, take-append-drop, take_all, drop_all, drop-drop}
-use Rattle.std.proofs.lemmas.Grind.{flat_map-append, common_steps}
-use Rattle.ev_base.specs.Counts.{counted}
+use Rattle.std.proofs.lemmas.List.{append-nil, append_assoc, length-append, length-take-le, length-drop, take-append-drop, take_all, drop-drop}
+use Rattle.std.proofs.lemmas.Grind.{flat_map-append}
 use Rattle.ev_base.specs.Bytes.{ReaderBytes}
 use Rattle.ev_base.specs.Story.{Part, Piece, Pausing, Ending, Failing, Telling, read_answer, read_bytes, told_after}
-use Rattle.ev_base.specs.End.{EndReads, EndFacts}
+use Rattle.ev_base.specs.End.{EndReads}
 use Rattle.ev_base.specs.declared.source.Got.{Got}
-use Rattle.ev_base.specs.declared.source.Got.TheVariants as got
 use Rattle.script_net.specs.Content.{PeerContent}
 use Rattle.script_net.specs.Playable.{AreFilled, IsFilled}
 use Rattle.script_net.specs.Ends.{peer_facts, after_read, got_bytes, given_bytes, rest_bytes, bytes_of, front_bytes, part_bytes, IsInside, IsPeer, telling_at, try_of, starts_over, is_over}
@@ -116,9 +114,10 @@ reads c given at (Piece bytes ∷ left) buffer some inside filled ended same =
       some = omega arith;
       within = omega arith;
       gave = ap length g.given_is ∙ given_long (flat_map part_bytes given ++ take at bytes) (take n (drop at bytes)) buffer n (omega arith) same;
-      bytes =
-          (g.left_is ∙ ap (λ bs. bs ++ rest_bytes (told_after room given at (Piece bytes ∷ left)).at (told_after room given at (Piece bytes ∷ left)).left) (sym same),
-            g.given_is ∙ ap (λ bs. (flat_map part_bytes given ++ take at bytes) ++ bs) (sym same));
+      bytes = (
+        g.left_is ∙ ap (λ bs. bs ++ rest_bytes (told_after room given at (Piece bytes ∷ left)).at (told_after room given at (Piece bytes ∷ left)).left) (sym same),
+        g.given_is ∙ ap (λ bs. (flat_map part_bytes given ++ take at bytes) ++ bs) (sym same),
+      );
       telling = (refl, same, refl);
       was_not_over = not_over (is_over c.last_read) (Piece bytes ∷ left) ended refl;
       over = refl;

@@ -1,10 +1,8 @@
 -- The places of the ends that a net watches.
-use Rattle.std.proofs.Common.{◌≡◌, ◌≢◌, ◌∙◌, ℕ, zero, suc, ◌+◌, ◌<◌, ◌≤◌, Bool, true, false, not, cond, ◌==◌, ◌&&◌, ◌||◌, List, [], ◌∷◌, ◌++◌, length, map, set, Option, Some, None, refl, sym, ap, subst, arith, inl, inr, ◌⊎◌}
-use Rattle.std.specs.Prelude.{unwrap_or}
+use Rattle.std.proofs.Common.{◌≡◌, ◌≢◌, ◌∙◌, ℕ, zero, suc, ◌<◌, ◌≤◌, Bool, true, false, not, cond, ◌==◌, ◌&&◌, List, [], ◌∷◌, ◌++◌, length, map, set, Option, Some, None, refl, sym, ap, subst, arith, inl, inr, ◌⊎◌}
 use Rattle.std.specs.List.{slice_get, filter, Contains}
 use Rattle.std.proofs.lemmas.Bool.{eqb-true, eq-eqb}
-use Rattle.std.proofs.lemmas.Bool.Decides.{nat_tests}
-use Rattle.std.proofs.lemmas.Option.{slice_get_past, slice_get_within, same_Some}
+use Rattle.std.proofs.lemmas.Option.{slice_get_within, same_Some}
 use Rattle.std.proofs.lemmas.List.{length-append, length-set}
 use Rattle.ev_types.specs.declared.upcall.Mask.{Mask}
 use Rattle.ev_types.specs.declared.upcall.Kind.TheVariants.{Read}
@@ -277,8 +275,10 @@ once_set ps k old new there a on once i j p q at_i at_j on_i on_j same = by (get
   where
     was_on : (x : Place) → new ≡ x → x.attached ≡ true → old.attached ≡ true
     was_on x is on_x = on (ap (λ (y : Place). y.attached) is ∙ on_x)
+
     handle_of : (x : Place) → new ≡ x → x.handle ≡ old.handle
     handle_of x is = ap (λ (y : Place). y.handle) (sym is) ∙ a.handle
+
     by : ((i ≡ k) × (new ≡ p)) ⊎ (slice_get ps i ≡ Some p) → ((j ≡ k) × (new ≡ q)) ⊎ (slice_get ps j ≡ Some q) → i ≡ j
     by (inl x) (inl y) = x.0 ∙ sym y.0
     by (inl x) (inr y) = x.0 ∙ once k j old q there y (was_on p x.1 on_i) on_j (sym (handle_of p x.1) ∙ same)

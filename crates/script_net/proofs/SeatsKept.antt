@@ -1,8 +1,8 @@
 -- What the seats keep when an end is attached, and when a place changes.
-use Rattle.std.proofs.Common.{◌≡◌, ◌≢◌, ◌∙◌, ℕ, zero, suc, ◌+◌, ◌<◌, ◌≤◌, ◌⊎◌, inl, inr, Bool, true, false, cond, ◌==◌, ◌||◌, List, [], ◌∷◌, ◌++◌, length, set, get_or, Option, Some, None, refl, sym, ap, subst, arith}
+use Rattle.std.proofs.Common.{◌≡◌, ◌∙◌, ℕ, ◌<◌, ◌⊎◌, inl, inr, Bool, true, false, cond, ◌==◌, ◌||◌, List, [], ◌∷◌, ◌++◌, length, set, get_or, Option, Some, None, refl, sym, ap, subst, arith}
 use Rattle.std.specs.Prelude.{unwrap_or}
 use Rattle.std.specs.List.{slice_get, Contains}
-use Rattle.std.proofs.lemmas.Bool.{eqb-true, eq-eqb}
+use Rattle.std.proofs.lemmas.Bool.{eqb-true}
 use Rattle.std.proofs.lemmas.Option.{slice_get_read, slice_get_within, same_Some}
 use Rattle.std.proofs.lemmas.List.{length-set}
 use Rattle.ev_base.specs.Terms.{StepEnd, AtListener, AtConnection}
@@ -10,7 +10,7 @@ use Rattle.ev_base.specs.Playing.{is_end}
 use Rattle.script_net.specs.Scripts.{end_view}
 use Rattle.script_net.specs.Playable.{IsWithin}
 use Rattle.script_net.specs.declared.seats.Place.{Place}
-use Rattle.script_net.specs.Seating.{Latest, latest_of, with_latest, Marks, is_marked, with_mark, last_to, seats_of, handles_of, AreOnce, AreChained, IsSeating, IsPlaceOf, SeatsContent}
+use Rattle.script_net.specs.Seating.{Latest, latest_of, with_latest, Marks, is_marked, with_mark, last_to, seats_of, handles_of, IsSeating, IsPlaceOf, SeatsContent}
 use Rattle.script_net.proofs.SeatingLemmas.{Alike, last_set, last_more, last_pushed, once_more, once_set, chained_set, get_more, get_same, get_other, not_equal}
 
 pub same_content : (a b : SeatsContent) → a.seats ≡ b.seats → a.marks ≡ b.marks → a.made ≡ b.made → a.room ≡ b.room → a ≡ b

@@ -1,5 +1,5 @@
 -- How a wait sorts steps, one by one.
-use Rattle.std.proofs.Common.{◌≡◌, ◌∙◌, ℕ, zero, suc, ◌+◌, ◌-◌, ◌<◌, ◌≤◌, Bool, true, false, not, cond, List, [], ◌∷◌, ◌++◌, length, drop, map, get_or, Option, Some, None, refl, sym, ap, subst, arith}
+use Rattle.std.proofs.Common.{◌≡◌, ◌∙◌, ℕ, suc, ◌+◌, ◌-◌, ◌<◌, ◌≤◌, Bool, true, false, not, cond, List, [], ◌∷◌, ◌++◌, length, drop, get_or, Option, Some, None, refl, sym, ap, subst, arith}
 use Rattle.std.specs.List.{filter}
 use Rattle.std.proofs.lemmas.List.{append-nil, append_assoc, length-append, map-append, drop_more}
 use Rattle.ev_base.specs.Terms.{StepEnd, Step}
@@ -8,8 +8,8 @@ use Rattle.ev_base.specs.declared.net.Report.{Report}
 use Rattle.script_net.specs.declared.script.End.{End}
 use Rattle.script_net.specs.Scripts.{end_view, step_at, steps_at}
 use Rattle.script_net.specs.Playable.{IsWithin, AreWithin}
-use Rattle.script_net.specs.Seating.{Marks, is_marked, SeatsContent}
-use Rattle.script_net.specs.Sorting.{AreMarks, IsSorted, TakesStep, AreSorted, AreGiven, WaitSorts}
+use Rattle.script_net.specs.Seating.{is_marked, SeatsContent}
+use Rattle.script_net.specs.Sorting.{IsSorted, TakesStep, AreSorted, AreGiven, WaitSorts}
 
 -- with no room nothing is given, and all is left
 none_given : (r : Option Report) (more : ℕ → List Report) → more 0 ≡ [] → gives r 0 more ≡ []
@@ -40,6 +40,7 @@ filter_more p (x ∷ xs) ys = by (p x) ∙ ap (λ zs. cond (p x) (x ∷ zs) zs) 
   where
     by : (b : Bool) → cond b (x ∷ filter p (xs ++ ys)) (filter p (xs ++ ys)) ≡ cond b (x ∷ filter p (xs ++ ys)) (filter p (xs ++ ys))
     by b = refl
+
     back : (b : Bool) → cond b (x ∷ (filter p xs ++ filter p ys)) (filter p xs ++ filter p ys) ≡ cond b (x ∷ filter p xs) (filter p xs) ++ filter p ys
     back true = refl
     back false = refl
@@ -106,7 +107,7 @@ one_step seats all end rest reports reports' passed passed' true r within is tol
     let at = sym (marks (end_view end) (step_at end) refl within) ∙ is in
     subst (λ rs. IsSorted seats.seats (without gone (steps_at all)) rs (without gone (steps_at passed')) (without gone (steps_at rest))) (sym same)
     (subst (λ es. IsSorted seats.seats (without gone (steps_at all)) reports (without gone (steps_at es)) (without gone (steps_at rest))) (sym same')
-      (drops seats.seats (without gone (steps_at all)) reports (without gone (steps_at passed)) gone (step_at end) (steps_at rest) at (sorted gone marks)))
+    (drops seats.seats (without gone (steps_at all)) reports (without gone (steps_at passed)) gone (step_at end) (steps_at rest) at (sorted gone marks)))
 one_step seats all end rest reports reports' passed passed' false None within is told (taken, same, more) sorted gone marks =
     let at = sym (marks (end_view end) (step_at end) refl within) ∙ is in
     let here = subst (IsSorted seats.seats (without gone (steps_at all)) reports (without gone (steps_at passed))) (without_first gone (step_at end) (steps_at rest) false at) (sorted gone marks) in
@@ -114,15 +115,15 @@ one_step seats all end rest reports reports' passed passed' false None within is
     ap (λ ss. without gone (steps_at passed) ++ ss) (sym (without_first gone (step_at end) [] false at)) ∙ sym (without_more gone passed (end ∷ [])) ∙ ap (λ es. without gone (steps_at es)) (sym more) in
     subst (λ rs. IsSorted seats.seats (without gone (steps_at all)) rs (without gone (steps_at passed')) (without gone (steps_at rest))) (sym same)
     (subst (λ ss. IsSorted seats.seats (without gone (steps_at all)) reports ss (without gone (steps_at rest))) passed_one
-      (passes seats.seats (without gone (steps_at all)) reports (without gone (steps_at passed)) (step_at end) (without gone (steps_at rest)) told here))
+    (passes seats.seats (without gone (steps_at all)) reports (without gone (steps_at passed)) (step_at end) (without gone (steps_at rest)) told here))
 one_step seats all end rest reports reports' passed passed' false (Some report) within is told (fits, more, same') sorted gone marks =
     let at = sym (marks (end_view end) (step_at end) refl within) ∙ is in
     let here = subst (IsSorted seats.seats (without gone (steps_at all)) reports (without gone (steps_at passed))) (without_first gone (step_at end) (steps_at rest) false at) (sorted gone marks) in
     let long = length-append reports (report ∷ []) in
     subst (λ rs. IsSorted seats.seats (without gone (steps_at all)) rs (without gone (steps_at passed')) (without gone (steps_at rest))) (sym more)
     (subst (λ es. IsSorted seats.seats (without gone (steps_at all)) (reports ++ report ∷ []) (without gone (steps_at es)) (without gone (steps_at rest))) (sym same')
-      (reports_one seats.seats (without gone (steps_at all)) reports (without gone (steps_at passed)) (step_at end) (without gone (steps_at rest)) report
-        (most_reports - length reports) (most_reports - length (reports ++ report ∷ [])) told (omega (arith, fits, long)) refl refl fits here))
+    (reports_one seats.seats (without gone (steps_at all)) reports (without gone (steps_at passed)) (step_at end) (without gone (steps_at rest)) report
+    (most_reports - length reports) (most_reports - length (reports ++ report ∷ [])) told (omega (arith, fits, long)) refl refl fits here))
 
 pub sorted_more : (seats : SeatsContent) (all : List End) (end : End) (rest : List End) (reports reports' : List Report) (passed passed' : List End) → IsWithin (length seats.marks.connections) (end_view end)
     → TakesStep (is_marked seats.marks (end_view end)) (report_at seats.seats (step_at end)) end reports passed true reports' passed' → AreSorted seats all reports passed (end ∷ rest) → AreSorted seats all reports' passed' rest
@@ -149,8 +150,8 @@ pub sorted_full : (seats : SeatsContent) (all : List End) (reports reports' : Li
 sorted_full seats all reports reports' passed passed' rest f sorted gone marks =
     subst (λ rs. AreGiven seats.seats (without gone (steps_at all)) rs (without gone (steps_at (passed' ++ rest)))) (sym f.same)
     (subst (λ es. AreGiven seats.seats (without gone (steps_at all)) reports (without gone (steps_at (es ++ rest)))) (sym f.same_passed)
-      (subst (AreGiven seats.seats (without gone (steps_at all)) reports) (sym (without_more gone passed rest))
-        (stops seats.seats (without gone (steps_at all)) reports (without gone (steps_at passed)) (without gone (steps_at rest)) f.full (sorted gone marks))))
+    (subst (AreGiven seats.seats (without gone (steps_at all)) reports) (sym (without_more gone passed rest))
+    (stops seats.seats (without gone (steps_at all)) reports (without gone (steps_at passed)) (without gone (steps_at rest)) f.full (sorted gone marks))))
 
 -- ---- what is passed over
 

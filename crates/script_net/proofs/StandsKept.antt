@@ -1,13 +1,12 @@
 -- That a player still stands for its script when its ends are attached, masked, retired and turned away.
-use Rattle.std.proofs.Common.{◌≡◌, ◌∙◌, ℕ, ◌+◌, ◌≤◌, Bool, true, false, not, cond, ◌||◌, List, [], ◌∷◌, ◌++◌, length, map, refl, sym, ap, subst, arith}
-use Rattle.std.specs.List.{filter, list_any}
-use Rattle.ev_types.specs.declared.upcall.Mask.{Mask}
+use Rattle.std.proofs.Common.{◌≡◌, ◌∙◌, ℕ, Bool, true, false, not, cond, ◌||◌, List, [], ◌∷◌, length, map, refl, sym, ap, subst}
+use Rattle.std.specs.List.{filter}
 use Rattle.ev_base.specs.Terms.{StepEnd, Step}
-use Rattle.ev_base.specs.Playing.{Seat, Playing, is_end, is_at, without, masked, has_handle, attached, mask_set, dropped, retired, turned_away}
+use Rattle.ev_base.specs.Playing.{Seat, Playing, is_end, is_at, without, has_handle, dropped, retired}
 use Rattle.script_net.specs.declared.player.Player.{Player}
 use Rattle.script_net.specs.Scripts.{steps_at}
 use Rattle.script_net.specs.Playable.{AreWithin, AllWithin, IsWithin}
-use Rattle.script_net.specs.Seating.{SeatsContent, Marks, is_marked, with_mark}
+use Rattle.script_net.specs.Seating.{SeatsContent, Marks, with_mark}
 use Rattle.script_net.specs.Sorting.{AreMarks}
 use Rattle.script_net.specs.Player.{Stands, held_of}
 use Rattle.script_net.proofs.SeatsKept.{marked_put, marks_same}

@@ -1,8 +1,8 @@
 -- What the ends of a script tell, and what their calls do to them.
-use Rattle.std.specs.Prelude.{◌≡◌, ◌<◌, ◌≤◌, if◌then◌else◌, ◌+◌, ◌-◌, ℕ, min, nat_lt, Bool, true, false, List, [], ◌∷◌, ◌++◌, length, take, drop, flat_map, Option, Some, None, option_map}
+use Rattle.std.specs.Prelude.{◌≡◌, ◌<◌, ◌≤◌, if◌then◌else◌, ◌-◌, ℕ, min, nat_lt, Bool, true, false, List, [], ◌∷◌, ◌++◌, length, take, drop, flat_map, Option, Some, None}
 use Rattle.ev_base.specs.Counts.{counted}
-use Rattle.ev_base.specs.Story.{Part, Piece, Pausing, Ending, Failing, Telling, Offering, Offer, Connection, NoneThere, OneFailure, AreNumbered, read_answer, told_after}
-use Rattle.ev_base.specs.End.{EndFacts, Try, Moved, Accepted, Paused, WasOver, Faulted}
+use Rattle.ev_base.specs.Story.{Part, Piece, Pausing, Ending, Failing, Telling, Offering, Offer, AreNumbered, read_answer, told_after}
+use Rattle.ev_base.specs.End.{EndFacts, Try, Moved, Paused, WasOver, Faulted}
 use Rattle.ev_base.specs.declared.source.Got.{Got}
 use Rattle.ev_base.specs.declared.source.Got.TheVariants as got
 use Rattle.ev_base.specs.declared.end.Sent.{Sent}

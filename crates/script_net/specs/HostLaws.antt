@@ -1,17 +1,15 @@
 -- That a host keeps terms that say nothing of it.
 use Rattle.std.specs.Prelude.{◌≡◌, ℕ, List, Option, Some, None, slice_get, option_and_then}
-use Rattle.std.proofs.Common.{sym, ap, subst, ◌∙◌}
-use Rattle.ev_base.specs.Terms.{Terms, Group, story_of}
-use Rattle.ev_base.specs.Story.{Story, Offer}
+use Rattle.std.proofs.Common.{sym, ap, ◌∙◌}
+use Rattle.ev_base.specs.Terms.{Terms, story_of}
+use Rattle.ev_base.specs.Story.{Story}
 use Rattle.ev_base.specs.Host.{LeavesHostOpen}
 use Rattle.ev_base.specs.KeepsStory.{KeepsStory}
 use Rattle.ev_base.specs.End.{EndFacts}
-use Rattle.script_net.specs.declared.end.ScriptEnd.{ScriptEnd}
 use Rattle.script_net.specs.declared.end.Role.{Role}
 use Rattle.script_net.specs.declared.end.Role.TheVariants as role
 use Rattle.script_net.specs.declared.script_host.ScriptHost.{ScriptHost}
-use Rattle.script_net.specs.NetContent.{NetContent, script_net_keeps}
-use Rattle.script_net.specs.ScriptEnd.{ScriptEndKeeps, RoleKeeps}
+use Rattle.script_net.specs.ScriptEnd.{RoleKeeps}
 use Rattle.script_net.specs.Hosts.{PartsContent, PartsKeep}
 use Rattle.script_net.specs.Host.{HostKeeps}
 

@@ -1,5 +1,5 @@
 -- Scripts as a whole, and hosts that listen by them.
-use Rattle.std.specs.Prelude.{◌≡◌, ℕ, true, List, [], Option, Some, None}
+use Rattle.std.specs.Prelude.{◌≡◌, true, List, [], Option, Some, None}
 use Rattle.ev_base.specs.Terms.{Terms, Group}
 use Rattle.ev_base.specs.Story.{Offer}
 use Rattle.ev_base.specs.End.{IsFresh}

@@ -3,7 +3,6 @@ use Rattle.std.specs.Prelude.{◌≡◌, ◌+◌, ℕ, List, slice_get, Some}
 use Rattle.ev_base.specs.Story.{Story, OfParts}
 use Rattle.ev_base.specs.Terms.{Terms, story_of}
 use Rattle.ev_base.specs.KeepsStory.{KeepsStory}
-use Rattle.ev_base.specs.End.{EndFacts}
 use Rattle.script_net.specs.Content.{ConnectionContent, PeerContent, ListenerContent}
 use Rattle.script_net.specs.Playable.{many_offered}
 use Rattle.script_net.specs.Ends.{peer_facts, listener_facts}

@@ -1,13 +1,11 @@
 -- What contracts see of a net that plays a script, and what it tells.
-use Rattle.std.specs.Prelude.{◌≡◌, ◌≤◌, ◌+◌, ℕ, Bool, true, false, ◌&&◌, ◌==◌, if◌then◌else◌, List, [], ◌∷◌, length, Option, Some, None, Vec, vec_capacity}
-use Rattle.std.specs.declared.alloc.Global.{Global}
+use Rattle.std.specs.Prelude.{◌≡◌, ℕ, Bool, true, false, ◌&&◌, ◌==◌, if◌then◌else◌, List, [], ◌∷◌, Option, Some, None}
 use Rattle.ev_types.specs.declared.upcall.Mask.{Mask}
 use Rattle.ev_base.specs.Counts.{counted}
 use Rattle.ev_base.specs.Terms.{Terms, Group}
 use Rattle.ev_base.specs.Playing.{Playing, Seat, played, Plays, waited}
 use Rattle.ev_base.specs.Net.{NetFacts, Call, Waits}
 use Rattle.ev_base.specs.declared.net.Report.{Report}
-use Rattle.ev_base.specs.declared.net.Waited.{Waited}
 use Rattle.script_net.specs.declared.end.ScriptEnd.{ScriptEnd}
 use Rattle.script_net.specs.Seating.{handles_of}
 

@@ -1,6 +1,6 @@
 -- That a net that never fails has no fault, and that one follows the groups that the terms lay down.
 use Rattle.std.specs.Prelude.{◌≡◌, ℕ, Bool, true, false, ◌&&◌, ◌==◌, List, Option, Some, None}
-use Rattle.std.proofs.Common.{refl, sym, ap, subst}
+use Rattle.std.proofs.Common.{refl}
 use Rattle.std.proofs.lemmas.Bool.{eqb-true}
 use Rattle.ev_base.specs.Terms.{Terms, Group}
 use Rattle.ev_base.specs.Net.{IsSound, Call}

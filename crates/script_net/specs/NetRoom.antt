@@ -1,5 +1,5 @@
 -- How a net that plays a script keeps it.
-use Rattle.std.specs.Prelude.{◌≡◌, ◌≤◌, ◌+◌, ℕ, List, length, Vec, vec_capacity}
+use Rattle.std.specs.Prelude.{◌≤◌, ◌+◌, ℕ, List, length, Vec, vec_capacity}
 use Rattle.std.specs.declared.alloc.Global.{Global}
 use Rattle.ev_base.specs.Net.{Call}
 use Rattle.ev_base.specs.Playing.{played, Plays}

@@ -1,5 +1,5 @@
 -- What holds of every script that can be played.
-use Rattle.std.specs.Prelude.{◌≡◌, ◌≤◌, ◌<◌, ◌+◌, ℕ, List, [], ◌∷◌, length}
+use Rattle.std.specs.Prelude.{◌≤◌, ◌<◌, ◌+◌, ℕ, List, [], ◌∷◌, length}
 use Rattle.ev_base.specs.Story.{Part, Piece, Pausing, Ending, Failing, Offer, Connection, NoneThere, OneFailure}
 use Rattle.ev_base.specs.Terms.{StepEnd, AtListener, AtConnection, Step, Group}
 

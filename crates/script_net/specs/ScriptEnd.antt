@@ -1,5 +1,5 @@
 -- An end of a script, of a connection or the listener.
-use Rattle.std.specs.Prelude.{◌≡◌, ℕ, length, List, [], Option, Some, None}
+use Rattle.std.specs.Prelude.{◌≡◌, ℕ, length, List, []}
 use Rattle.ev_base.specs.Terms.{Terms}
 use Rattle.ev_base.specs.End.{EndFacts}
 use Rattle.script_net.specs.declared.end.ScriptEnd.{ScriptEnd}

@@ -1,9 +1,8 @@
 -- A script as the code keeps it, and what it is in the definitions of scripts.
-use Rattle.std.specs.Prelude.{ℕ, List, map, Option, Some, None}
+use Rattle.std.specs.Prelude.{List, map}
 use Rattle.ev_types.specs.declared.upcall.Kind.TheVariants.{Read}
 use Rattle.ev_base.specs.Story as story
 use Rattle.ev_base.specs.Terms as terms
-use Rattle.ev_base.specs.End as tries
 use Rattle.script_net.specs.declared.script.End.{End}
 use Rattle.script_net.specs.declared.script.End.TheVariants as end
 use Rattle.script_net.specs.declared.script.Group.{Group}

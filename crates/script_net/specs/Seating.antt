@@ -1,5 +1,5 @@
 -- The ends that a net watches: the places in which they were attached, one behind the other.
-use Rattle.std.specs.Prelude.{◌≡◌, ◌≤◌, ◌<◌, ◌+◌, ℕ, zero, suc, Bool, true, false, ◌&&◌, if◌then◌else◌, List, [], ◌∷◌, length, slice_get, slice_set, Option, Some, None, unwrap_or, replicate}
+use Rattle.std.specs.Prelude.{◌≡◌, ℕ, zero, suc, Bool, true, false, ◌&&◌, if◌then◌else◌, List, [], ◌∷◌, length, slice_get, slice_set, Option, Some, None, unwrap_or, replicate}
 use Rattle.ev_types.specs.declared.upcall.Kind.TheVariants.{Read}
 use Rattle.ev_base.specs.Terms.{StepEnd, AtListener, AtConnection}
 use Rattle.ev_base.specs.Playing.{Seat, is_end}

@@ -2,10 +2,10 @@
 use Rattle.std.specs.Prelude.{◌≡◌, ◌≤◌, ◌<◌, ◌+◌, ◌-◌, ℕ, Bool, true, false, List, [], ◌∷◌, ◌++◌, length, drop, Option, Some, None, Vec, vec_capacity}
 use Rattle.std.specs.declared.alloc.Global.{Global}
 use Rattle.ev_base.specs.Terms.{StepEnd, Step}
-use Rattle.ev_base.specs.Playing.{Seat, is_at, report_at, given, left, without, most_reports}
+use Rattle.ev_base.specs.Playing.{Seat, is_at, given, left, without, most_reports}
 use Rattle.ev_base.specs.declared.net.Report.{Report}
 use Rattle.script_net.specs.declared.script.End.{End}
-use Rattle.script_net.specs.Scripts.{end_view, step_at, steps_at}
+use Rattle.script_net.specs.Scripts.{steps_at}
 use Rattle.script_net.specs.Playable.{IsWithin, AreWithin}
 use Rattle.script_net.specs.Seating.{Marks, is_marked, SeatsContent}
 

@@ -35,7 +35,13 @@ impl Player {
         ensures gives { (p : Playing) → Stands self.old p → GivesHeld p self.new }
         ensures rest { (self.new.groups ≡ self.old.groups) × (self.new.seats ≡ self.old.seats) }
     {
-        let stop = sort_out(&self.seats, &self.held, self.first, &mut self.reports, &mut self.passed);
+        let stop = sort_out(
+            &self.seats,
+            &self.held,
+            self.first,
+            &mut self.reports,
+            &mut self.passed,
+        );
         self.first = put_back(&mut self.held, stop, &self.passed);
         self.passed.clear();
     }
@@ -49,7 +55,13 @@ impl Player {
         ensures rest { (self.new.groups ≡ self.old.groups) × (self.new.seats ≡ self.old.seats) }
     {
         let group = &self.groups[self.next];
-        let stop = sort_out(&self.seats, &group.steps, 0, &mut self.reports, &mut self.passed);
+        let stop = sort_out(
+            &self.seats,
+            &group.steps,
+            0,
+            &mut self.reports,
+            &mut self.passed,
+        );
         hold(&mut self.held, &self.passed);
         hold(&mut self.held, &group.steps[stop..]);
         self.now = group.moment;

@@ -1,8 +1,8 @@
-use Rattle.std.proofs.Common.{◌≡◌, ◌∙◌, ◌+◌, ◌∷◌, ◌++◌, [], List, take, drop, true, false, length, sym, ap, subst, arith}
+use Rattle.std.proofs.Common.{◌∙◌, ◌+◌, ◌∷◌, [], List, take, drop, length, sym, ap, subst, arith}
 use Rattle.ev_base.specs.Story as story
 use Rattle.ev_base.specs.Story.{Telling, read_answer, read_bytes, told_after}
 use Rattle.script_net.specs.Scripts.{part_view, part_views}
-use Rattle.script_net.specs.Ends.{telling_at, told_part, IsInside}
+use Rattle.script_net.specs.Ends.{told_part, IsInside}
 use Rattle.script_net.proofs.Opened.{opened, closed}
 use Rattle.script_net.proofs.peer.tell.Goals as goal
 

@@ -1,8 +1,8 @@
-use Rattle.std.proofs.Common.{◌≡◌, ◌∙◌, ◌<◌, ◌≤◌, suc, true, length, Option, Some, None, sym, ap, subst, arith}
+use Rattle.std.proofs.Common.{◌≡◌, ◌∙◌, ◌≤◌, suc, true, Option, sym, ap, subst, arith}
 use Rattle.ev_base.specs.declared.net.Report.{Report}
 use Rattle.script_net.specs.Scripts.{end_view}
-use Rattle.script_net.specs.Seating.{last_to, found_to, or_else, own_report, report_of, is_place_of}
-use Rattle.script_net.proofs.SeatingLemmas.{IsLast, is_last, none_found, its_report, place_behind, behind_bound}
+use Rattle.script_net.specs.Seating.{found_to, or_else, is_place_of}
+use Rattle.script_net.proofs.SeatingLemmas.{is_last, none_found, its_report, place_behind, behind_bound}
 use Rattle.script_net.proofs.seats.find_report.Goals as goal
 
 pub place_at-place-requires : goal.place_at-place-requires

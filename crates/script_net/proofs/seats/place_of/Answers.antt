@@ -1,5 +1,4 @@
 use Rattle.std.proofs.Common.{length, arith}
-use Rattle.script_net.specs.Seating.{IsPlaceOf}
 use Rattle.script_net.proofs.SeatingLemmas.{has_place}
 use Rattle.script_net.proofs.seats.place_of.Goals as goal
 

@@ -1,6 +1,4 @@
-use Rattle.std.proofs.Common.{◌≤◌, ◌+◌, length, drop, vec_len, vec_capacity}
-use Rattle.script_net.specs.Scripts.{steps_at}
-use Rattle.script_net.specs.Playable.{AreWithin}
+use Rattle.std.proofs.Common.{vec_capacity}
 use Rattle.script_net.specs.Sorting.{IsUnderWay}
 use Rattle.script_net.proofs.sorting.sort_out.Given as goal
 

@@ -1,4 +1,4 @@
-use Rattle.std.proofs.Common.{◌≡◌, ◌∙◌, ◌+◌, ◌++◌, [], ◌<◌, ℕ, get_or, ◌∷◌, List, length, drop, take, Some, refl, sym, ap, subst, arith, rules}
+use Rattle.std.proofs.Common.{◌≡◌, ◌∙◌, ◌+◌, ◌++◌, [], ◌<◌, ℕ, get_or, ◌∷◌, List, length, drop, take, Some, refl, sym, ap, subst, arith}
 use Rattle.std.specs.Vec.Iter.{into_iter_items}
 use Rattle.ev_base.specs.Story as story
 use Rattle.ev_base.specs.End.{Accepted, Paused, Faulted, AcceptsEnd, AcceptsNone, FailsToAccept}
@@ -6,7 +6,7 @@ use Rattle.script_net.specs.Playable.{many_offered}
 use Rattle.script_net.specs.declared.script.Offer.{Offer}
 use Rattle.script_net.specs.Content.{ListenerContent, PeerContent}
 use Rattle.script_net.specs.Scripts.{offer_view, offer_views}
-use Rattle.script_net.specs.Ends.{listener_facts, peer_facts, new_peer, offering_at, AcceptsNext, GivesNext}
+use Rattle.script_net.specs.Ends.{listener_facts, peer_facts, new_peer, offering_at}
 use Rattle.script_net.specs.contracts.listener.Listener.{the_view}
 use Rattle.script_net.proofs.Opened.{opened, closed}
 use Rattle.script_net.proofs.Accepting.{Moves, is_next, some_left, one_taken, none_taken, failure_taken, accepts_end, accepts_none, fails_to_accept}

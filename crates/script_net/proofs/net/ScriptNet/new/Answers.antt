@@ -1,4 +1,4 @@
-use Rattle.std.proofs.Common.{◌≡◌, ◌∙◌, List, [], length, refl, sym, ap, subst, arith}
+use Rattle.std.proofs.Common.{List, length, refl, sym, ap, subst, arith}
 use Rattle.ev_base.specs.Net.{Call}
 use Rattle.script_net.specs.declared.player.Player.{Player}
 use Rattle.ev_base.specs.Playing.{played, Plays}

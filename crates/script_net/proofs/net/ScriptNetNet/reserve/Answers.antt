@@ -1,4 +1,4 @@
-use Rattle.std.proofs.Common.{◌≡◌, ◌∙◌, ◌+◌, ◌≤◌, length, refl, sym, ap, subst, arith}
+use Rattle.std.proofs.Common.{◌∙◌, length, ap, arith}
 use Rattle.ev_base.specs.Playing.{played}
 use Rattle.script_net.specs.Scripts.{group_views}
 use Rattle.script_net.specs.Seating.{SeatsContent}

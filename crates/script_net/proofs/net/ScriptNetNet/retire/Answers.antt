@@ -1,9 +1,9 @@
-use Rattle.std.proofs.Common.{◌≡◌, ◌∙◌, ◌+◌, ◌<◌, ◌≤◌, ◌∷◌, [], List, Option, not, length, sym, ap, subst, arith}
-use Rattle.std.specs.List.{Contains, filter}
+use Rattle.std.proofs.Common.{◌∙◌, List, length, sym, ap, subst, arith}
+use Rattle.std.specs.List.{Contains}
 use Rattle.std.proofs.lemmas.List.{length_push}
 use Rattle.std.proofs.lemmas.Grind.{common_steps}
 use Rattle.ev_base.specs.Net.{Call, RetiresEnd}
-use Rattle.ev_base.specs.Playing.{Seat, has_handle, played, Plays, retired}
+use Rattle.ev_base.specs.Playing.{Seat, played, Plays}
 use Rattle.script_net.specs.Scripts.{end_view, group_views}
 use Rattle.script_net.specs.Seating.{SeatsContent, handles_of}
 use Rattle.script_net.specs.NetContent.{NetContent, script_net_facts, playing_of}

@@ -1,10 +1,9 @@
-use Rattle.std.proofs.Common.{◌≡◌, ◌∙◌, ◌∷◌, List, Option, sym, ap, subst, arith}
-use Rattle.ev_base.specs.Net.{Call, Waits}
+use Rattle.std.proofs.Common.{◌≡◌, ◌∙◌, ◌∷◌, List, ap}
+use Rattle.ev_base.specs.Net.{Waits}
 use Rattle.ev_base.specs.Playing.{played, waited}
 use Rattle.ev_base.specs.declared.net.Report.{Report}
 use Rattle.ev_base.specs.declared.net.Waited.{Waited}
 use Rattle.script_net.specs.Scripts.{group_views}
-use Rattle.script_net.specs.NetContent.{NetContent}
 use Rattle.script_net.specs.contracts.net.ScriptNet.{the_view}
 use Rattle.script_net.proofs.NetLemmas.{after_is, waits_as}
 use Rattle.script_net.proofs.net.ScriptNetNet.wait.Goals as goal
@@ -21,4 +20,4 @@ returns-clause-waits c =
     waits_as (the_view i) c.args.self.now (the_view (record i { player = c.wait-answer.new.self; waits = c.saturating_add-self-inside.result; calls = c.add.new.self })) most c.wait-answer.result c.self.view_is
     s.order s.last w.answers
     (after_is (the_view i) most (group_views c.wait-answer.new.self.groups.items) c.add.new.self c.wait-answer.new.self.reports.items c.saturating_add-self-inside.result
-      (ap (λ gs. group_views gs.items) c.wait-answer.ensures.rest.0) calls w.reports c.saturating_add-self-inside.ensures)
+    (ap (λ gs. group_views gs.items) c.wait-answer.ensures.rest.0) calls w.reports c.saturating_add-self-inside.ensures)

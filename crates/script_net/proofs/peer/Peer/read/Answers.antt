@@ -1,4 +1,4 @@
-use Rattle.std.proofs.Common.{◌≡◌, ◌∙◌, List, length, drop, take, vec_capacity, refl, sym, ap, subst, arith, rules}
+use Rattle.std.proofs.Common.{◌≡◌, List, length, drop, take, vec_capacity, sym, subst, arith}
 use Rattle.std.specs.Option.{option_map}
 use Rattle.std.proofs.lemmas.Grind.{common_steps}
 use Rattle.ev_base.specs.Story.{read_answer, read_bytes, told_after}

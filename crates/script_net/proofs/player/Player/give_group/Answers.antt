@@ -1,11 +1,11 @@
-use Rattle.std.proofs.Common.{◌≡◌, ◌∙◌, [], ◌++◌, ◌+◌, ◌-◌, ◌≤◌, List, length, take, drop, sym, ap, subst, arith}
+use Rattle.std.proofs.Common.{◌∙◌, ◌++◌, ◌-◌, List, length, take, drop, sym, ap, subst, arith}
 use Rattle.std.proofs.lemmas.List.{take_rest, length-drop, length-append}
 use Rattle.script_net.specs.declared.script.End.{End}
 use Rattle.script_net.specs.Scripts.{steps_at}
 use Rattle.script_net.specs.Playable.{AreWithin}
 use Rattle.script_net.specs.Player.{connections_of}
 use Rattle.script_net.specs.Sorting.{WaitSorts}
-use Rattle.script_net.proofs.PlayerLemmas.{next_group, gives_group, Holds}
+use Rattle.script_net.proofs.PlayerLemmas.{next_group, gives_group}
 use Rattle.script_net.proofs.player.Player.give_group.Goals as goal
 
 pub sort_out-stop-requires-clause-within : goal.sort_out-stop-requires-clause-within

@@ -1,11 +1,9 @@
-use Rattle.std.proofs.Common.{◌≡◌, ◌∙◌, ◌++◌, ◌+◌, ◌-◌, ◌≤◌, List, length, drop, Vec, refl, sym, ap, subst, arith}
+use Rattle.std.proofs.Common.{◌∙◌, ◌++◌, ◌-◌, List, length, drop, ap, subst, arith}
 use Rattle.std.specs.Vec.{with_items}
 use Rattle.std.proofs.lemmas.List.{with_items_is}
 use Rattle.script_net.specs.declared.script.End.{End}
 use Rattle.script_net.specs.Sorting.{WaitSorts}
-use Rattle.script_net.specs.Scripts.{steps_at}
-use Rattle.script_net.specs.Playable.{AreWithin}
-use Rattle.script_net.proofs.PlayerLemmas.{gives_held, PutsBack}
+use Rattle.script_net.proofs.PlayerLemmas.{gives_held}
 use Rattle.script_net.proofs.player.Player.give_held.Goals as goal
 
 pub returns-clause-gives : goal.returns-clause-gives

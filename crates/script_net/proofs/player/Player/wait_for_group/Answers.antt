@@ -1,6 +1,5 @@
-use Rattle.std.proofs.Common.{◌≡◌, ◌∙◌, [], ◌+◌, ◌<◌, List, length, drop, cond, Option, Some, None, refl, sym, ap, subst, arith}
-use Rattle.ev_base.specs.Playing.{answer_at, is_late, time_up}
-use Rattle.ev_base.specs.declared.net.Report.{Report}
+use Rattle.std.proofs.Common.{◌∙◌, ◌+◌, drop, sym, ap, subst, arith}
+use Rattle.ev_base.specs.Playing.{answer_at}
 use Rattle.ev_base.specs.declared.net.Waited.{Waited}
 use Rattle.script_net.specs.Scripts.{group_view, group_views}
 use Rattle.script_net.specs.Player.{PlayerWaits}

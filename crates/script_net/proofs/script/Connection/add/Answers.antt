@@ -1,4 +1,4 @@
-use Rattle.std.proofs.Common.{◌≡◌, ◌∙◌, ◌++◌, ◌∷◌, [], ap, sym, subst}
+use Rattle.std.proofs.Common.{◌∙◌, ap, sym, subst}
 use Rattle.std.proofs.lemmas.List.{map_push}
 use Rattle.script_net.specs.Scripts.{part_view, part_views}
 use Rattle.script_net.specs.Playable.{AreFilled}

@@ -1,8 +1,6 @@
-use Rattle.std.proofs.Common.{◌≡◌, ◌∙◌, List, sym, ap, subst}
-use Rattle.ev_base.specs.Terms.{Group}
+use Rattle.std.proofs.Common.{◌∙◌, List, sym, ap, subst}
 use Rattle.ev_base.specs.Net.{Call}
 use Rattle.ev_base.specs.Playing.{Plays}
-use Rattle.script_net.specs.Content.{ListenerContent}
 use Rattle.script_net.specs.Ends.{new_listener}
 use Rattle.script_net.specs.Keeps.{ListenerKeeps}
 use Rattle.script_net.specs.NetContent.{NetContent}

@@ -1,10 +1,8 @@
-use Rattle.std.proofs.Common.{◌≡◌, ◌∙◌, ◌+◌, ◌++◌, ◌∷◌, [], List, ℕ, true, length, map, refl, sym, ap, subst, arith}
+use Rattle.std.proofs.Common.{◌∙◌, ◌+◌, ◌++◌, ◌∷◌, [], List, true, length, refl, sym, ap, subst, arith}
 use Rattle.std.specs.List.{Contains}
 use Rattle.std.proofs.lemmas.List.{length_push}
-use Rattle.ev_base.specs.Playing.{Seat}
-use Rattle.script_net.specs.Scripts.{end_view}
 use Rattle.script_net.specs.declared.seats.Place.{Place}
-use Rattle.script_net.specs.Seating.{SeatsContent, Latest, Marks, IsSeating, handles_of, seats_of, with_latest, seat_of}
+use Rattle.script_net.specs.Seating.{SeatsContent, Latest, Marks, IsSeating, handles_of, seats_of, seat_of}
 use Rattle.script_net.specs.LatestPlaces.{latest_view}
 use Rattle.script_net.proofs.SeatingLemmas.{seats_pushed}
 use Rattle.script_net.proofs.SeatsKept.{same_content, seating_pushed}

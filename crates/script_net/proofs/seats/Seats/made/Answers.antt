@@ -1,4 +1,4 @@
-use Rattle.std.proofs.Common.{◌≤◌, length, ap, subst}
+use Rattle.std.proofs.Common.{◌≤◌, length, subst}
 use Rattle.script_net.specs.Seating.{SeatsContent}
 use Rattle.script_net.proofs.SeatingLemmas.{seats_few}
 use Rattle.script_net.proofs.seats.Seats.made.Goals as goal

@@ -1,12 +1,9 @@
-use Rattle.std.proofs.Common.{◌≡◌, ◌∙◌, ◌≤◌, ◌<◌, List, length, true, Some, sym, ap, subst}
-use Rattle.std.specs.List.{slice_get}
+use Rattle.std.proofs.Common.{◌∙◌, List, length, sym, ap}
 use Rattle.script_net.specs.declared.seats.Place.{Place}
-use Rattle.script_net.specs.Content.{ConnectionContent}
-use Rattle.script_net.specs.Playable.{IsWithin}
 use Rattle.script_net.specs.Scripts.{end_view, step_at}
-use Rattle.script_net.specs.Seating.{SeatsContent, last_to, found_to, is_place_of, latest_of, seats_of}
+use Rattle.script_net.specs.Seating.{SeatsContent, found_to}
 use Rattle.ev_base.specs.Playing.{report_at}
-use Rattle.script_net.proofs.SeatingLemmas.{reports, same_end}
+use Rattle.script_net.proofs.SeatingLemmas.{reports}
 use Rattle.script_net.proofs.seats.Seats.report.Goals as goal
 
 pub returns : goal.returns

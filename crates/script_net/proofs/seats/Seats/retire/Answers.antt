@@ -1,4 +1,4 @@
-use Rattle.std.proofs.Common.{◌≡◌, ◌∙◌, true, not, length, map, refl, sym, ap, arith}
+use Rattle.std.proofs.Common.{◌∙◌, not, map, refl, sym, ap}
 use Rattle.std.specs.List.{filter}
 use Rattle.ev_base.specs.Playing.{Seat, has_handle}
 use Rattle.script_net.specs.Seating.{SeatsContent}

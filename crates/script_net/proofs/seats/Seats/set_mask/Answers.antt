@@ -1,4 +1,4 @@
-use Rattle.std.proofs.Common.{◌≡◌, ◌∙◌, true, length, map, refl, sym, ap, arith}
+use Rattle.std.proofs.Common.{◌∙◌, map, refl, ap}
 use Rattle.std.proofs.lemmas.List.{length-set}
 use Rattle.ev_base.specs.Playing.{masked}
 use Rattle.script_net.specs.Seating.{SeatsContent}
