@@ -1,5 +1,7 @@
-//! Rows of the scripts of network events: which texts are scripts, and what a script comes to.
+//! Rows of the scripts of network events: which texts are scripts, and what plays them.
 #![tactic(auto)]
 
+#[cfg(test)]
+mod played;
 #[cfg(test)]
 mod texts;
