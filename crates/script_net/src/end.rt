@@ -38,13 +38,13 @@ impl ScriptEnd {
         }
     }
 
-    // Says that the connections which a listener offers have rising numbers.
-    pub(crate) fn is_numbered(&self) -> bool
+    // Says that the connections which a listener still offers have rising numbers.
+    pub(crate) fn offers_by_number(&self)
         ensures { IsNumbered (script_end_facts self.now).offering }
     {
         match &self.role {
-            Role::Listener(listener) => listener.is_numbered(),
-            Role::Connection(_) => true,
+            Role::Listener(listener) => listener.offers_by_number(),
+            Role::Connection(_) => {}
         }
     }
 

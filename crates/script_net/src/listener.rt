@@ -67,11 +67,11 @@ impl Listener {
         }
     }
 
-    /// Says that the connections which it offers have rising numbers.
-    pub(crate) fn is_numbered(&self) -> bool
+    /// Says that the connections which it still offers have rising numbers.
+    pub(crate) fn offers_by_number(&self)
         ensures { AreNumbered (many_offered self.now.offering.given) self.now.offering.left }
     {
-        self.next <= self.offers.len() || self.faults == 0
+        let _offers = &self.offers;
     }
 
     /// Takes the next of its story.

@@ -198,7 +198,7 @@ impl Host for ScriptHost {
         match self.parts.take() {
             Some(parts) => {
                 let Parts { net, end, wake } = parts;
-                let _numbered = end.is_numbered();
+                end.offers_by_number();
                 Ok((net, end, wake))
             }
             None => {
