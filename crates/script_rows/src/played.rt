@@ -19,18 +19,17 @@ fn wait_text(text: &mut String, net: &mut ScriptNet) -> Result<(), Fail> {
 
 #[test]
 fn moments_pass_and_named_waits_fail(rt: HostRuntime) -> Result<(), Fail> {
-    let script = parse_script(
-        rt.alloc(),
-        b"open 0\nat 5\nquiet\nat 7\nfail listener",
-        10,
-    )?;
+    let script = parse_script(rt.alloc(), b"open 0\nat 5\nquiet\nat 7\nfail listener", 10)?;
     let (mut net, _, _) = script.parts();
     net.fail_waits(Vec::from_slice(rt.alloc(), &[1])?);
     let mut text = String::new(rt.alloc());
     for _ in 0..5 {
         wait_text(&mut text, &mut net)?;
     }
-    assert_eq!(rt; text.as_str(), "quiet 0; failed; quiet 5; quiet 7; over 7; ");
+    assert_eq!(rt;
+        text.as_str(),
+        "quiet 0; failed; quiet 5; quiet 7; over 7; "
+    );
     Ok(())
 }
 
