@@ -1,5 +1,5 @@
 -- The script of a text, and the first bad line.
-use Rattle.std.specs.Prelude.{◌≡◌, ◌<◌, ◌≤◌, ◌+◌, ℕ, Bool, true, false, List, ◌∷◌, ◌++◌, [], length, get_or, reverse, vec_capacity, Some}
+use Rattle.std.specs.Prelude.{◌≡◌, ◌<◌, ◌≤◌, ◌+◌, ℕ, Bool, true, false, List, ◌∷◌, ◌++◌, length, get_or, reverse, Some}
 use Rattle.event_script.specs.Script.{ScriptGroup, groups_told, steps_of, opened}
 use Rattle.event_script.specs.Stories.{story, offers}
 use Rattle.event_script.specs.Grammar.{Line, line_of, raw_lines, may_stand, Spells, IsBadBehind, IsBadAt, IsScriptText}

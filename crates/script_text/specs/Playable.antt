@@ -1,7 +1,6 @@
 -- What holds of every script, whatever its text: a net and its ends rest on it.
-use Rattle.std.specs.Prelude.{◌≡◌, ◌≤◌, ◌<◌, ◌+◌, ℕ, List, [], ◌∷◌, length}
-use Rattle.ev_base.specs.Story.{Part, Piece, Pausing, Ending, Failing, Offer, Connection, NoneThere, OneFailure, AreNumbered}
-use Rattle.ev_base.specs.Terms.{Group}
+use Rattle.std.specs.Prelude.{◌≡◌, ◌<◌, ℕ, List, [], ◌∷◌, length}
+use Rattle.ev_base.specs.Story.{Part, Piece, Pausing, Ending, Failing, AreNumbered}
 use Rattle.event_script.specs.Script.{ScriptGroup, groups_told, steps_of, opened}
 use Rattle.event_script.specs.Stories.{story, offers}
 use Rattle.script_net.specs.Playable.{AreInOrder, many_offered}

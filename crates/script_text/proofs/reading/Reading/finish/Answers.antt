@@ -1,4 +1,4 @@
-use Rattle.std.proofs.Common.{◌≡◌, ◌∙◌, ◌≤◌, ◌<◌, get_or, ℕ, List, length, sym, ap, subst, arith}
+use Rattle.std.proofs.Common.{◌≡◌, ◌∙◌, ◌<◌, get_or, ℕ, List, length, sym, ap, subst, arith}
 use Rattle.ev_base.specs.Terms.{Group}
 use Rattle.ev_base.specs.Story.{Offer, AreNumbered}
 use Rattle.event_script.specs.Stories.{story, offers}
