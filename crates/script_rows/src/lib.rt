@@ -1,7 +1,5 @@
-//! Rows of the scripts of network events: which texts are scripts, and what plays them.
+//! Rows of the scripts of network events: which texts are scripts, and which are not.
 #![tactic(auto)]
 
-#[cfg(test)]
-mod played;
 #[cfg(test)]
 mod texts;
