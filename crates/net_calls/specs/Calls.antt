@@ -12,6 +12,7 @@ reports_of planned = map (λ p. p.1) planned
 -- the call that a net made
 abbrev pub call_of : Made → Call
 call_of (made.Wait most answer planned) = Waits most answer (reports_of planned.now)
+call_of (made.WaitForMany most answer reports) = Waits most answer reports.now
 call_of (made.WaitForOne most answer report) = Waits most answer (option_to_list report)
 call_of (made.Attach handle mask serial) = Attaches handle.0 mask serial
 call_of (made.Mask handle mask) = SetsMask handle.0 mask

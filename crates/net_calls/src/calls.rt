@@ -45,6 +45,8 @@ impl<E> Rule<E, ()> for NoRule {
 pub enum Made<'a> {
     /// A wait with its limit, its answer and its reports, each with the number of the wait that it was laid down for.
     Wait(Option<u64>, Waited, &'a [(usize, Report)]),
+    /// A wait with its limit, its answer and its reports.
+    WaitForMany(Option<u64>, Waited, &'a [Report]),
     /// A wait with its limit, its answer and its one report, or none.
     WaitForOne(Option<u64>, Waited, Option<Report>),
     /// An attach with the serial number of the end, if it has one.

@@ -1,4 +1,4 @@
-//! Rows of the scripts of network events: which texts are scripts, and what a script comes to.
+//! Rows of the scripts of network events: which texts are scripts, and which are not.
 #![tactic(auto)]
 
 #[cfg(test)]

@@ -1,8 +1,5 @@
 //! Texts in the grammar of scripts, and texts out of it with their first bad line.
-use script_text::{End, Offer, Part, Script, ScriptRefused, parse_script};
-use std::alloc::Global;
-use std::fmt::Write;
-use std::test::Fail;
+use script_text::{ScriptRefused, parse_script};
 
 /// A script with each kind of line: connection 0 comes and brings two pieces at moments 0 and 5; a moment passes; it is shut, and the
 /// listener fails; connection 1 comes, brings a byte and fails.
@@ -93,58 +90,4 @@ fn names_the_first_bad_line(rt: HostRuntime) {
         };
         assert_eq!(rt; found, Some(bad), "{text}");
     }
-}
-
-/// The groups of a script, each as its moment and its ends.
-fn groups_text(alloc: Global, script: &Script) -> Result<String, Fail> {
-    let mut text = String::new(alloc);
-    for group in &script.groups {
-        write!(text, "{}:", group.moment)?;
-        for end in &group.steps {
-            match end {
-                End::Listener => write!(text, " listener")?,
-                End::Connection(conn) => write!(text, " {conn}")?,
-            }
-        }
-        write!(text, "; ")?;
-    }
-    Ok(text)
-}
-
-/// What the listener has to tell, and then each connection.
-fn stories_text(alloc: Global, script: &Script) -> Result<String, Fail> {
-    let mut text = String::new(alloc);
-    for offer in &script.offers {
-        match offer {
-            Offer::Connection(conn) => write!(text, "{conn} ")?,
-            Offer::Pause => write!(text, "pause ")?,
-            Offer::Failure => write!(text, "failure ")?,
-        }
-    }
-    for connection in &script.connections {
-        write!(text, "| ")?;
-        for part in &connection.parts {
-            match part {
-                Part::Piece(bytes) => write!(text, "{:?} ", bytes.as_slice())?,
-                Part::Pause => write!(text, "pause ")?,
-                Part::Over => write!(text, "over ")?,
-                Part::Failure => write!(text, "failure ")?,
-            }
-        }
-    }
-    Ok(text)
-}
-
-#[test]
-fn groups_and_stories_are_those_of_the_lines(rt: HostRuntime) -> Result<(), Fail> {
-    let script = parse_script(rt.alloc(), EACH_LINE.as_bytes(), 10)?;
-    assert_eq!(rt;
-        groups_text(rt.alloc(), &script)?.as_str(),
-        "0: listener 0; 5: 0; 5:; 5: 0; 5: listener listener 1; 4294967295: 1; "
-    );
-    assert_eq!(rt;
-        stories_text(rt.alloc(), &script)?.as_str(),
-        "0 pause failure 1 pause | [0, 255] pause [104] pause over | [170] pause failure "
-    );
-    Ok(())
 }

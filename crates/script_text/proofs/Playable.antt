@@ -1,14 +1,16 @@
 -- That every script can be played.
-use Rattle.std.proofs.Common.{◌≡◌, ◌∙◌, ℕ, suc, ◌+◌, ◌<◌, ◌≤◌, ◌==◌, ◌&&◌, Bool, true, false, cond, List, [], ◌∷◌, ◌++◌, length, reverse, refl, sym, ap, subst, arith}
+use Rattle.std.proofs.Common.{◌≡◌, ◌∙◌, ℕ, suc, ◌+◌, ◌<◌, ◌≤◌, ◌==◌, ◌&&◌, Bool, true, false, not, cond, List, [], ◌∷◌, ◌++◌, length, reverse, refl, sym, ap, subst, arith}
 use Rattle.std.specs.Prelude.{nat_lt, nat_le}
 use Rattle.std.proofs.lemmas.Bool.Decides.{nat_tests}
 use Rattle.ev_base.specs.Story.{Part, Piece, Pausing, Ending, Failing, Offer, Connection, NoneThere, OneFailure, AreNumbered}
-use Rattle.ev_base.specs.Terms.{Step, Group}
-use Rattle.event_script.specs.Script.{ScriptStep, Opens, Brings, Shuts, Fails, ListenerFails, ScriptGroup, opened, goes_on, may_follow, report_step, most_steps, most_connections}
+use Rattle.ev_base.specs.Terms.{StepEnd, AtListener, AtConnection, Step, Group}
+use Rattle.std.proofs.lemmas.List.{length-append}
+use Rattle.event_script.specs.Script.{ScriptStep, Opens, Brings, Shuts, Fails, ListenerFails, ScriptGroup, opened, goes_on, is_done, end_of, may_follow, report_step, most_steps, most_connections}
 use Rattle.event_script.specs.Stories.{parts_of, offers_of, story, offers}
 use Rattle.event_script.specs.Grammar.{Line, At, Quiet, Stepping, moment_of, steps_in, is_step, may_stand, last_moment, groups_of, raw_lines, Spells, IsScriptText}
 use Rattle.script_text.specs.Reading.{told_by, offered_by, and_step, played_by}
-use Rattle.script_text.specs.Playable.{AreInOrder, AreFilled, many_offered, ArePlayable}
+use Rattle.script_net.specs.Playable.{AreInOrder, many_offered, IsWithin, AreWithin, AllWithin, many_steps}
+use Rattle.script_text.specs.Playable.{AreFilled, ArePlayable}
 use Rattle.script_text.proofs.Groups.{told_is, offered_is, opened_is, played_is, steps_are}
 
 left_of : (a b : Bool) → a && b ≡ true → a ≡ true
@@ -47,7 +49,7 @@ order_and from step [] o = tt
 order_and from step (g ∷ []) o = (o.0, o.1, tt)
 order_and from step (g ∷ h ∷ groups) o = (o.0, o.1, order_and g.moment step (h ∷ groups) o.2)
 
-record Ordered (past : List Line) : Type 0 where
+pub record Ordered (past : List Line) : Type 0 where
   pub order : AreInOrder 0 (played_by past)
   pub up : UpTo (moment_of past) (played_by past)
   pub last : moment_of past ≤ last_moment
@@ -64,7 +66,7 @@ not_back now moment may =
     let b = right_of (nat_le now moment) (nat_le moment last_moment) may in
     (grind (arith, nat_tests), grind (arith, nat_tests))
 
-ordered : (raws : List (List ℕ)) (past : List Line) → Spells raws past → Ordered past
+pub ordered : (raws : List (List ℕ)) (past : List Line) → Spells raws past → Ordered past
 ordered [] [] s = record { order = tt; up = tt; last = omega arith }
 ordered [] (x ∷ past) s = absurd s
 ordered (raw ∷ raws) [] s = absurd s
@@ -140,7 +142,7 @@ step_offered n (Shuts conn) past e = omega arith
 step_offered n (Fails conn) past e = omega arith
 step_offered n ListenerFails past e = omega arith
 
-all_offered : (past : List ScriptStep) → many_offered (offered_by past) ≡ opened past
+pub all_offered : (past : List ScriptStep) → many_offered (offered_by past) ≡ opened past
 all_offered [] = refl
 all_offered (step ∷ past) = many_more (offered_by past) (offers_of step) ∙ step_offered (many_offered (offered_by past)) step past (all_offered past)
 
@@ -154,7 +156,7 @@ step_numbered n past (Shuts conn) e may = tt
 step_numbered n past (Fails conn) e may = tt
 step_numbered n past ListenerFails e may = tt
 
-numbered : (raws : List (List ℕ)) (past : List Line) → Spells raws past → AreNumbered 0 (offered_by (steps_in past))
+pub numbered : (raws : List (List ℕ)) (past : List Line) → Spells raws past → AreNumbered 0 (offered_by (steps_in past))
 numbered [] [] s = tt
 numbered [] (x ∷ past) s = absurd s
 numbered (raw ∷ raws) [] s = absurd s
@@ -181,3 +183,90 @@ of_past raws past s =
 
 pub are_playable : (text : List ℕ) (groups : List ScriptGroup) → IsScriptText text groups → ArePlayable groups
 are_playable text groups s = subst ArePlayable (sym s.are) (of_past (reverse (raw_lines text)) s.past s.spells)
+
+-- ---- what a net needs of the groups
+
+within_later : (m n : ℕ) (steps : List Step) → m ≤ n → AreWithin m steps → AreWithin n steps
+within_later m n [] le within = tt
+within_later m n (step ∷ steps) le within = (end_later step.end within.0, within_later m n steps le within.1)
+  where
+    end_later : (e : StepEnd) → IsWithin m e → IsWithin n e
+    end_later AtListener is = tt
+    end_later (AtConnection c) is = omega (arith, is, le)
+
+all_later : (m n : ℕ) (groups : List Group) → m ≤ n → AllWithin m groups → AllWithin n groups
+all_later m n [] le within = tt
+all_later m n (group ∷ groups) le within = (within_later m n group.steps le within.0, all_later m n groups le within.1)
+
+all_more : (n : ℕ) (groups : List Group) (group : Group) → AllWithin n groups → AreWithin n group.steps → AllWithin n (groups ++ group ∷ [])
+all_more n [] group all within = (within, tt)
+all_more n (g ∷ groups) group all within = (all.0, all_more n groups group all.1 within)
+
+steps_more : (n : ℕ) (steps : List Step) (step : Step) → AreWithin n steps → IsWithin n step.end → AreWithin n (steps ++ step ∷ [])
+steps_more n [] step all is = (is, tt)
+steps_more n (s ∷ steps) step all is = (all.0, steps_more n steps step all.1 is)
+
+all_and : (n : ℕ) (groups : List Group) (step : Step) → AllWithin n groups → IsWithin n step.end → AllWithin n (and_step step groups)
+all_and n [] step all is = tt
+all_and n (g ∷ []) step all is = (steps_more n g.steps step all.0 is, tt)
+all_and n (g ∷ h ∷ groups) step all is = (all.0, all_and n (h ∷ groups) step all.1 is)
+
+within_step : (b : Bool) (n : ℕ) (step : Step) (moment : ℕ) (groups : List Group) → AllWithin n groups → IsWithin n step.end
+    → AllWithin n (cond b (and_step step groups) (groups ++ record { moment = moment; steps = step ∷ [] } ∷ []))
+within_step true n step moment groups all is = all_and n groups step all is
+within_step false n step moment groups all is = all_more n groups (record { moment = moment; steps = step ∷ [] }) all (is, tt)
+
+goes_on_below : (c : ℕ) (past : List ScriptStep) → goes_on c past ≡ true → c < opened past
+goes_on_below c past goes = let came = left_of (nat_lt c (opened past)) (not (is_done c past)) goes in grind (arith, nat_tests)
+
+end_within : (past : List ScriptStep) (step : ScriptStep) → may_follow past step ≡ true → IsWithin (opened (step ∷ past)) (end_of step)
+end_within past (Opens conn) may = tt
+end_within past (Brings conn bytes) may = goes_on_below conn past (left_of (goes_on conn past) (nat_lt 0 (length bytes)) may)
+end_within past (Shuts conn) may = goes_on_below conn past may
+end_within past (Fails conn) may = goes_on_below conn past may
+end_within past ListenerFails may = tt
+
+opened_grows : (past : List ScriptStep) (step : ScriptStep) → opened past ≤ opened (step ∷ past)
+opened_grows past (Opens conn) = omega arith
+opened_grows past (Brings conn bytes) = omega arith
+opened_grows past (Shuts conn) = omega arith
+opened_grows past (Fails conn) = omega arith
+opened_grows past ListenerFails = omega arith
+
+-- each step is at the listener or at a connection that came
+pub all_within : (raws : List (List ℕ)) (past : List Line) → Spells raws past → AllWithin (opened (steps_in past)) (played_by past)
+all_within [] [] s = tt
+all_within [] (x ∷ past) s = absurd s
+all_within (raw ∷ raws) [] s = absurd s
+all_within (raw ∷ raws) (At moment ∷ past) s = all_within raws past s.2
+all_within (raw ∷ raws) (Quiet ∷ past) s = all_more (opened (steps_in past)) (played_by past) (record { moment = moment_of past; steps = [] }) (all_within raws past s.2) tt
+all_within (raw ∷ raws) (Stepping step ∷ past) s =
+    let n = opened (step ∷ steps_in past) in
+    within_step (is_step past) n (report_step step) (moment_of past) (played_by past) (all_later (opened (steps_in past)) n (played_by past) (opened_grows (steps_in past) step) (all_within raws past s.2))
+    (end_within (steps_in past) step (follows past step s.1))
+
+-- no more steps are played than were read
+many_more_steps : (groups : List Group) (group : Group) → many_steps (groups ++ group ∷ []) ≡ many_steps groups + length group.steps
+many_more_steps [] group = omega arith
+many_more_steps (g ∷ groups) group = omega (arith, many_more_steps groups group)
+
+many_and : (groups : List Group) (step : Step) → many_steps (and_step step groups) ≤ many_steps groups + 1
+many_and [] step = omega arith
+many_and (g ∷ []) step = omega (arith, length-append g.steps (step ∷ []))
+many_and (g ∷ h ∷ groups) step = omega (arith, many_and (h ∷ groups) step)
+
+many_step : (b : Bool) (step : Step) (moment : ℕ) (groups : List Group) → many_steps (cond b (and_step step groups) (groups ++ record { moment = moment; steps = step ∷ [] } ∷ [])) ≤ many_steps groups + 1
+many_step true step moment groups = many_and groups step
+many_step false step moment groups = omega (arith, many_more_steps groups (record { moment = moment; steps = step ∷ [] }))
+
+pub few_steps : (past : List Line) → many_steps (played_by past) ≤ length (steps_in past)
+few_steps [] = omega arith
+few_steps (At moment ∷ past) = few_steps past
+few_steps (Quiet ∷ past) = omega (arith, few_steps past, many_more_steps (played_by past) (record { moment = moment_of past; steps = [] }))
+few_steps (Stepping step ∷ past) = omega (arith, few_steps past, many_step (is_step past) (report_step step) (moment_of past) (played_by past))
+
+-- a step that brings bytes brings one at least
+pub has_byte : (past : List Line) (conn : ℕ) (bytes : List ℕ) → may_stand past (Stepping (Brings conn bytes)) ≡ true → 0 < length bytes
+has_byte past conn bytes may =
+    let some = right_of (goes_on conn (steps_in past)) (nat_lt 0 (length bytes)) (follows past (Brings conn bytes) may) in
+    grind (arith, nat_tests)

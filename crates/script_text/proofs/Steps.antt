@@ -4,8 +4,8 @@ use Rattle.std.proofs.lemmas.List.{append-nil, map-append}
 use Rattle.ev_base.specs.Terms.{Step, Group}
 use Rattle.event_script.specs.Script.{ScriptStep, report_step}
 use Rattle.event_script.specs.Grammar.{Line, Stepping, moment_of, is_step}
-use Rattle.script_text.specs.declared.script.End.{End}
-use Rattle.script_text.specs.Scripts.{step_at, steps_at}
+use Rattle.script_net.specs.declared.script.End.{End}
+use Rattle.script_net.specs.Scripts.{step_at, steps_at}
 use Rattle.script_text.specs.Reading.{and_step, played_by, open_group, is_empty}
 
 with_last : (step : Step) (moment : ℕ) (steps : List Step) (groups : List Group)

@@ -1,29 +1,27 @@
 -- The script of a text, and the first bad line.
-use Rattle.std.specs.Prelude.{◌≡◌, ◌<◌, ◌≤◌, ◌+◌, ℕ, Bool, true, false, List, ◌∷◌, ◌++◌, [], length, get_or, reverse, vec_capacity, Some}
+use Rattle.std.specs.Prelude.{◌≡◌, ◌<◌, ◌≤◌, ◌+◌, ℕ, Bool, true, false, List, ◌∷◌, ◌++◌, length, get_or, reverse, Some}
 use Rattle.event_script.specs.Script.{ScriptGroup, groups_told, steps_of, opened}
 use Rattle.event_script.specs.Stories.{story, offers}
 use Rattle.event_script.specs.Grammar.{Line, line_of, raw_lines, may_stand, Spells, IsBadBehind, IsBadAt, IsScriptText}
-use Rattle.script_text.specs.declared.script.Connection.{Connection}
-use Rattle.script_text.specs.declared.script.Script.{Script}
+use Rattle.script_net.specs.Content.{ConnectionContent}
+use Rattle.script_net.specs.Hosts.{ScriptContent}
 use Rattle.script_text.specs.declared.reading.Reading.{Reading}
 use Rattle.script_text.specs.declared.refusal.ScriptRefused.{ScriptRefused}
 use Rattle.script_text.specs.declared.refusal.ScriptRefused.TheVariants.{BadScript, NoMemory}
-use Rattle.script_text.specs.Scripts.{group_views, offer_views, Tells, HasRoom}
+use Rattle.script_text.specs.Scripts.{Tells, HasRoom}
 use Rattle.script_text.specs.Reading.{Reads}
 
--- A script has these groups: it plays them, with room to hold back all their steps; the listener tells what they offer; and there is
--- one connection for each that comes, which tells its story and has room for so many bytes.
-pub record HasGroups (script : Script) (room : ℕ) (groups : List ScriptGroup) : Type 0 where
-  pub plays : group_views script.groups.items ≡ groups_told groups
-  pub holds_none : script.held.items ≡ []
-  pub holds_all : length (steps_of groups) ≤ vec_capacity script.held
-  pub offers_are : offer_views script.offers.items ≡ offers (steps_of groups)
-  pub many : length script.connections.items ≡ opened (steps_of groups)
-  pub tells : (c : ℕ) (d : Connection) → c < length script.connections.items → Tells (get_or script.connections.items c d) (story c (steps_of groups))
-  pub has_room : (c : ℕ) (d : Connection) → c < length script.connections.items → HasRoom (get_or script.connections.items c d) room
+-- A script has these groups: it plays them; the listener tells what they offer; and there is one connection for each that comes, which tells
+-- its story and whose end takes so many bytes.
+pub record HasGroups (script : ScriptContent) (room : ℕ) (groups : List ScriptGroup) : Type 0 where
+  pub plays : script.groups ≡ groups_told groups
+  pub offers_are : script.offers ≡ offers (steps_of groups)
+  pub many : length script.connections ≡ opened (steps_of groups)
+  pub tells : (c : ℕ) (d : ConnectionContent) → c < length script.connections → Tells (get_or script.connections c d) (story c (steps_of groups))
+  pub has_room : (c : ℕ) (d : ConnectionContent) → c < length script.connections → HasRoom (get_or script.connections c d) room
 
 -- the text is that of a script, and this is that script
-pub record IsScriptOf (text : List ℕ) (room : ℕ) (script : Script) : Type 0 where
+pub record IsScriptOf (text : List ℕ) (room : ℕ) (script : ScriptContent) : Type 0 where
   pub groups : List ScriptGroup
   pub is_text : IsScriptText text groups
   pub has : HasGroups script room groups

@@ -5,9 +5,10 @@ use Rattle.ev_base.specs.Terms.{Step, Group}
 use Rattle.event_script.specs.Script.{ScriptStep, opened, is_done, report_step}
 use Rattle.event_script.specs.Stories.{parts_of, offers_of}
 use Rattle.event_script.specs.Grammar.{Line, At, Quiet, Stepping, moment_of, steps_in, is_step, may_stand}
-use Rattle.script_text.specs.declared.script.Connection.{Connection}
+use Rattle.script_net.specs.Content.{ConnectionContent}
 use Rattle.script_text.specs.declared.reading.Reading.{Reading}
-use Rattle.script_text.specs.Scripts.{steps_at, group_views, offer_views, Tells, HasRoom, part_views}
+use Rattle.script_net.specs.Scripts.{steps_at, group_views, offer_views}
+use Rattle.script_text.specs.Scripts.{Tells, HasRoom}
 
 -- what the ends have to tell, by the steps so far
 abbrev pub told_by : ℕ → List ScriptStep → List story.Part
@@ -48,21 +49,21 @@ pub record HasDone (flags : List Bool) (past : List ScriptStep) : Type 0 where
   pub later : (c : ℕ) → length flags ≤ c → is_done c past ≡ false
 
 -- the connections that came tell what the steps so far say, each with room for so many bytes; the others have nothing to tell
-pub record HasTold (connections : List Connection) (room : ℕ) (past : List ScriptStep) : Type 0 where
+pub record HasTold (connections : List ConnectionContent) (room : ℕ) (past : List ScriptStep) : Type 0 where
   pub opened_are : length connections ≡ opened past
-  pub tells : (c : ℕ) (d : Connection) → c < length connections → Tells (get_or connections c d) (told_by c past)
-  pub has_room : (c : ℕ) (d : Connection) → c < length connections → HasRoom (get_or connections c d) room
+  pub tells : (c : ℕ) (d : ConnectionContent) → c < length connections → Tells (get_or connections c d) (told_by c past)
+  pub has_room : (c : ℕ) (d : ConnectionContent) → c < length connections → HasRoom (get_or connections c d) room
   pub later : (c : ℕ) → length connections ≤ c → told_by c past ≡ []
 
 -- one connection has so much more to tell, and nothing else changed
-pub record IsTold (old : List Connection) (conn : ℕ) (parts : List story.Part) (new : List Connection) : Type 0 where
+pub record IsTold (old : List ConnectionContent) (conn : ℕ) (parts : List story.Part) (new : List ConnectionContent) : Type 0 where
   pub many : length new ≡ length old
-  pub tells : (c : ℕ) (d : Connection) → c < length old → part_views (get_or new c d).parts.items ≡ part_views (get_or old c d).parts.items ++ (if conn == c then parts else [])
-  pub held : (c : ℕ) (d : Connection) → c < length old → (get_or new c d).held ≡ (get_or old c d).held
+  pub tells : (c : ℕ) (d : ConnectionContent) → c < length old → (get_or new c d).parts ≡ (get_or old c d).parts ++ (if conn == c then parts else [])
+  pub room : (c : ℕ) (d : ConnectionContent) → c < length old → (get_or new c d).room ≡ (get_or old c d).room
 
 -- one connection more is there, which has nothing to tell, with room for so many bytes
-pub record Comes (old : List Connection) (room : ℕ) (new : List Connection) : Type 0 where
-  pub one : Connection
+pub record Comes (old : List ConnectionContent) (room : ℕ) (new : List ConnectionContent) : Type 0 where
+  pub one : ConnectionContent
   pub is : new ≡ old ++ one ∷ []
   pub tells_nothing : Tells one []
   pub has_room : HasRoom one room

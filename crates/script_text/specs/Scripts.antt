@@ -1,56 +1,12 @@
--- A script as the code keeps it, and what it is in the definitions of scripts.
-use Rattle.std.specs.Prelude.{◌≡◌, ◌≤◌, ℕ, List, [], map, vec_capacity}
-use Rattle.ev_types.specs.declared.upcall.Kind.TheVariants.{Read}
+-- The connections of a script as contracts see them.
+use Rattle.std.specs.Prelude.{◌≡◌, ℕ, List}
 use Rattle.ev_base.specs.Story as story
-use Rattle.ev_base.specs.Terms as terms
-use Rattle.script_text.specs.declared.script.End.{End}
-use Rattle.script_text.specs.declared.script.End.TheVariants as end
-use Rattle.script_text.specs.declared.script.Group.{Group}
-use Rattle.script_text.specs.declared.script.Part.{Part}
-use Rattle.script_text.specs.declared.script.Part.TheVariants as part
-use Rattle.script_text.specs.declared.script.Offer.{Offer}
-use Rattle.script_text.specs.declared.script.Offer.TheVariants as offer
-use Rattle.script_text.specs.declared.script.Connection.{Connection}
-
-abbrev pub end_view : End → terms.StepEnd
-end_view end.Listener = terms.AtListener
-end_view (end.Connection conn) = terms.AtConnection conn
-
--- each step is reported as ready to be read
-abbrev pub step_at : End → terms.Step
-step_at end = record { end = end_view end; kind = Read }
-
-abbrev pub steps_at : List End → List terms.Step
-steps_at ends = map step_at ends
-
-abbrev pub group_view : Group → terms.Group
-group_view group = record { moment = group.moment; steps = steps_at group.steps.items }
-
-abbrev pub group_views : List Group → List terms.Group
-group_views groups = map group_view groups
-
-abbrev pub part_view : Part → story.Part
-part_view (part.Piece bytes) = story.Piece bytes.items
-part_view part.Pause = story.Pausing
-part_view part.Over = story.Ending
-part_view part.Failure = story.Failing
-
-abbrev pub part_views : List Part → List story.Part
-part_views parts = map part_view parts
-
-abbrev pub offer_view : Offer → story.Offer
-offer_view (offer.Connection conn) = story.Connection conn
-offer_view offer.Pause = story.NoneThere
-offer_view offer.Failure = story.OneFailure
-
-abbrev pub offer_views : List Offer → List story.Offer
-offer_views offers = map offer_view offers
+use Rattle.script_net.specs.Content.{ConnectionContent}
 
 -- a connection has these parts to tell
-abbrev pub Tells : Connection → List story.Part → Type 0
-Tells connection parts = part_views connection.parts.items ≡ parts
+abbrev pub Tells : ConnectionContent → List story.Part → Type 0
+Tells connection parts = connection.parts ≡ parts
 
--- nothing was written to it, and there is room for so many bytes
-pub record HasRoom (connection : Connection) (room : ℕ) : Type 0 where
-  pub empty : connection.held.items ≡ []
-  pub spare : room ≤ vec_capacity connection.held
+-- its end takes so many bytes
+abbrev pub HasRoom : ConnectionContent → ℕ → Type 0
+HasRoom connection room = connection.room ≡ room

@@ -7,10 +7,8 @@ mod line;
 mod parse;
 mod reading;
 mod refusal;
-mod script;
 mod words;
 
 pub use laws::{scripts_are_playable, texts_have_one_reading};
 pub use parse::parse_script;
 pub use refusal::ScriptRefused;
-pub use script::{Connection, End, Group, Offer, Part, Script};

@@ -3,12 +3,12 @@ ghost use Rattle.std.specs.Prelude.{◌≡◌, IfOk};
 ghost use Rattle.event_script.specs.Script.{report_step};
 ghost use Rattle.event_script.specs.Grammar.{quiet_line, two_words, fail_line, data_line};
 ghost use Rattle.script_text.specs.Lines.{Says, SaysLine, step_view};
-ghost use Rattle.script_text.specs.Scripts.{step_at};
+ghost use Rattle.script_net.specs.Scripts.{step_at};
 
-use crate::script::End;
 use crate::words::{cut, is_word, number};
 use ev_types::NoMemory;
 use hex::FromHexError;
+use script_net::End;
 use std::alloc::Global;
 
 /// A step of a script.

@@ -4,8 +4,8 @@ ghost use Rattle.script_text.specs.Parsing.{IsScriptOf, RefusesRightly};
 
 use crate::reading::Reading;
 use crate::refusal::ScriptRefused;
-use crate::script::Script;
 use crate::words::next_line;
+use script_net::Script;
 use std::alloc::Global;
 
 /// Reads the text of a script. Each connection has room for `room` bytes that are written to its end.

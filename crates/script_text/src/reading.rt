@@ -1,16 +1,17 @@
 //! What was read of a script, line by line.
 ghost use Rattle.std.specs.Prelude.{◌≡◌, ◌++◌, ◌∷◌, [], ◌<◌, length, get_or, set, true, false, OnOk, IfOk, List, ℕ};
-ghost use Rattle.event_script.specs.Grammar.{Line as GrammarLine, groups_of, may_stand, steps_in, At, Quiet, Stepping};
+ghost use Rattle.event_script.specs.Grammar.{Line as GrammarLine, groups_of, may_stand, steps_in, At, Quiet, Stepping, Spells};
 ghost use Rattle.event_script.specs.Script.{goes_on, Opens};
 ghost use Rattle.event_script.specs.Stories.{offers_of};
 ghost use Rattle.script_text.specs.Lines.{step_view, line_view};
-ghost use Rattle.script_text.specs.Scripts.{group_views, steps_at, offer_views, part_view, Tells, HasRoom};
+ghost use Rattle.script_net.specs.Scripts.{group_views, steps_at, offer_views, part_view};
+ghost use Rattle.script_net.specs.Playable.{IsFilled};
 ghost use Rattle.script_text.specs.Reading.{Reads, ForRead, Takes, HasDone, HasTold, IsTold, Comes, open_group};
 ghost use Rattle.script_text.specs.Parsing.{Judges, HasGroups};
 
 use crate::line::{Line, Step, read_line};
-use crate::script::{Connection, End, Group, Offer, Part, Script};
 use ev_types::NoMemory;
+use script_net::{Connection, End, Group, Offer, Part, Script};
 use std::alloc::Global;
 
 /// The groups so far, the steps of the last one if it may go on, the present moment, how many steps there are, of each connection
@@ -115,7 +116,8 @@ impl Reading {
 
     /// The end of a connection has one part more to tell.
     fn tell(&mut self, conn: u64, part: Part) -> Result<(), NoMemory>
-        requires { conn < length self.old.connections.items }
+        requires came { conn < length self.old.connections.items }
+        requires filled { IsFilled (part_view part) }
         ensures told { OnOk result (IsTold self.old.connections.items conn (part_view part ∷ []) self.new.connections.items) }
         ensures rest { self.new ≡ record self.old { connections = self.new.connections } }
     {
@@ -126,6 +128,7 @@ impl Reading {
     fn end(&mut self, conn: u64, part: Part) -> Result<(), NoMemory>
         requires came { conn < length self.old.connections.items }
         requires flagged { conn < length self.old.done.items }
+        requires filled { IsFilled (part_view part) }
         ensures told { OnOk result (IsTold self.old.connections.items conn (part_view part ∷ []) self.new.connections.items) }
         ensures done { OnOk result (self.new.done.items ≡ set self.old.done.items conn true) }
         ensures rest { self.new ≡ record self.old { connections = self.new.connections; done = self.new.done } }
@@ -214,16 +217,20 @@ impl Reading {
         }
     }
 
-    /// The script of all that was read.
+    /// The script of all that was read, where each line may stand behind those before it.
     pub(crate) fn finish(mut self) -> Result<Script, NoMemory>
+        requires { (past : List GrammarLine) × (raws : List (List ℕ)) × Spells raws past × Reads self past }
         ensures { ForRead self (λ past. IfOk result (λ script. HasGroups script self.room (groups_of past))) }
     {
         self.flush()?;
-        Ok(Script {
-            groups: self.groups,
-            offers: self.offers,
-            connections: self.connections,
-            held: Vec::with_capacity(self.alloc, self.steps as usize)?,
-        })
+        let steps = self.steps as usize;
+        let script = Script::new(
+            self.alloc,
+            self.groups,
+            self.offers,
+            self.connections,
+            steps,
+        )?;
+        Ok(script)
     }
 }

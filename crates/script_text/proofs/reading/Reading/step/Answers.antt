@@ -1,9 +1,9 @@
 use Rattle.std.proofs.Common.{◌≡◌, ◌∙◌, ◌++◌, ◌+◌, ◌∷◌, [], ℕ, List, not, true, sym, ap, subst, arith}
 use Rattle.event_script.specs.Grammar.{Stepping, may_stand, steps_in}
 use Rattle.event_script.specs.Stories.{offers_of}
-use Rattle.script_text.specs.declared.script.End.{End}
+use Rattle.script_net.specs.declared.script.End.{End}
 use Rattle.script_text.specs.Lines.{step_view}
-use Rattle.script_text.specs.Scripts.{group_views, steps_at}
+use Rattle.script_net.specs.Scripts.{group_views, steps_at}
 use Rattle.script_text.specs.Reading.{HasTold, open_group, is_empty}
 use Rattle.script_text.proofs.Steps.{one_more, not_empty}
 use Rattle.script_text.proofs.reading.Reading.step.Goals as goal

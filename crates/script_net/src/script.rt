@@ -1,9 +1,11 @@
 //! A script as a demultiplexer and its ends keep it.
 ghost use Rattle.std.specs.Prelude.{◌≡◌, ◌++◌, ◌∷◌, [], IfOk, OnOk};
-ghost use Rattle.script_text.specs.Scripts.{part_views, part_view, Tells, HasRoom};
+ghost use Rattle.script_net.specs.Scripts.{part_view};
+ghost use Rattle.script_net.specs.Playable.{IsFilled};
 
 use ev_types::NoMemory;
 use std::alloc::Global;
+use std::marker::Model;
 
 /// The end at which a step is reported, always as ready to be read.
 #[derive(Clone, Copy, PartialEq, Eq, Debug)]
@@ -47,46 +49,50 @@ pub enum Offer {
     Failure,
 }
 
-/// A connection of a script.
+/// A connection of a script, which did not come yet.
 #[derive(Drop)]
 pub struct Connection {
     /// What its end has to tell.
     pub parts: Vec<Part>,
+    /// How many bytes its end takes.
+    pub room: usize,
     /// What was written to its end: nothing, with room for all that it takes.
     pub held: Vec<u8>,
 }
 
+impl Model for Connection {
+    ghost use Rattle.std.specs.Prelude.{◌≡◌, ◌≤◌, [], vec_capacity};
+    ghost use Rattle.script_net.specs.Content.{ConnectionContent};
+
+    ghost Value = { ConnectionContent };
+
+    ghost use Rattle.script_net.specs.Scripts.{part_views};
+    ghost use Rattle.script_net.specs.Playable.{AreFilled};
+
+    ghost view = { λ c. record { parts = part_views c.parts.items; room = c.room } };
+
+    ghost invariant = { λ c. AreFilled (part_views c.parts.items) × (c.held.items ≡ []) × (c.room ≤ vec_capacity c.held) };
+}
+
 impl Connection {
-    /// A connection that has nothing to tell yet, with room for so many bytes.
-    pub(crate) fn new(alloc: Global, room: usize) -> Result<Connection, NoMemory>
-        ensures nothing { IfOk result (λ connection. Tells connection []) }
-        ensures room { IfOk result (λ connection. HasRoom connection room) }
+    /// A connection that has nothing to tell yet, whose end takes so many bytes.
+    pub fn new(alloc: Global, room: usize) -> Result<Connection, NoMemory>
+        ensures { IfOk result (λ connection. connection ≡ record { parts = []; room = room }) }
     {
         Ok(Connection {
             parts: Vec::new(alloc),
+            room,
             held: Vec::with_capacity(alloc, room)?,
         })
     }
 
-    /// It has one part more to tell.
-    pub(crate) fn add(&mut self, part: Part) -> Result<(), NoMemory>
-        ensures parts { OnOk result (part_views self.new.parts.items ≡ part_views self.old.parts.items ++ part_view part ∷ []) }
-        ensures held { self.new.held ≡ self.old.held }
+    /// It has one part more to tell. A piece has a byte. After `NoMemory` it has no more to tell than before.
+    pub fn add(&mut self, part: Part) -> Result<(), NoMemory>
+        requires { IsFilled (part_view part) }
+        ensures added { OnOk result (self.new ≡ record self.old { parts = self.old.parts ++ part_view part ∷ [] }) }
+        ensures room { self.new.room ≡ self.old.room }
     {
         self.parts.push(part)?;
         Ok(())
     }
-}
-
-/// A script.
-#[derive(Drop)]
-pub struct Script {
-    /// The groups of steps in order.
-    pub groups: Vec<Group>,
-    /// What the listener has to tell.
-    pub offers: Vec<Offer>,
-    /// The connections by number.
-    pub connections: Vec<Connection>,
-    /// The steps that are held back: none, with room for all of the script.
-    pub held: Vec<End>,
 }

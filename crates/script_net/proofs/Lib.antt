@@ -1,0 +1,11 @@
+pub mod Opened
+pub mod Reading
+pub mod Accepting
+pub mod KeepsEnds
+pub mod SeatingLemmas
+pub mod SeatsKept
+pub mod SortingLemmas
+pub mod PlayerLemmas
+pub mod NetLemmas
+pub mod StandsKept
+pub mod Made
