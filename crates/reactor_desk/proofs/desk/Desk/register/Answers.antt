@@ -1,0 +1,9 @@
+use Rattle.reactor_desk.proofs.Asked.{registers}
+use Rattle.reactor_desk.proofs.Marks.{core_attaches, desk_keeps}
+use Rattle.reactor_desk.proofs.desk.Desk.register.Goals as goal
+
+pub returns-clause-gives : goal.returns-clause-gives
+returns-clause-gives g c q F h o may offered = registers _ c.args.self.now c.register.new.self q F h c.args.mask c.args.timer c.register.result may o (c.register.ensures.stands q.run F h o.core offered)
+
+pub returns-clause-marks : goal.returns-clause-marks
+returns-clause-marks g c = desk_keeps _ _ _ (core_attaches _ _ _ c.register.ensures.rest)

@@ -1,0 +1,16 @@
+use Rattle.std.proofs.Common.{subst, sym}
+use Rattle.reactor_desk.specs.Leading.{IsNotOver}
+use Rattle.reactor_desk.proofs.Dispatched.{behind_job, behind_over, behind_quiet}
+use Rattle.reactor_desk.proofs.desk.Desk.start_polled.Goals as goal
+
+pub returns-in-Ok-Some-clause-gives : goal.returns-in-Ok-Some-clause-gives
+returns-in-Ok-Some-clause-gives g c q F h o = behind_job _ q F h c.args.self.now _ c.args.polled _ _ c.in-Ok-Some.field-0-is o (c.in-Ok-Some.ensures.ok q.run F h o.stands.core)
+
+pub returns-in-Over-clause-gives : goal.returns-in-Over-clause-gives
+returns-in-Over-clause-gives g c q F h o = behind_over _ q F h c.args.self.now _ c.args.polled _ c.in-Over.is c.in-Ok-None.field-0-is o (c.in-Ok-None.ensures.ok q.run F h o.stands.core)
+
+pub returns-in-Events-clause-gives : goal.returns-in-Events-clause-gives
+returns-in-Events-clause-gives g c q F h o = behind_quiet _ q F h c.args.self.now _ c.args.polled _ (subst IsNotOver (sym c.in-Events.is) tt) c.in-Ok-None.field-0-is o (c.in-Ok-None.ensures.ok q.run F h o.stands.core)
+
+pub returns-in-Quiet-clause-gives : goal.returns-in-Quiet-clause-gives
+returns-in-Quiet-clause-gives g c q F h o = behind_quiet _ q F h c.args.self.now _ c.args.polled _ (subst IsNotOver (sym c.in-Quiet.is) tt) c.in-Ok-None.field-0-is o (c.in-Ok-None.ensures.ok q.run F h o.stands.core)
