@@ -1,15 +1,15 @@
 -- What a caller's requests leave of a desk.
-use Rattle.std.proofs.Common.{ℕ, ◌≡◌, Bool, true, false, not, ◌&&◌, List, [], ◌∷◌, ◌++◌, refl, sym, ap, ◌∙◌, subst, append-nil, Option, Some, None, Result, Ok, Err}
+use Rattle.std.proofs.Common.{ℕ, ◌≡◌, Bool, true, false, not, List, [], ◌∷◌, ◌++◌, refl, sym, ap, subst, append-nil, Option, Some, None, Result, Ok, Err}
 use Rattle.std.proofs.lemmas.Bool.{and_from}
 use Rattle.std.proofs.lemmas.List.{append_assoc}
 use Rattle.std.specs.List.{list_all}
 use Rattle.ev_types.specs.declared.upcall.Handle.{Handle}
 use Rattle.ev_types.specs.declared.upcall.Mask.{Mask}
 use Rattle.reactor_journal.specs.declared.entry.Entry.{Entry}
-use Rattle.reactor_journal.specs.declared.entry.Entry.TheVariants.{Opened, Scheduled, Removed, Closed, Ended}
+use Rattle.reactor_journal.specs.declared.entry.Entry.TheVariants.{Removed, Ended}
 use Rattle.reactor_journal.specs.Past.{past_of}
-use Rattle.reactor_summary.specs.Summary.{Summary, summary, is_busy}
-use Rattle.dispatch_turns.specs.ByTurns.{GoesByTurns, is_dispatching}
+use Rattle.reactor_summary.specs.Summary.{Summary, summary}
+use Rattle.dispatch_turns.specs.ByTurns.{is_dispatching}
 use Rattle.reactor_core.specs.Acting.{StopAppends}
 use Rattle.reactor_core.specs.Offering.{RegisterGives}
 use Rattle.reactor_core.specs.Registering.{registered}
@@ -20,7 +20,7 @@ use Rattle.reactor_core.specs.Stands.{Meaning, Stands, StandsAsBefore}
 use Rattle.reactor_core.specs.declared.reactor.Core.{Core}
 use Rattle.reactor_core.specs.declared.registering.RegisterRefused.{RegisterRefused}
 use Rattle.reactor_core.specs.declared.registering.RegisterRefused.TheVariants as refused
-use Rattle.reactor_desk.specs.Asking.{MayAsk, DeskAsBefore, DeskGoesOnBy, DeskRegisters, DeskRemoves, DeskStops, history_offered}
+use Rattle.reactor_desk.specs.Asking.{MayAsk, DeskAsBefore, DeskGoesOnBy, DeskRegisters, DeskRemoves, DeskStops}
 use Rattle.reactor_desk.specs.Desks.{DeskStands}
 use Rattle.reactor_desk.specs.declared.terms.DeskTerms.{DeskTerms}
 use Rattle.reactor_desk.specs.declared.desk.Desk.{Desk}

@@ -1,5 +1,5 @@
 -- A desk that begins stands for the history of its reactor.
-use Rattle.std.proofs.Common.{ℕ, ◌≡◌, ◌≤◌, List, [], ◌∷◌, length, drop, filter, refl, sym, ap, subst, arith}
+use Rattle.std.proofs.Common.{ℕ, ◌≡◌, List, [], ◌∷◌, length, drop, refl, sym, ap, subst, arith}
 use Rattle.ev_base.specs.Terms.{Terms}
 use Rattle.notify_ring.specs.Words.{drainer_view}
 use Rattle.notify_ring.specs.declared.parts.Drainer.{Drainer}
@@ -11,7 +11,7 @@ use Rattle.dispatch_turns.proofs.Turns.{by_turns_from_end}
 use Rattle.reactor_core.specs.Marks.{is_polled}
 use Rattle.reactor_core.specs.Stands.{Meaning, Stands}
 use Rattle.reactor_core.specs.declared.reactor.Core.{Core}
-use Rattle.reactor_desk.specs.Notices.{is_notice, AreRecorded}
+use Rattle.reactor_desk.specs.Notices.{AreRecorded}
 use Rattle.reactor_desk.specs.Begins.{CanShare, desk_terms}
 use Rattle.reactor_desk.specs.Desks.{DeskStands, is_started}
 

@@ -1,7 +1,7 @@
 -- What the steps of a lead come to.
-use Rattle.std.proofs.Common.{ℕ, ◌≡◌, ◌≤◌, ◌+◌, ◌⊎◌, ⊎_elim, inl, inr, Bool, true, false, List, [], ◌∷◌, ◌++◌, map, filter, drop, length, refl, sym, ap, ◌∙◌, subst, arith, append-nil, IsTrue, Option, Some, None, Result, Ok, Err}
+use Rattle.std.proofs.Common.{ℕ, ◌≡◌, ◌≤◌, ◌+◌, ◌⊎◌, ⊎_elim, inl, inr, Bool, true, false, List, [], ◌∷◌, ◌++◌, map, filter, drop, length, refl, sym, ap, ◌∙◌, subst, arith, append-nil, IsTrue, Option, Some, None, Result, Ok}
 use Rattle.ev_base.specs.Counts.{Rose}
-use Rattle.ev_base.specs.Net.{NetFacts, NetWaits, Reserves}
+use Rattle.ev_base.specs.Net.{NetFacts, Reserves}
 use Rattle.ev_types.specs.declared.refusal.NoMemory.{NoMemory}
 use Rattle.notify_ring.specs.Words.{drainer_view}
 use Rattle.reactor_journal.specs.declared.entry.Entry.{Entry}
@@ -18,16 +18,16 @@ use Rattle.reactor_core.specs.declared.polling.Polled.{Polled}
 use Rattle.reactor_core.specs.declared.polling.Polled.TheVariants as polled
 use Rattle.reactor_core.specs.declared.reactor.Core.{Core}
 use Rattle.notify_ring.specs.declared.parts.Drainer.{Drainer}
-use Rattle.reactor_core.specs.Marks.{is_polled, marks_found}
+use Rattle.reactor_core.specs.Marks.{marks_found}
 use Rattle.reactor_core.specs.declared.marks.WaitMarks.{WaitMarks}
-use Rattle.reactor_desk.specs.Desks.{DeskStands, FromDesk, core_of, drainer_of, is_started}
+use Rattle.reactor_desk.specs.Desks.{DeskStands, drainer_of, is_started}
 use Rattle.reactor_desk.specs.Draining.{HasLooked, FoundEmpty, Drains}
-use Rattle.reactor_desk.specs.Leading.{Waits, WaitedFor, MayHaveWaited, IsOver, IsNotOver, Dispatches, Idles, Leaves, StandsForStart, GivesBehind, DispatchGives, LeadsOn, MayLead, HasDrained, LeadGives, LeadTells}
+use Rattle.reactor_desk.specs.Leading.{Waits, IsOver, IsNotOver, StandsForStart, GivesBehind, DispatchGives, LeadsOn, MayLead, HasDrained, LeadGives, LeadTells}
 use Rattle.reactor_desk.specs.declared.terms.DeskTerms.{DeskTerms}
 use Rattle.reactor_desk.specs.declared.desk.Desk.{Desk}
 use Rattle.reactor_desk.specs.declared.leading.Led.{Led}
 use Rattle.reactor_desk.specs.declared.leading.Led.TheVariants as led
-use Rattle.reactor_desk.proofs.Brought.{Brings, brings_nil, brings_wait, brings_start, desk_more}
+use Rattle.reactor_desk.proofs.Brought.{brings_wait, brings_start, desk_more}
 use Rattle.reactor_desk.proofs.Counting.{count_more}
 use Rattle.reactor_desk.proofs.Marks.{reserved_same, reserved_then}
 

@@ -1,12 +1,11 @@
 -- One posting taken from the ring is one entry.
-use Rattle.std.proofs.Common.{ℕ, ◌≡◌, ◌≤◌, ◌+◌, Bool, true, false, ◌&&◌, if◌then◌else◌, List, [], ◌∷◌, ◌++◌, length, drop, filter, refl, sym, ap, ◌∙◌, subst, arith, Option, Some, None, Ok, Err}
+use Rattle.std.proofs.Common.{ℕ, ◌≡◌, ◌+◌, Bool, true, false, ◌&&◌, if◌then◌else◌, List, [], ◌∷◌, ◌++◌, filter, refl, sym, ap, ◌∙◌, subst, arith, Some, None, Ok}
 use Rattle.std.proofs.lemmas.List.Elements.{filter-append}
-use Rattle.std.specs.List.{list_all}
 use Rattle.reactor_journal.specs.declared.entry.Entry.{Entry}
 use Rattle.reactor_journal.specs.declared.entry.Entry.TheVariants.{Posted, Stale}
 use Rattle.reactor_journal.specs.Past.{past_of, count}
 use Rattle.reactor_summary.specs.Summary.{summary, is_alive}
-use Rattle.notify_ring.specs.Passes.{HasTaken, IsNext}
+use Rattle.notify_ring.specs.Passes.{HasTaken}
 use Rattle.notify_ring.specs.Words.{drainer_ring, drainer_view}
 use Rattle.notify_ring.specs.declared.parts.Drainer.{Drainer}
 use Rattle.notify_ring.specs.declared.posting.Posting.{Posting}
@@ -17,7 +16,7 @@ use Rattle.reactor_core.specs.Stands.{Meaning, Stands}
 use Rattle.reactor_core.specs.declared.reactor.Core.{Core}
 use Rattle.reactor_desk.specs.Notices.{is_notice, Records, AreRecorded}
 use Rattle.reactor_desk.specs.Desks.{DeskStands, is_started}
-use Rattle.reactor_desk.specs.Draining.{DrainsOne, RecordsOne, LooksOnce}
+use Rattle.reactor_desk.specs.Draining.{DrainsOne}
 use Rattle.reactor_desk.specs.declared.terms.DeskTerms.{DeskTerms}
 use Rattle.reactor_desk.specs.declared.desk.Desk.{Desk}
 use Rattle.reactor_desk.proofs.Counting.{count_more}

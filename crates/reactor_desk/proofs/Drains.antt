@@ -1,12 +1,11 @@
 -- A whole drain.
-use Rattle.std.proofs.Common.{ℕ, ◌≡◌, ◌≤◌, ◌<◌, ◌+◌, ◌⊎◌, Bool, true, false, List, [], ◌∷◌, ◌++◌, length, drop, refl, sym, ap, ◌∙◌, subst, arith, append-nil, length-append, inl, inr, Ok, Err}
+use Rattle.std.proofs.Common.{ℕ, ◌≡◌, ◌≤◌, ◌<◌, ◌+◌, Bool, true, false, List, [], ◌∷◌, ◌++◌, refl, sym, ap, ◌∙◌, subst, arith, append-nil, length-append, inl, inr, Ok, Err}
 use Rattle.std.proofs.lemmas.Bool.{and_from, false≢true}
 use Rattle.std.proofs.lemmas.List.{append_assoc}
 use Rattle.std.proofs.lemmas.List.Folds.{list_all-append}
 use Rattle.std.specs.List.{list_all}
 use Rattle.ev_types.specs.declared.refusal.NoMemory.{NoMemory}
 use Rattle.reactor_journal.specs.declared.entry.Entry.{Entry}
-use Rattle.reactor_journal.specs.Past.{past_of, count}
 use Rattle.notify_ring.specs.Words.{drainer_view}
 use Rattle.notify_ring.specs.declared.parts.Drainer.{Drainer}
 use Rattle.reactor_core.specs.Marks.{is_polled}
@@ -14,7 +13,7 @@ use Rattle.reactor_core.specs.Stands.{Meaning}
 use Rattle.reactor_desk.specs.Notices.{is_notice}
 use Rattle.reactor_desk.specs.Desks.{DeskStands, is_started}
 use Rattle.reactor_core.proofs.Frames.{rest_begins, rest_goes_on}
-use Rattle.reactor_desk.specs.Draining.{Drains, DrainsOne, DrainsSome, RecordsOne, HasLooked, LeavesDrained}
+use Rattle.reactor_desk.specs.Draining.{Drains, DrainsOne, DrainsSome, HasLooked, LeavesDrained}
 use Rattle.reactor_desk.specs.declared.terms.DeskTerms.{DeskTerms}
 use Rattle.reactor_desk.specs.declared.desk.Desk.{Desk}
 use Rattle.reactor_desk.proofs.Counting.{count_more}

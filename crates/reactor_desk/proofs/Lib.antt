@@ -10,3 +10,4 @@ pub mod Opens
 pub mod Settled
 pub mod Begun
 pub mod Asked
+pub mod Left

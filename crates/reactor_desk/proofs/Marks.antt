@@ -1,5 +1,5 @@
 -- Marks that never fall, and the places of a net over several calls.
-use Rattle.std.proofs.Common.{ℕ, zero, suc, ◌+◌, ◌-◌, ◌^◌, ◌≡◌, ◌≤◌, min, List, [], ◌∷◌, refl, ap, ◌∙◌, arith}
+use Rattle.std.proofs.Common.{ℕ, zero, suc, ◌≡◌, ◌≤◌, [], ◌∷◌, refl, ap, ◌∙◌, arith}
 use Rattle.ev_base.specs.Net.{NetFacts, Reserves}
 use Rattle.leader_token.specs.Lists.{NoneAbove}
 use Rattle.reactor_core.specs.Faults.{HasNotFallen}

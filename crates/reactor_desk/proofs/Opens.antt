@@ -1,5 +1,5 @@
 -- Which entries leave the open events as they are, and what the return of one does.
-use Rattle.std.proofs.Common.{ℕ, ◌+◌, ◌≡◌, ◌==◌, ◌⊎◌, ⊎_elim, Bool, true, false, not, ◌&&◌, List, [], ◌∷◌, ◌++◌, map, filter, refl, sym, ap, ◌∙◌, arith, append-nil, cond, Option}
+use Rattle.std.proofs.Common.{ℕ, ◌+◌, ◌≡◌, ◌==◌, ⊎_elim, Bool, true, false, not, ◌&&◌, List, [], ◌∷◌, ◌++◌, map, filter, refl, sym, ap, ◌∙◌, arith, append-nil, cond, Option}
 use Rattle.std.proofs.lemmas.Bool.{false≢true, and_parts, eqb-true, cases_Bool}
 use Rattle.std.proofs.lemmas.List.{append_assoc}
 use Rattle.std.specs.List.{list_all}
@@ -97,7 +97,7 @@ notice_still (Removed handle) s = absurd (false≢true s)
 notice_still (Closed handle note) s = absurd (false≢true s)
 notice_still Ended s = absurd (false≢true s)
 
-notices_still : {N : Type 0} (es : List (Entry N)) → list_all is_notice es ≡ true → list_all is_still es ≡ true
+pub notices_still : {N : Type 0} (es : List (Entry N)) → list_all is_notice es ≡ true → list_all is_still es ≡ true
 notices_still [] s = refl
 notices_still (e ∷ es) s =
     let p : (is_notice e ≡ true) × (list_all is_notice es ≡ true) = and_parts _ _ s in
@@ -111,8 +111,8 @@ readies_still : (N : Type 0) (reports : List Report) → list_all {X = Entry N} 
 readies_still N [] = refl
 readies_still N (r ∷ reports) = readies_still N reports
 
-waited_still : {E N : Type 0} (most : Option ℕ) (h : List (Entry N)) (before : NetFacts E) (es : List (Entry N)) (P : PolledName → Type 0) → WaitedFor most h before es P → list_all is_still es ≡ true
+pub waited_still : {E N : Type 0} (most : Option ℕ) (h : List (Entry N)) (before : NetFacts E) (es : List (Entry N)) (P : PolledName → Type 0) → WaitedFor most h before es P → list_all is_still es ≡ true
 waited_still {N = N} most h before es P w = ap (list_all is_still) w.waits.are ∙ dues_still N w.waits.timers (map ready_of (filter (is_taken (summary (past_of h))) w.now.reports)) (readies_still N (filter (is_taken (summary (past_of h))) w.now.reports))
 
-may_still : {E N : Type 0} (most : Option ℕ) (h : List (Entry N)) (before : NetFacts E) (es : List (Entry N)) → MayHaveWaited most h before es → list_all is_still es ≡ true
+pub may_still : {E N : Type 0} (most : Option ℕ) (h : List (Entry N)) (before : NetFacts E) (es : List (Entry N)) → MayHaveWaited most h before es → list_all is_still es ≡ true
 may_still most h before es may = ⊎_elim (λ n. ap (list_all is_still) n) (λ w. waited_still most h before es (λ p. Unit {0}) w) may

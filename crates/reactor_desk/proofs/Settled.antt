@@ -1,6 +1,6 @@
 -- The entries of a settling go by turns, and its event is open no more.
-use Rattle.std.proofs.Common.{ℕ, ◌≡◌, ◌≤◌, ◌+◌, ◌==◌, ◌⊎◌, ⊎_elim, Bool, true, false, not, ◌&&◌, List, [], ◌∷◌, ◌++◌, filter, length, length-append, refl, sym, ap, ◌∙◌, subst, arith, append-nil, cond, is_some, Option, Some, None, option_map}
-use Rattle.std.proofs.lemmas.Bool.{false≢true, and_parts, and_from, eq-eqb, eqb-true, cases_Bool}
+use Rattle.std.proofs.Common.{ℕ, ◌≡◌, ◌≤◌, ◌+◌, ◌==◌, ⊎_elim, Bool, true, false, not, List, [], ◌∷◌, ◌++◌, filter, length, refl, sym, ap, ◌∙◌, subst, arith, cond, is_some, Option, Some, None}
+use Rattle.std.proofs.lemmas.Bool.{and_from, eqb-true}
 use Rattle.std.proofs.lemmas.List.{append_assoc}
 use Rattle.std.proofs.lemmas.List.Folds.{list_all-append}
 use Rattle.std.specs.List.{list_all}
@@ -11,20 +11,18 @@ use Rattle.ev_types.specs.declared.upcall.Upcall.{Upcall}
 use Rattle.std.proofs.lemmas.List.{length-reverse}
 use Rattle.reactor_journal.specs.Event.{Event, Origin}
 use Rattle.reactor_journal.specs.declared.entry.Entry.{Entry}
-use Rattle.reactor_journal.specs.declared.entry.Entry.TheVariants.{Opened, Scheduled, Cancelled, Polled, Returned, Masked, Refused, Removed, Closed, Ended}
+use Rattle.reactor_journal.specs.declared.entry.Entry.TheVariants.{Removed, Closed, Ended}
 use Rattle.reactor_journal.specs.Past as P
 use Rattle.reactor_journal.specs.Past.{past_of, ended, now}
-use Rattle.reactor_journal.specs.Follow.{is_legal, Legal}
 use Rattle.reactor_journal.proofs.Basics.{event_at-before}
-use Rattle.reactor_journal.proofs.Turning.{past_of-more, past_of-append, is_legal-front}
-use Rattle.reactor_summary.specs.Summary as S
-use Rattle.reactor_summary.specs.Summary.{Summary, summary}
+use Rattle.reactor_journal.proofs.Turning.{past_of-more, past_of-append}
+use Rattle.reactor_summary.specs.Summary.{summary}
 use Rattle.reactor_summary.specs.declared.parts.LiveHandle.{LiveHandle}
 use Rattle.reactor_model.specs.Handling.{Handling, Deed, Installing, Masking, Cancelling, Stopping}
 use Rattle.reactor_model.specs.Turns.{MayAct, IsInstall}
 use Rattle.reactor_model.specs.declared.handler.Act.{Act}
 use Rattle.reactor_model.specs.declared.handler.Act.TheVariants.{Install, MaskMine, CancelMine, Stop}
-use Rattle.reactor_core.specs.Acting.{ActAppends, StopAppends, InstallAppends, IsRegistration, IsRefusal, Settles, is_mine, mask_mine, cancel_mine}
+use Rattle.reactor_core.specs.Acting.{ActAppends, StopAppends, InstallAppends, IsRegistration, IsRefusal, Settles, mask_mine, cancel_mine}
 use Rattle.reactor_core.specs.Registering.{registered}
 use Rattle.reactor_core.specs.Removing.{AreRemovals}
 use Rattle.reactor_core.specs.Settling.{IsClosing, returned}
@@ -33,7 +31,7 @@ use Rattle.reactor_core.specs.Upcalls.{DoneFits}
 use Rattle.reactor_core.specs.declared.reactor.Core.{Core}
 use Rattle.reactor_core.specs.declared.acting.Settled.{Settled}
 use Rattle.reactor_core.specs.declared.job.Done.{Done}
-use Rattle.dispatch_turns.specs.ByTurns.{MayHere, returned_here, GoesByTurns, OffersBehind, IsOfferBehind, EachGoesByTurn, BeginsWithNoTimer, is_dispatching}
+use Rattle.dispatch_turns.specs.ByTurns.{MayHere, OffersBehind, IsOfferBehind, EachGoesByTurn, BeginsWithNoTimer, is_dispatching}
 use Rattle.dispatch_turns.proofs.Turns.{by_turns_block}
 use Rattle.reactor_desk.specs.Desks.{DeskStands}
 use Rattle.reactor_desk.specs.Settling.{SettlesDesk}
@@ -43,7 +41,8 @@ use Rattle.reactor_desk.proofs.Requested.{NoneDispatching, desk_asked}
 use Rattle.reactor_desk.proofs.Opens.{is_still, opens_still, opens_more, times_filter}
 use Rattle.leader_token.specs.Lists.{times, is_event, Begins}
 use Rattle.reactor_turns.specs.Opens.{opens_of}
-use Rattle.reactor_turns.proofs.Opens.{moment_is}
+use Rattle.reactor_turns.proofs.Opens.{moment_is, opens_are}
+use Rattle.reactor_desk.specs.OpensOnce.{times_is}
 use Rattle.reactor_core.proofs.Moves.{found_open}
 
 -- ---- removals
@@ -175,6 +174,12 @@ module _ {H E N : Type 0} (means : Handling H E N) (t : Terms) (b : ℕ) (past :
       (subst (λ k. ActAppends most (summary (past_of k ++ returned done ∷ past)) done.handle done.turn.act before after acted) is appends) may
       in
       record { none_dispatching = a.none_dispatching; goes = ((λ i. a.offers_next (installs i)), a.goes); no_timer = tt; still = a.still })
+
+-- an event that fits the history is open in it, once
+pub settled_own : {H M Q W V N E : Type 0} (m : Meaning H M Q W V N E) (q : DeskTerms) (F : ℕ) (h : List (Entry N)) (done : Done H N E) (old : Desk H M Q W V N E) → DeskStands m q F old h → DoneFits m.means q.run (past_of h) done → times done.event (opens_of h) ≡ 1
+settled_own m q F h done old o fits =
+    let at = found_open q.run.most (past_of h) done.event _ o.core.tracks.legal fits.event in
+    times_is done.event (opens_of h) ∙ (opens_are q.run.most (past_of h) done.event o.core.tracks.legal ∙ ap (λ (b : Bool). cond {A = ℕ} b 1 0) at.0.is_open)
 
 module _ {H M Q W V N E : Type 0} (m : Meaning H M Q W V N E) (q : DeskTerms) (F : ℕ) (h : List (Entry N)) (done : Done H N E) (old : Desk H M Q W V N E) (core : Core H M Q W V N E) (settled : Settled) where
   abbrev settled_list : Settles m q.run F h done old.core core settled → List (Entry N)

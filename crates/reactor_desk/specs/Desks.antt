@@ -1,6 +1,6 @@
 -- What a desk stands for: the history of its reactor, in which each drained notification is recorded (POSA2, Leader/Followers: the
 -- shared handle set).
-use Rattle.std.specs.Prelude.{ℕ, ◌≡◌, ◌≤◌, ◌-◌, ◌^◌, min, Bool, true, false, List, [], ◌∷◌, drop, filter, Some, None}
+use Rattle.std.specs.Prelude.{ℕ, ◌≡◌, ◌≤◌, ◌-◌, ◌^◌, min, Bool, true, false, List, [], ◌∷◌, drop, filter, Some}
 use Rattle.atomic_table.specs.Seated.{TableId}
 use Rattle.ev_base.specs.Terms.{open_terms}
 use Rattle.leader_token.specs.Lists.{NoneAbove}

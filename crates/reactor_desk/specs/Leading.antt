@@ -1,5 +1,5 @@
 -- What the lead of a desk does (POSA2, Leader/Followers: the leader waits for an event, promotes a follower and processes its event).
-use Rattle.std.specs.Prelude.{ℕ, ◌≡◌, ◌⊎◌, ◌≤◌, ◌+◌, Bool, true, false, List, [], ◌∷◌, ◌++◌, length, drop, map, filter, Option, Some, None, IsTrue}
+use Rattle.std.specs.Prelude.{ℕ, ◌≡◌, ◌⊎◌, ◌≤◌, ◌+◌, true, false, List, [], ◌∷◌, ◌++◌, length, drop, map, filter, Option, Some, None, IsTrue}
 use Rattle.std.specs.List.{list_all}
 use Rattle.ev_base.specs.Counts.{Rose}
 use Rattle.ev_base.specs.Net.{NetFacts, NetWaits, Reserves}

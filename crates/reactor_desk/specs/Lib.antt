@@ -6,3 +6,4 @@ pub mod Draining
 pub mod Leading
 pub mod Settling
 pub mod Asking
+pub mod Laws

@@ -1,4 +1,4 @@
-use Rattle.std.proofs.Common.{refl, sym, ap, ◌∙◌, ◌++◌, Ok, Err}
+use Rattle.std.proofs.Common.{sym, ap, ◌∙◌, ◌++◌, Err}
 use Rattle.std.proofs.lemmas.Bool.{false≢true}
 use Rattle.reactor_desk.proofs.Dispatched.{gives_job, gives_nothing, gives_fault, gives_after, brought, none_started, tells_behind}
 use Rattle.reactor_desk.proofs.Marks.{core_rests, core_waits, core_then, desk_keeps}

@@ -1,4 +1,4 @@
-use Rattle.std.proofs.Common.{ℕ, ◌≡◌, ◌++◌, refl, ◌∙◌, arith}
+use Rattle.std.proofs.Common.{◌≡◌, ◌++◌, refl, ◌∙◌, arith}
 use Rattle.reactor_desk.proofs.Drains.{nothing_drained, one_more, drained_all, drained_empty, drained_until, leaves_same, leaves_then}
 use Rattle.reactor_desk.proofs.Notices.{notices_ended}
 use Rattle.reactor_desk.proofs.desk.Desk.drain.Goals as goal

@@ -1,4 +1,4 @@
-use Rattle.reactor_desk.proofs.Drained.{drained_one, found_empty, stands_still}
+use Rattle.reactor_desk.proofs.Drained.{drained_one}
 use Rattle.reactor_desk.proofs.desk.Desk.drain_one.Goals as goal
 
 pub returns-in-Some-clause-drains : goal.returns-in-Some-clause-drains
