@@ -1,0 +1,13 @@
+pub mod Counting
+pub mod Notices
+pub mod Marks
+pub mod Drained
+pub mod Drains
+pub mod Brought
+pub mod Dispatched
+pub mod Requested
+pub mod Opens
+pub mod Settled
+pub mod Begun
+pub mod Asked
+pub mod Left

@@ -1,0 +1,9 @@
+pub mod Notices
+pub mod Desks
+pub mod OpensOnce
+pub mod Begins
+pub mod Draining
+pub mod Leading
+pub mod Settling
+pub mod Asking
+pub mod Laws
