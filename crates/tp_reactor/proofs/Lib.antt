@@ -1,0 +1,5 @@
+pub mod Turns
+pub mod Settling
+pub mod Belongs
+pub mod Sharing
+pub mod Lives

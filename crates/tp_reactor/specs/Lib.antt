@@ -1,0 +1,4 @@
+pub mod Words
+pub mod Led
+pub mod Settled
+pub mod Ends

@@ -1,0 +1,9 @@
+//! A reactor that several threads call (POSA2, Leader/Followers; ACE's `ACE_TP_Reactor`).
+#![tactic(auto)]
+
+mod crew;
+mod leading;
+mod reactor;
+mod start;
+
+pub use reactor::{Reactor, Worker};
