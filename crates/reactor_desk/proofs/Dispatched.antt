@@ -1,7 +1,7 @@
 -- What the steps of a lead come to.
-use Rattle.std.proofs.Common.{ℕ, ◌≡◌, ◌≤◌, ◌+◌, ◌⊎◌, ⊎_elim, inl, inr, Bool, true, false, List, [], ◌∷◌, ◌++◌, map, filter, drop, length, refl, sym, ap, ◌∙◌, subst, arith, append-nil, IsTrue, Option, Some, None, Result, Ok}
+use Rattle.std.proofs.Common.{ℕ, ◌≡◌, ◌≤◌, ◌+◌, ◌⊎◌, ⊎_elim, inl, inr, Bool, true, false, List, [], ◌∷◌, ◌++◌, map, filter, drop, length, refl, sym, ap, ◌∙◌, subst, arith, append-nil, IsTrue, Option, Some, None, Result, Ok, Err}
 use Rattle.ev_base.specs.Counts.{Rose}
-use Rattle.ev_base.specs.Net.{NetFacts, Reserves}
+use Rattle.ev_base.specs.Net.{NetFacts, Reserves, FailsToWait}
 use Rattle.ev_types.specs.declared.refusal.NoMemory.{NoMemory}
 use Rattle.notify_ring.specs.Words.{drainer_view}
 use Rattle.reactor_journal.specs.declared.entry.Entry.{Entry}
@@ -11,7 +11,7 @@ use Rattle.reactor_summary.specs.Summary.{summary}
 use Rattle.reactor_core.specs.Calls.{is_taken}
 use Rattle.reactor_core.specs.HandingOver.{HandsOver, HandsDue, is_due}
 use Rattle.reactor_core.specs.Polling.{Polls, due_of, ready_of}
-use Rattle.reactor_core.specs.Stands.{Meaning, Stands}
+use Rattle.reactor_core.specs.Stands.{Meaning, Stands, Keeps}
 use Rattle.reactor_core.specs.Upcalls.{StartGives, HasNoPick, JobFits}
 use Rattle.reactor_core.specs.declared.job.Job.{Job}
 use Rattle.reactor_core.specs.declared.polling.Polled.{Polled}
@@ -20,6 +20,9 @@ use Rattle.reactor_core.specs.declared.reactor.Core.{Core}
 use Rattle.notify_ring.specs.declared.parts.Drainer.{Drainer}
 use Rattle.reactor_core.specs.Marks.{marks_found}
 use Rattle.reactor_core.specs.declared.marks.WaitMarks.{WaitMarks}
+use Rattle.reactor_core.specs.Refusals.{FailsOnce, LeavesPoll}
+use Rattle.reactor_core.specs.declared.polling.PollRefused.{PollRefused}
+use Rattle.reactor_core.specs.declared.polling.PollRefused.TheVariants as refusal
 use Rattle.reactor_desk.specs.Desks.{DeskStands, drainer_of, is_started}
 use Rattle.reactor_desk.specs.Draining.{HasLooked, FoundEmpty, Drains}
 use Rattle.reactor_desk.specs.Leading.{Waits, IsOver, IsNotOver, StandsForStart, GivesBehind, DispatchGives, LeadsOn, MayLead, HasDrained, LeadGives, LeadTells}
@@ -102,39 +105,46 @@ module _ {H M Q W V N E : Type 0} (m : Meaning H M Q W V N E) (q : DeskTerms) (F
       }
 
   -- what is given behind the wait, given at once
-  pub gives_after : (most : Option ℕ) (before : NetFacts E) (old new : Desk H M Q W V N E) (core : Core H M Q W V N E) (wait : Polled) (l : Led H N E) → (b : Brought most before old core wait) → GivesBehind m q F (h ++ b.entries) wait l new → DispatchGives m q F h most before l new
-  gives_after most before old new core wait (led.Job job) b g = record { waited = b.entries; may = inr (record { none = b.none; polled = wait; now = m.facts core.net; waits = b.waits; found = tt }); pick = g.0; fits = g.1; stands = g.2 }
-  gives_after most before old new core wait led.Quiet b g = record { entries = b.entries; waited = record { none = b.none; polled = wait; now = m.facts core.net; waits = b.waits; found = g.0 }; none = g.1; stands = g.2 }
-  gives_after most before old new core wait led.Over b g = record { entries = b.entries; waited = record { none = b.none; polled = wait; now = m.facts core.net; waits = b.waits; found = g.0 }; none = g.1; stands = g.2 }
-  gives_after most before old new core wait led.NoMemory b g = record { entries = b.entries; may = inr (record { none = b.none; polled = wait; now = m.facts core.net; waits = b.waits; found = tt }); stands = g }
-  gives_after most before old new core wait led.NetFault b g = absurd g
-  gives_after most before old new core wait led.Stopped b g = absurd g
-  gives_after most before old new core wait led.Broken b g = absurd g
-  gives_after most before old new core wait led.VolumeFault b g = absurd g
+  pub gives_after : (most : Option ℕ) (before : NetFacts E) (old new : Desk H M Q W V N E) (core : Core H M Q W V N E) (wait : Polled) (l : Led H N E) → (b : Brought most before old core wait) → Reserves (m.facts core.net) (m.facts new.core.net) → GivesBehind m q F (h ++ b.entries) wait l new → DispatchGives m q F h most before l new
+  gives_after most before old new core wait (led.Job job) b stays g = record { waited = b.entries; may = inr (record { none = b.none; polled = wait; now = m.facts core.net; waits = b.waits; stays = stays; found = tt }); pick = g.0; fits = g.1; stands = g.2 }
+  gives_after most before old new core wait led.Quiet b stays g = record { entries = b.entries; waited = record { none = b.none; polled = wait; now = m.facts core.net; waits = b.waits; stays = stays; found = g.0 }; none = g.1; stands = g.2 }
+  gives_after most before old new core wait led.Over b stays g = record { entries = b.entries; waited = record { none = b.none; polled = wait; now = m.facts core.net; waits = b.waits; stays = stays; found = g.0 }; none = g.1; stands = g.2 }
+  gives_after most before old new core wait led.NoMemory b stays g = record { entries = b.entries; may = inr (record { none = b.none; polled = wait; now = m.facts core.net; waits = b.waits; stays = stays; found = tt }); stands = g }
+  gives_after most before old new core wait led.NetFault b stays g = absurd g
+  gives_after most before old new core wait led.Stopped b stays g = absurd g
+  gives_after most before old new core wait led.Broken b stays g = absurd g
+  gives_after most before old new core wait led.VolumeFault b stays g = absurd g
 
   -- ---- without a wait
 
-  pub gives_job : (most : Option ℕ) (old : Desk H M Q W V N E) (core : Core H M Q W V N E) (found : Option (Job H N E)) (job : Job H N E) → found ≡ Some job → DeskStands m q F old h → HasLooked q old h → StartGives m q.run F h found core
+  pub gives_job : (most : Option ℕ) (old : Desk H M Q W V N E) (core : Core H M Q W V N E) (found : Option (Job H N E)) (job : Job H N E) → found ≡ Some job → DeskStands m q F old h → HasLooked q old h → Reserves (m.facts old.core.net) (m.facts core.net) → StartGives m q.run F h found core
       → DispatchGives m q F h most (m.facts old.core.net) (led.Job job) (record { core = core; drainer = old.drainer })
-  gives_job most old core found job is o looked gives =
+  gives_job most old core found job is o looked stays gives =
       let s = subst (λ (f : Option (Job H N E)). StartGives m q.run F h f core) is gives in
       let nil : h ≡ h ++ [] = sym (append-nil h) in
       record {
         waited = [];
-        may = inl refl;
+        may = inl (refl, stays);
         pick = subst (λ k. IsTrue (is_pick (past_of k) job.event)) nil s.0;
         fits = subst (λ k. JobFits m.means q.run (entry.Started job.event ∷ past_of k) job) nil s.2;
         stands = subst (λ k. DeskStands m q F (record { core = core; drainer = old.drainer }) (k ++ entry.Started job.event ∷ [])) nil (desk_started old core job.event o looked.starts s.1);
       }
 
-  pub gives_nothing : (most : Option ℕ) (before : NetFacts E) (old : Desk H M Q W V N E) (core : Core H M Q W V N E) → DeskStands m q F old h → Stands m q.run core F h → DispatchGives m q F h most before led.NoMemory (record { core = core; drainer = old.drainer })
-  gives_nothing most before old core o stands = record { entries = []; may = inl refl; stands = subst (DeskStands m q F (record { core = core; drainer = old.drainer })) (sym (append-nil h)) (desk_same old core F o stands) }
+  pub gives_nothing : (most : Option ℕ) (before : NetFacts E) (old : Desk H M Q W V N E) (core : Core H M Q W V N E) → DeskStands m q F old h → Reserves before (m.facts core.net) → Stands m q.run core F h → DispatchGives m q F h most before led.NoMemory (record { core = core; drainer = old.drainer })
+  gives_nothing most before old core o stays stands = record { entries = []; may = inl (refl, stays); stands = subst (DeskStands m q F (record { core = core; drainer = old.drainer })) (sym (append-nil h)) (desk_same old core F o stands) }
 
   pub gives_fault : (most : Option ℕ) (old : Desk H M Q W V N E) (mid core : Core H M Q W V N E) (found : Option (Job H N E)) → found ≡ None → DeskStands m q F old h → StartGives m q.run F h found mid → Reserves (m.facts old.core.net) (m.facts mid.net)
-      → (Stands m q.run mid F h → Stands m q.run core F h) → Rose (m.facts mid.net).failed_waits (m.facts core.net).failed_waits → DispatchGives m q F h most (m.facts old.core.net) led.NetFault (record { core = core; drainer = old.drainer })
-  gives_fault most old mid core found is o gives reserves stands rose =
+      → (Stands m q.run mid F h → Stands m q.run core F h) → (refused : PollRefused) → refused ≡ refusal.NetFailed → LeavesPoll m mid (Err refused) core → DispatchGives m q F h most (m.facts old.core.net) led.NetFault (record { core = core; drainer = old.drainer })
+  gives_fault most old mid core found is o gives reserves stands refused named leaves =
       let s = subst (λ (f : Option (Job H N E)). StartGives m q.run F h f mid) is gives in
-      (s.0, subst (λ n. Rose n (m.facts core.net).failed_waits) reserves.failed_waits rose, desk_same old core F o (stands s.1))
+      let f : FailsOnce m FailsToWait mid core = subst (λ (r : PollRefused). LeavesPoll m mid (Err r) core) named leaves in
+      (s.0, record { net = m.facts f.between.net; reserves = reserved_then _ _ _ reserves f.kept.net; fails = f.fails.0 }, desk_same old core F o (stands s.1))
+
+  -- there was no memory for a wait
+  pub unwaited : (mid core : Core H M Q W V N E) (before : NetFacts E) → Reserves before (m.facts mid.net) → (refused : PollRefused) → refused ≡ refusal.NoMemory → LeavesPoll m mid (Err refused) core → Reserves before (m.facts core.net)
+  unwaited mid core before reserves refused named leaves =
+      let k : Keeps m mid core = subst (λ (r : PollRefused). LeavesPoll m mid (Err r) core) named leaves in
+      reserved_then _ _ _ reserves k.net
 
   -- ---- a volume handed over
 
@@ -151,8 +161,8 @@ module _ {H M Q W V N E : Type 0} (m : Meaning H M Q W V N E) (q : DeskTerms) (F
       by_due false d = record { first = F; within = o.core.tracks.journal.within; stands = desk_same old core F o (subst (λ (c : Core H M Q W V N E). Stands m q.run c F h) (sym d.1) o.core) }
 
   -- there was no memory for a volume
-  pub leads_nowhere : (most : Option ℕ) (old : Desk H M Q W V N E) (core : Core H M Q W V N E) → DeskStands m q F old h → Stands m q.run core F h → LeadsOn m q F h most old led.NoMemory (record { core = core; drainer = old.drainer })
-  leads_nowhere most old core o stands = record {
+  pub leads_nowhere : (most : Option ℕ) (old : Desk H M Q W V N E) (core : Core H M Q W V N E) → DeskStands m q F old h → core.net ≡ old.core.net → Stands m q.run core F h → LeadsOn m q F h most old led.NoMemory (record { core = core; drainer = old.drainer })
+  leads_nowhere most old core o same stands = record {
     first = F;
     within = o.core.tracks.journal.within;
     notices = [];
@@ -161,7 +171,7 @@ module _ {H M Q W V N E : Type 0} (m : Meaning H M Q W V N E) (q : DeskTerms) (F
     drained = tt;
     net = m.facts old.core.net;
     reserves = reserved_same (m.facts old.core.net);
-    gives = subst (λ k. DispatchGives m q F k most (m.facts old.core.net) led.NoMemory (record { core = core; drainer = old.drainer })) (sym (append-nil h)) (gives_nothing most (m.facts old.core.net) old core o stands);
+    gives = subst (λ k. DispatchGives m q F k most (m.facts old.core.net) led.NoMemory (record { core = core; drainer = old.drainer })) (sym (append-nil h)) (gives_nothing most (m.facts old.core.net) old core o (subst (λ n. Reserves (m.facts old.core.net) (m.facts n)) (sym same) (reserved_same (m.facts old.core.net))) stands);
   }
 
   few_are : (h' : List (Entry N)) (result : Result ℕ NoMemory) (first : ℕ) (mid new : Desk H M Q W V N E) → (d : Drains m q first h' result mid new) → length d.some.notices ≤ 256
@@ -179,7 +189,7 @@ module _ {H M Q W V N E : Type 0} (m : Meaning H M Q W V N E) (q : DeskTerms) (F
     drained = tt;
     net = m.facts new.core.net;
     reserves = subst (λ n. Reserves (m.facts n) (m.facts new.core.net)) same reserves;
-    gives = record { entries = []; may = inl refl; stands = subst (DeskStands m q over.first new) (sym (append-nil (h ++ d.some.notices))) d.some.stands };
+    gives = record { entries = []; may = inl (refl, reserved_same (m.facts new.core.net)); stands = subst (DeskStands m q over.first new) (sym (append-nil (h ++ d.some.notices))) d.some.stands };
   }
 
   -- 256 were drained, or the ring was found empty, and the drainer was left alone since
@@ -230,24 +240,30 @@ module _ {H M Q W V N E : Type 0} (m : Meaning H M Q W V N E) where
   over_is old new polled.Events over is = absurd over
   over_is old new polled.Quiet over is = absurd over
 
+  -- and else the last such wait is that of before
+  over_stands : (old new : WaitMarks) (polled : Polled) → IsNotOver polled → new ≡ marks_found (Some polled) old → new.over ≡ old.over
+  over_stands old new polled.Over not is = absurd not
+  over_stands old new polled.Events not is = ap (λ (w : WaitMarks). w.over) is
+  over_stands old new polled.Quiet not is = ap (λ (w : WaitMarks). w.over) is
+
   -- the lead behind a wait: with Over the wait was answered so
-  pub tells_behind : (q : DeskTerms) (F : ℕ) (h : List (Entry N)) (polled : Polled) (l : Led H N E) (before : WaitMarks) (old new : Desk H M Q W V N E) → GivesBehind m q F h polled l new → new.core.marks ≡ marks_found (Some polled) before → LeadTells m old l new
-  tells_behind q F h polled (led.Job job) before old new g is = tt
-  tells_behind q F h polled led.Quiet before old new g is = tt
-  tells_behind q F h polled led.Over before old new g is = λ t G k o. over_is before new.core.marks polled g.0 is ∙ o.core.tracks.marks.made
-  tells_behind q F h polled led.NoMemory before old new g is = tt
-  tells_behind q F h polled led.NetFault before old new g is = absurd g
-  tells_behind q F h polled led.Stopped before old new g is = absurd g
-  tells_behind q F h polled led.Broken before old new g is = absurd g
-  tells_behind q F h polled led.VolumeFault before old new g is = absurd g
+  pub tells_behind : (q : DeskTerms) (F : ℕ) (h : List (Entry N)) (polled : Polled) (l : Led H N E) (before : WaitMarks) (old new : Desk H M Q W V N E) → GivesBehind m q F h polled l new → new.core.marks ≡ marks_found (Some polled) before → before.over ≡ old.core.marks.over → LeadTells m old l new
+  tells_behind q F h polled (led.Job job) before old new g is same = tt
+  tells_behind q F h polled led.Quiet before old new g is same = over_stands before new.core.marks polled g.0 is ∙ same
+  tells_behind q F h polled led.Over before old new g is same = λ t G k o. over_is before new.core.marks polled g.0 is ∙ o.core.tracks.marks.made
+  tells_behind q F h polled led.NoMemory before old new g is same = tt
+  tells_behind q F h polled led.NetFault before old new g is same = absurd g
+  tells_behind q F h polled led.Stopped before old new g is same = absurd g
+  tells_behind q F h polled led.Broken before old new g is same = absurd g
+  tells_behind q F h polled led.VolumeFault before old new g is same = absurd g
 
   -- the dispatch of a lead tells it of the whole, whose count of failed waits stood until then
-  pub tells_of : (l : Led H N E) (old mid new : Desk H M Q W V N E) → (m.facts mid.core.net).failed_waits ≡ (m.facts old.core.net).failed_waits → (m.volumes mid.core.volumes).faults ≡ (m.volumes old.core.volumes).faults → LeadTells m mid l new → LeadTells m old l new
-  tells_of (led.Job job) old mid new waits faults g = tt
-  tells_of led.Quiet old mid new waits faults g = tt
-  tells_of led.Over old mid new waits faults g = g
-  tells_of led.NoMemory old mid new waits faults g = tt
-  tells_of led.NetFault old mid new waits faults g = subst (λ n. Rose n (m.facts new.core.net).failed_waits) waits g
-  tells_of led.Stopped old mid new waits faults g = tt
-  tells_of led.Broken old mid new waits faults g = g
-  tells_of led.VolumeFault old mid new waits faults g = subst (λ n. Rose n (m.volumes new.core.volumes).faults) faults g
+  pub tells_of : (l : Led H N E) (old mid new : Desk H M Q W V N E) → (m.facts mid.core.net).failed_waits ≡ (m.facts old.core.net).failed_waits → (m.volumes mid.core.volumes).faults ≡ (m.volumes old.core.volumes).faults → mid.core.marks.over ≡ old.core.marks.over → LeadTells m mid l new → LeadTells m old l new
+  tells_of (led.Job job) old mid new waits faults over g = tt
+  tells_of led.Quiet old mid new waits faults over g = g ∙ over
+  tells_of led.Over old mid new waits faults over g = g
+  tells_of led.NoMemory old mid new waits faults over g = tt
+  tells_of led.NetFault old mid new waits faults over g = subst (λ n. Rose n (m.facts new.core.net).failed_waits) waits g
+  tells_of led.Stopped old mid new waits faults over g = tt
+  tells_of led.Broken old mid new waits faults over g = g
+  tells_of led.VolumeFault old mid new waits faults over g = subst (λ n. Rose n (m.volumes new.core.volumes).faults) faults g

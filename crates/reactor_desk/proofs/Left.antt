@@ -46,11 +46,11 @@ module _ {H M Q W V N E : Type 0} (m : Meaning H M Q W V N E) (q : DeskTerms) wh
 
   left_on : (F : ℕ) (h notices : List (Entry N)) (most : Option ℕ) (before : NetFacts E) (l : Led H N E) (new : Desk H M Q W V N E) → F ≤ length h → (g : DispatchGives m q F (h ++ notices) most before l new) → list_all is_notice notices ≡ true → HistoryLeft m q h new (history_on m q F (h ++ notices) most before l new g) (event_of l)
   unfolding left_started left_still
-  left_on F h notices most before (led.Job job) new w g are = behind_notices h notices _ new _ are (left_started F (h ++ notices) g.waited (job_event job) new (wide F h notices w) (may_still most (h ++ notices) before g.waited g.may) g.stands) w
-  left_on F h notices most before led.Quiet new w g are = behind_notices h notices _ new _ are (left_still F (h ++ notices) g.entries new (wide F h notices w) (waited_still most (h ++ notices) before g.entries _ g.waited) g.stands) w
-  left_on F h notices most before led.Over new w g are = behind_notices h notices _ new _ are (left_still F (h ++ notices) g.entries new (wide F h notices w) (waited_still most (h ++ notices) before g.entries _ g.waited) g.stands) w
+  left_on F h notices most before (led.Job job) new w g are = behind_notices h notices _ new _ are (left_started F (h ++ notices) g.waited (job_event job) new (wide F h notices w) (may_still most (h ++ notices) before g.waited _ g.may) g.stands) w
+  left_on F h notices most before led.Quiet new w g are = behind_notices h notices _ new _ are (left_still F (h ++ notices) g.entries new (wide F h notices w) (waited_still most (h ++ notices) before g.entries _ _ g.waited) g.stands) w
+  left_on F h notices most before led.Over new w g are = behind_notices h notices _ new _ are (left_still F (h ++ notices) g.entries new (wide F h notices w) (waited_still most (h ++ notices) before g.entries _ _ g.waited) g.stands) w
   left_on F h notices most before led.NetFault new w g are = left_still F h notices new w (notices_still notices are) g.2
-  left_on F h notices most before led.NoMemory new w g are = behind_notices h notices _ new _ are (left_still F (h ++ notices) g.entries new (wide F h notices w) (may_still most (h ++ notices) before g.entries g.may) g.stands) w
+  left_on F h notices most before led.NoMemory new w g are = behind_notices h notices _ new _ are (left_still F (h ++ notices) g.entries new (wide F h notices w) (may_still most (h ++ notices) before g.entries _ g.may) g.stands) w
   left_on F h notices most before led.Stopped new w g are = absurd g
   left_on F h notices most before led.Broken new w g are = absurd g
   left_on F h notices most before led.VolumeFault new w g are = absurd g

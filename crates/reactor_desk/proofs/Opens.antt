@@ -3,7 +3,7 @@ use Rattle.std.proofs.Common.{ℕ, ◌+◌, ◌≡◌, ◌==◌, ⊎_elim, Bool,
 use Rattle.std.proofs.lemmas.Bool.{false≢true, and_parts, eqb-true, cases_Bool}
 use Rattle.std.proofs.lemmas.List.{append_assoc}
 use Rattle.std.specs.List.{list_all}
-use Rattle.ev_base.specs.Net.{NetFacts}
+use Rattle.ev_base.specs.Net.{NetFacts, Reserves}
 use Rattle.ev_base.specs.declared.net.Report.{Report}
 use Rattle.leader_token.specs.Lists.{times}
 use Rattle.reactor_journal.specs.declared.entry.Entry.{Entry}
@@ -111,8 +111,8 @@ readies_still : (N : Type 0) (reports : List Report) → list_all {X = Entry N} 
 readies_still N [] = refl
 readies_still N (r ∷ reports) = readies_still N reports
 
-pub waited_still : {E N : Type 0} (most : Option ℕ) (h : List (Entry N)) (before : NetFacts E) (es : List (Entry N)) (P : PolledName → Type 0) → WaitedFor most h before es P → list_all is_still es ≡ true
-waited_still {N = N} most h before es P w = ap (list_all is_still) w.waits.are ∙ dues_still N w.waits.timers (map ready_of (filter (is_taken (summary (past_of h))) w.now.reports)) (readies_still N (filter (is_taken (summary (past_of h))) w.now.reports))
+pub waited_still : {E N : Type 0} (most : Option ℕ) (h : List (Entry N)) (before : NetFacts E) (es : List (Entry N)) (left : NetFacts E) (P : PolledName → Type 0) → WaitedFor most h before es left P → list_all is_still es ≡ true
+waited_still {N = N} most h before es left P w = ap (list_all is_still) w.waits.are ∙ dues_still N w.waits.timers (map ready_of (filter (is_taken (summary (past_of h))) w.now.reports)) (readies_still N (filter (is_taken (summary (past_of h))) w.now.reports))
 
-pub may_still : {E N : Type 0} (most : Option ℕ) (h : List (Entry N)) (before : NetFacts E) (es : List (Entry N)) → MayHaveWaited most h before es → list_all is_still es ≡ true
-may_still most h before es may = ⊎_elim (λ n. ap (list_all is_still) n) (λ w. waited_still most h before es (λ p. Unit {0}) w) may
+pub may_still : {E N : Type 0} (most : Option ℕ) (h : List (Entry N)) (before : NetFacts E) (es : List (Entry N)) (left : NetFacts E) → MayHaveWaited most h before es left → list_all is_still es ≡ true
+may_still {E} {N} most h before es left may = ⊎_elim (λ (n : (es ≡ []) × Reserves before left). ap (list_all is_still) n.0) (λ w. waited_still most h before es left (λ p. Unit {0}) w) may

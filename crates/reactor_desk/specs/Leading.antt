@@ -2,7 +2,7 @@
 use Rattle.std.specs.Prelude.{ℕ, ◌≡◌, ◌⊎◌, ◌≤◌, ◌+◌, true, false, List, [], ◌∷◌, ◌++◌, length, drop, map, filter, Option, Some, None, IsTrue}
 use Rattle.std.specs.List.{list_all}
 use Rattle.ev_base.specs.Counts.{Rose}
-use Rattle.ev_base.specs.Net.{NetFacts, NetWaits, Reserves}
+use Rattle.ev_base.specs.Net.{NetFacts, NetWaits, Reserves, FailsToWait}
 use Rattle.ev_base.specs.declared.net.Waited.{Waited}
 use Rattle.reactor_journal.specs.declared.entry.Entry.{Entry}
 use Rattle.reactor_journal.specs.declared.entry.Entry.TheVariants as entry
@@ -40,13 +40,20 @@ pub record Waits {E N : Type 0} (most : Option ℕ) (h : List (Entry N)) (before
   pub due : AreDue (after (summary (past_of h)) (entry.Polled moment)) timers
   pub are : entries ≡ entry.Polled moment ∷ (map due_of timers ++ map ready_of (filter (is_taken (summary (past_of h))) now.reports))
 
--- No event could be started, so there was a wait, which found this.
-pub record WaitedFor {E N : Type 0} (most : Option ℕ) (h : List (Entry N)) (before : NetFacts E) (entries : List (Entry N)) (P : Polled → Type 0) : Type 0 where
+-- No event could be started, so there was one wait, which found this. It left the net as it is left, but for more places.
+pub record WaitedFor {E N : Type 0} (most : Option ℕ) (h : List (Entry N)) (before : NetFacts E) (entries : List (Entry N)) (left : NetFacts E) (P : Polled → Type 0) : Type 0 where
   pub none : HasNoPick (past_of h)
   pub polled : Polled
   pub now : NetFacts E
   pub waits : Waits most h before polled entries now
+  pub stays : Reserves now left
   pub found : P polled
+
+-- One wait of the net was made, which failed.
+pub record WaitFails {E : Type 0} (before left : NetFacts E) : Type 0 where
+  pub net : NetFacts E
+  pub reserves : Reserves before net
+  pub fails : FailsToWait net left
 
 -- the wait found that nothing can be reported any more, or something else
 abbrev pub IsOver : Polled → Type 0
@@ -60,13 +67,13 @@ IsNotOver polled.Events = Unit {0}
 IsNotOver polled.Quiet = Unit {0}
 
 -- the entries of a wait, where there was one: exactly where no event could be started before
-abbrev pub MayHaveWaited : {E N : Type 0} → Option ℕ → List (Entry N) → NetFacts E → List (Entry N) → Type 0
-MayHaveWaited {N = N} most h before entries = (entries ≡ []) ⊎ WaitedFor most h before entries (λ polled. Unit {0})
+abbrev pub MayHaveWaited : {E N : Type 0} → Option ℕ → List (Entry N) → NetFacts E → List (Entry N) → NetFacts E → Type 0
+MayHaveWaited most h before entries left = ((entries ≡ []) × Reserves before left) ⊎ WaitedFor most h before entries left (λ polled. Unit {0})
 
 -- The event of the job is the next of the history, or of the history with the entries of one wait, where it had none.
 pub record Dispatches {H M Q W V N E : Type 0} (m : Meaning H M Q W V N E) (q : DeskTerms) (F : ℕ) (h : List (Entry N)) (most : Option ℕ) (before : NetFacts E) (job : Job H N E) (new : Desk H M Q W V N E) : Type 0 where
   pub waited : List (Entry N)
-  pub may : MayHaveWaited most h before waited
+  pub may : MayHaveWaited most h before waited (m.facts (net_of (core_of new)))
   pub pick : IsTrue (is_pick (past_of (h ++ waited)) (job_event job))
   pub fits : JobFits m.means q.run (entry.Started (job_event job) ∷ past_of (h ++ waited)) job
   pub stands : DeskStands m q F new ((h ++ waited) ++ entry.Started (job_event job) ∷ [])
@@ -74,14 +81,14 @@ pub record Dispatches {H M Q W V N E : Type 0} (m : Meaning H M Q W V N E) (q : 
 -- After a wait no event could be started.
 pub record Idles {H M Q W V N E : Type 0} (m : Meaning H M Q W V N E) (q : DeskTerms) (F : ℕ) (h : List (Entry N)) (most : Option ℕ) (before : NetFacts E) (P : Polled → Type 0) (new : Desk H M Q W V N E) : Type 0 where
   pub entries : List (Entry N)
-  pub waited : WaitedFor most h before entries P
+  pub waited : WaitedFor most h before entries (m.facts (net_of (core_of new))) P
   pub none : HasNoPick (past_of (h ++ entries))
   pub stands : DeskStands m q F new (h ++ entries)
 
 -- what is left where there was no memory: what was recorded
 pub record Leaves {H M Q W V N E : Type 0} (m : Meaning H M Q W V N E) (q : DeskTerms) (F : ℕ) (h : List (Entry N)) (most : Option ℕ) (before : NetFacts E) (new : Desk H M Q W V N E) : Type 0 where
   pub entries : List (Entry N)
-  pub may : MayHaveWaited most h before entries
+  pub may : MayHaveWaited most h before entries (m.facts (net_of (core_of new)))
   pub stands : DeskStands m q F new (h ++ entries)
 
 -- the desk stands, but that its drainer may have looked only once more than there were starts
@@ -112,7 +119,7 @@ abbrev pub DispatchGives : {H M Q W V N E : Type 0} → Meaning H M Q W V N E �
 DispatchGives m q F h most before (led.Job job) new = Dispatches m q F h most before job new
 DispatchGives m q F h most before led.Quiet new = Idles m q F h most before IsNotOver new
 DispatchGives m q F h most before led.Over new = Idles m q F h most before IsOver new
-DispatchGives m q F h most before led.NetFault new = HasNoPick (past_of h) × Rose before.failed_waits (m.facts (net_of (core_of new))).failed_waits × DeskStands m q F new h
+DispatchGives m q F h most before led.NetFault new = HasNoPick (past_of h) × WaitFails before (m.facts (net_of (core_of new))) × DeskStands m q F new h
 DispatchGives m q F h most before led.NoMemory new = Leaves m q F h most before new
 DispatchGives m q F h most before led.Stopped new = ⊥
 DispatchGives m q F h most before led.Broken new = ⊥
@@ -148,11 +155,12 @@ LeadGives m q F h most old led.VolumeFault new = MayLead m h old × DeskStands m
 LeadGives m q F h most old led new = MayLead m h old × LeadsOn m q F h most old led new
 
 -- What a lead tells by the counts of the desk: with a fault that of its cause rose in this call, or for the watch above what the terms
--- had at the start; and with Over the last wait that was answered so is the last of all.
+-- had at the start; with Over the last wait that was answered so is the last of all, and with Quiet it is that of before this call.
 abbrev pub LeadTells : {H M Q W V N E : Type 0} → Meaning H M Q W V N E → Desk H M Q W V N E → Led H N E → Desk H M Q W V N E → Type 0
 LeadTells m old led.NetFault new = Rose (m.facts (net_of (core_of old))).failed_waits (m.facts (net_of (core_of new))).failed_waits
 LeadTells m old led.VolumeFault new = Rose (m.volumes (volumes_of (core_of old))).faults (m.volumes (volumes_of (core_of new))).faults
 LeadTells m old led.Broken new = FromDesk m new (λ q F h. (before : ℕ) → q.run.output_faults ≡ Some before → Rose before (m.faults (watch_of (core_of new))))
+LeadTells m old led.Quiet new = over_of (core_of new) ≡ over_of (core_of old)
 LeadTells m old led.Over new = FromDesk m new (λ q F h. over_of (core_of new) ≡ count is_polled (past_of h))
 LeadTells m old _ new = Unit {0}
 

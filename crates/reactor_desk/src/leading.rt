@@ -3,7 +3,6 @@ ghost use Rattle.std.specs.Prelude.{◌≡◌};
 ghost use Rattle.ev_base.specs.Net.{Reserves};
 ghost use Rattle.notify_ring.specs.Words.{drainer_ring, id_of};
 ghost use Rattle.reactor_core.specs.Polling.{FitsLimit};
-ghost use Rattle.reactor_core.specs.Rest.{LeavesRest};
 ghost use Rattle.reactor_core.specs.Views.{net_of};
 ghost use Rattle.reactor_desk.specs.Desks.{DeskWith, FromDesk, KeepsMarks, core_of, drainer_of};
 ghost use Rattle.reactor_desk.specs.Draining.{IsRunning, Drains, DrainsOne, HasLooked, LeavesDrained};
@@ -113,7 +112,7 @@ impl<
         ensures gives { FromStart ⟦<Self as Means>⟧.m self.old (λ q F h.
             GivesBehind ⟦<Self as Means>⟧.m q F h polled result self.new) }
         ensures drainer { drainer_of self.new ≡ drainer_of self.old }
-        ensures rest { LeavesRest ⟦<Self as Means>⟧.m (core_of self.old) (core_of self.new) }
+        ensures rest { LeavesDrained ⟦<Self as Means>⟧.m self.old self.new }
     {
         match self.core.start() {
             Ok(Some(job)) => Led::Job(job),

@@ -1,4 +1,5 @@
 use Rattle.std.proofs.Common.{sym, ap, ◌∙◌, ◌++◌}
+use Rattle.reactor_core.specs.declared.marks.WaitMarks.{WaitMarks}
 use Rattle.reactor_desk.proofs.Dispatched.{handed_over, lead_gives, leads_nowhere, leads_drained, leads_on, tells_of}
 use Rattle.reactor_desk.proofs.Marks.{core_hands_same, core_hands_none, core_rests, core_then, core_keeps, desk_keeps}
 use Rattle.reactor_desk.proofs.Notices.{notices_ended}
@@ -9,7 +10,7 @@ returns-in-Err-Failed-clause-marks g c = desk_keeps _ _ _ (core_hands_none _ c.i
 
 pub returns-in-Err-NoMemory-clause-gives : goal.returns-in-Err-NoMemory-clause-gives
 returns-in-Err-NoMemory-clause-gives g c q F h o fits =
-    (record { running = sym (c.is_ended.ensures q.run F h o.core) ∙ c.if-is_ended.false; whole = sym c.is_broken.ensures.told ∙ c.if-is_broken.false }, leads_nowhere _ q F h c.args.most_ms c.args.self.now _ o (c.in-Err-NoMemory.ensures.err q.run F h o.core))
+    (record { running = sym (c.is_ended.ensures q.run F h o.core) ∙ c.if-is_ended.false; whole = sym c.is_broken.ensures.told ∙ c.if-is_broken.false }, leads_nowhere _ q F h c.args.most_ms c.args.self.now _ o c.in-Err-NoMemory.ensures.same.others.net (c.in-Err-NoMemory.ensures.err q.run F h o.core))
 
 pub returns-in-Err-NoMemory-clause-marks : goal.returns-in-Err-NoMemory-clause-marks
 returns-in-Err-NoMemory-clause-marks g c = desk_keeps _ _ _ (core_hands_none _ c.in-Err-NoMemory.field-0 _ _ c.in-Err-NoMemory.ensures.same.others c.in-Err-NoMemory.ensures.cause)
@@ -55,7 +56,7 @@ returns-clause-tells g c =
     let o = c.requires.stands in
     let hands = c.in-Ok.ensures.ok o.0.run o.1 o.2 o.3.core in
     tells_of _ c.dispatch.result c.args.self.now c.drain.new.self c.dispatch.new.self (c.drain.ensures.rest.rest.wait_faults ∙ ap (λ n. (g.M.Net.facts n).failed_waits) hands.others.net)
-    (ap (λ v. (g.V.Volumes.facts v).faults) c.drain.ensures.rest.rest.volumes ∙ hands.faults) c.dispatch.ensures.tells
+    (ap (λ v. (g.V.Volumes.facts v).faults) c.drain.ensures.rest.rest.volumes ∙ hands.faults) (ap (λ (k : WaitMarks). k.over) (c.drain.ensures.rest.rest.marks ∙ hands.others.marks)) c.dispatch.ensures.tells
 
 pub returns-clause-marks : goal.returns-clause-marks
 returns-clause-marks g c =

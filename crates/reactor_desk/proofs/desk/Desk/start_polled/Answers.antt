@@ -14,3 +14,18 @@ returns-in-Events-clause-gives g c q F h o = behind_quiet _ q F h c.args.self.no
 
 pub returns-in-Quiet-clause-gives : goal.returns-in-Quiet-clause-gives
 returns-in-Quiet-clause-gives g c q F h o = behind_quiet _ q F h c.args.self.now _ c.args.polled _ (subst IsNotOver (sym c.in-Quiet.is) tt) c.in-Ok-None.field-0-is o (c.in-Ok-None.ensures.ok q.run F h o.stands.core)
+
+pub returns-in-Ok-Some-clause-rest : goal.returns-in-Ok-Some-clause-rest
+returns-in-Ok-Some-clause-rest g c = record { net = c.start.ensures.net; rest = c.start.ensures.rest }
+
+pub returns-in-Over-clause-rest : goal.returns-in-Over-clause-rest
+returns-in-Over-clause-rest g c = record { net = c.start.ensures.net; rest = c.start.ensures.rest }
+
+pub returns-in-Events-clause-rest : goal.returns-in-Events-clause-rest
+returns-in-Events-clause-rest g c = record { net = c.start.ensures.net; rest = c.start.ensures.rest }
+
+pub returns-in-Quiet-clause-rest : goal.returns-in-Quiet-clause-rest
+returns-in-Quiet-clause-rest g c = record { net = c.start.ensures.net; rest = c.start.ensures.rest }
+
+pub returns-in-Err-clause-rest : goal.returns-in-Err-clause-rest
+returns-in-Err-clause-rest g c = record { net = c.start.ensures.net; rest = c.start.ensures.rest }
