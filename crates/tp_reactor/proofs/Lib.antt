@@ -3,3 +3,5 @@ pub mod Settling
 pub mod Belongs
 pub mod Sharing
 pub mod Lives
+pub mod Marked
+pub mod Requests

@@ -2,3 +2,4 @@ pub mod Words
 pub mod Led
 pub mod Settled
 pub mod Ends
+pub mod Asked

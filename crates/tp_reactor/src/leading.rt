@@ -10,7 +10,7 @@ ghost use Rattle.reactor_core.specs.Polling.{FitsLimit};
 ghost use Rattle.reactor_core.specs.Upcalls.{DoneFits};
 ghost use Rattle.reactor_core.specs.Views.{done_event};
 ghost use Rattle.reactor_desk.specs.Desks.{DeskStands, marks_of};
-ghost use Rattle.tp_reactor.specs.Led.{IsLed};
+ghost use Rattle.tp_reactor.specs.Led.{IsLed, MarksTell};
 ghost use Rattle.tp_reactor.specs.Settled.{HasSettled};
 ghost use Rattle.tp_reactor.specs.Words.{posted_of, known_by, poster_of, IsOf};
 
@@ -52,6 +52,7 @@ impl<
         requires limit { FitsLimit (known_by worker.old).terms.run most_ms }
         ensures of { IsOf worker.new self.now }
         ensures led { IsLed ⟦<Self as Means>⟧.m (known_by worker.old) most_ms result (known_by worker.new) }
+        ensures tells { MarksTell (known_by worker.old) result (known_by worker.new) }
         ensures poster { poster_of worker.new ≡ poster_of worker.old }
     {
         let gate = self.gate.lock(rt);

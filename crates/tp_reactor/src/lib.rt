@@ -1,6 +1,7 @@
 //! A reactor that several threads call (POSA2, Leader/Followers; ACE's `ACE_TP_Reactor`).
 #![tactic(auto)]
 
+mod asking;
 mod crew;
 mod leading;
 mod reactor;
