@@ -5,3 +5,4 @@ pub mod Sharing
 pub mod Lives
 pub mod Marked
 pub mod Requests
+pub mod Rounds

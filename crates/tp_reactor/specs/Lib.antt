@@ -3,3 +3,4 @@ pub mod Led
 pub mod Settled
 pub mod Ends
 pub mod Asked
+pub mod Working

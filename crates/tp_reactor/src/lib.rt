@@ -6,5 +6,7 @@ mod crew;
 mod leading;
 mod reactor;
 mod start;
+mod working;
 
 pub use reactor::{Reactor, Worker};
+pub use working::Ran;
