@@ -1,4 +1,5 @@
-use Rattle.std.proofs.Common.{sym, ap, ◌∙◌, ◌++◌, Err}
+use Rattle.ev_base.specs.Counts.{Rose}
+use Rattle.std.proofs.Common.{sym, ap, ◌∙◌, ◌++◌, Err, refl, subst}
 use Rattle.std.proofs.lemmas.Bool.{false≢true}
 use Rattle.reactor_core.specs.declared.marks.WaitMarks.{WaitMarks}
 use Rattle.reactor_desk.proofs.Dispatched.{gives_job, gives_nothing, gives_fault, gives_after, brought, none_started, tells_behind, unwaited}
@@ -66,3 +67,33 @@ returns-in-Err-NoMemory-clause-gives g c q F h o looked running fits =
 
 pub returns-in-Err-NoMemory-clause-marks : goal.returns-in-Err-NoMemory-clause-marks
 returns-in-Err-NoMemory-clause-marks g c = desk_keeps _ _ _ (core_then _ _ _ _ (core_rests _ _ _ c.start.ensures.rest) (core_waits _ _ _ c.poll.ensures.counts c.poll.ensures.over c.poll.ensures.volumes))
+
+pub start-requires : goal.start-requires
+start-requires g c = let o = c.requires in record { stands = (o.0.run, o.1, o.2, o.3.core) }
+
+pub returns-in-Ok-Some-clause-tells : goal.returns-in-Ok-Some-clause-tells
+returns-in-Ok-Some-clause-tells g c = tt
+
+pub returns-in-Err-clause-tells : goal.returns-in-Err-clause-tells
+returns-in-Err-clause-tells g c = tt
+
+pub returns-in-Err-NoMemory-clause-tells : goal.returns-in-Err-NoMemory-clause-tells
+returns-in-Err-NoMemory-clause-tells g c = tt
+
+pub returns-in-Err-NetFailed-clause-tells : goal.returns-in-Err-NetFailed-clause-tells
+returns-in-Err-NetFailed-clause-tells g c = subst (λ n. Rose n (g.M.Net.facts c.poll.new.self.net).failed_waits) c.start.ensures.rest.wait_faults (c.in-Err-NetFailed.ensures.failed (ap Err c.in-Err-NetFailed.field-0-is))
+
+pub returns-in-Ok-Some-clause-drainer : goal.returns-in-Ok-Some-clause-drainer
+returns-in-Ok-Some-clause-drainer g c = refl
+
+pub returns-in-Err-clause-drainer : goal.returns-in-Err-clause-drainer
+returns-in-Err-clause-drainer g c = refl
+
+pub returns-in-Err-NetFailed-clause-drainer : goal.returns-in-Err-NetFailed-clause-drainer
+returns-in-Err-NetFailed-clause-drainer g c = refl
+
+pub returns-in-Err-NoMemory-clause-drainer : goal.returns-in-Err-NoMemory-clause-drainer
+returns-in-Err-NoMemory-clause-drainer g c = refl
+
+pub returns-in-Ok-clause-drainer : goal.returns-in-Ok-clause-drainer
+returns-in-Ok-clause-drainer g c = c.start_polled.ensures.drainer

@@ -1,7 +1,7 @@
-use Rattle.std.proofs.Common.{sym, ap, ◌∙◌, ◌++◌}
+use Rattle.std.proofs.Common.{sym, ap, ◌∙◌, ◌++◌, refl}
 use Rattle.reactor_core.specs.declared.marks.WaitMarks.{WaitMarks}
-use Rattle.reactor_desk.proofs.Dispatched.{handed_over, lead_gives, leads_nowhere, leads_drained, leads_on, tells_of}
-use Rattle.reactor_desk.proofs.Marks.{core_hands_same, core_hands_none, core_rests, core_then, core_keeps, desk_keeps}
+use Rattle.reactor_desk.proofs.Dispatched.{handed_over, lead_gives, leads_nowhere, leads_drained, leads_on, tells_of, desk_same}
+use Rattle.reactor_desk.proofs.Marks.{core_hands_same, core_hands_none, core_rests, core_then, core_keeps, desk_keeps, core_same}
 use Rattle.reactor_desk.proofs.Notices.{notices_ended}
 use Rattle.reactor_desk.proofs.desk.Desk.lead.Goals as goal
 
@@ -63,3 +63,36 @@ returns-clause-marks g c =
     let o = c.requires.stands in
     let hands = c.in-Ok.ensures.ok o.0.run o.1 o.2 o.3.core in
     desk_keeps _ _ _ (core_then _ _ _ _ (core_hands_same _ c.args.self.now.core c.hand_over.new.self hands.others hands.faults) (core_then _ _ _ _ (core_rests _ _ _ c.drain.ensures.rest.rest) (core_keeps _ _ _ c.dispatch.ensures.marks)))
+
+pub hand_over-requires : goal.hand_over-requires
+hand_over-requires g c = let o = c.requires.stands in (o.0.run, o.1, o.2, o.3.core)
+
+pub drain-requires-clause-ring : goal.drain-requires-clause-ring
+drain-requires-clause-ring g c = c.requires.ring
+
+pub returns-then-is_ended-clause-gives : goal.returns-then-is_ended-clause-gives
+returns-then-is_ended-clause-gives g c q F h o fits = (sym (c.is_ended.ensures q.run F h o.core) ∙ c.if-is_ended.true, refl)
+
+pub returns-then-is_ended-clause-tells : goal.returns-then-is_ended-clause-tells
+returns-then-is_ended-clause-tells g c = tt
+
+pub returns-then-is_ended-clause-marks : goal.returns-then-is_ended-clause-marks
+returns-then-is_ended-clause-marks g c = desk_keeps _ _ _ (core_same _ _)
+
+pub returns-then-is_broken-clause-gives : goal.returns-then-is_broken-clause-gives
+returns-then-is_broken-clause-gives g c q F h o fits = (sym (c.is_ended.ensures q.run F h o.core) ∙ c.if-is_ended.false, sym c.is_broken.ensures.told ∙ c.if-is_broken.true, refl)
+
+pub returns-then-is_broken-clause-tells : goal.returns-then-is_broken-clause-tells
+returns-then-is_broken-clause-tells g c = λ q F h o before named. c.is_broken.ensures.rose q.run F h o.core before c.if-is_broken.true named
+
+pub returns-then-is_broken-clause-marks : goal.returns-then-is_broken-clause-marks
+returns-then-is_broken-clause-marks g c = desk_keeps _ _ _ (core_same _ _)
+
+pub returns-in-Err-Failed-clause-gives : goal.returns-in-Err-Failed-clause-gives
+returns-in-Err-Failed-clause-gives g c q F h o fits = (record { running = sym (c.is_ended.ensures q.run F h o.core) ∙ c.if-is_ended.false; whole = sym c.is_broken.ensures.told ∙ c.if-is_broken.false }, desk_same _ q F h c.args.self.now _ F o (c.in-Err-Failed.ensures.err q.run F h o.core))
+
+pub returns-in-Err-NoMemory-clause-tells : goal.returns-in-Err-NoMemory-clause-tells
+returns-in-Err-NoMemory-clause-tells g c = tt
+
+pub returns-in-Err-clause-tells : goal.returns-in-Err-clause-tells
+returns-in-Err-clause-tells g c = tt

@@ -14,3 +14,12 @@ returns-clause-err g c = on_err_weaker c.schedule.result (as_before _ c.args.sel
 
 pub returns-clause-marks : goal.returns-clause-marks
 returns-clause-marks g c = desk_keeps _ _ _ (core_rests _ _ _ c.schedule.ensures.rest)
+
+pub schedule-requires-clause-stands : goal.schedule-requires-clause-stands
+schedule-requires-clause-stands g c = let o = c.requires.stands in (o.0.run, o.1, o.2, o.3.core)
+
+pub returns-clause-refused : goal.returns-clause-refused
+returns-clause-refused g c = c.schedule.ensures.refused
+
+pub returns-clause-cause : goal.returns-clause-cause
+returns-clause-cause g c q F h o = c.schedule.ensures.cause q.run F h o.core

@@ -7,3 +7,6 @@ returns-clause-stops g c q F h o may = stops _ c.args.self.now c.stop.new.self q
 
 pub returns-clause-marks : goal.returns-clause-marks
 returns-clause-marks g c = desk_keeps _ _ _ (core_rests _ _ _ c.stop.ensures.rest)
+
+pub stop-requires : goal.stop-requires
+stop-requires g c = let o = c.requires in (o.0.run, o.1, o.2, o.3.core)
