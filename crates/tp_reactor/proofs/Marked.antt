@@ -1,11 +1,10 @@
 -- What a lead tells by the marks of its caller.
-use Rattle.std.proofs.Common.{ℕ, ◌≡◌, ◌≤◌, ◌+◌, ◌^◌, ◌-◌, min, List, Option, Some, sym, ap, ◌∙◌, subst, arith}
+use Rattle.std.proofs.Common.{ℕ, ◌≡◌, ◌≤◌, Option, sym, subst, arith}
 use Rattle.ev_base.specs.Counts.{Rose}
-use Rattle.leader_token.specs.Passes.{put_view}
 use Rattle.leader_token.specs.declared.kept.View.{View}
 use Rattle.reactor_journal.specs.declared.entry.Entry.{Entry}
 use Rattle.reactor_core.specs.Stands.{Meaning}
-use Rattle.reactor_desk.specs.Desks.{capped, marks_of}
+use Rattle.reactor_desk.specs.Desks.{capped}
 use Rattle.reactor_desk.specs.declared.terms.DeskTerms.{DeskTerms}
 use Rattle.reactor_desk.specs.declared.leading.Led.{Led}
 use Rattle.reactor_desk.specs.declared.leading.Led.TheVariants as led

@@ -1,5 +1,5 @@
 -- A request under the token.
-use Rattle.std.proofs.Common.{ℕ, ◌≡◌, ◌≤◌, ◌+◌, ◌↔◌, Bool, true, false, ◌&&◌, List, [], ◌∷◌, ◌++◌, length, refl, sym, ap, ◌∙◌, subst, arith, append-nil, Option, Some, None, Result, Ok, Err, IfOk, OnOk, OnErr, IsErr}
+use Rattle.std.proofs.Common.{ℕ, ◌≡◌, ◌+◌, ◌↔◌, Bool, true, false, List, [], ◌∷◌, ◌++◌, refl, sym, ap, ◌∙◌, subst, append-nil, Option, Some, None, Result, Ok, Err, IfOk, OnOk, OnErr, IsErr}
 use Rattle.std.proofs.lemmas.List.{append_assoc}
 use Rattle.ev_types.specs.declared.upcall.Handle.{Handle}
 use Rattle.ev_types.specs.declared.upcall.Mask.{Mask}
@@ -14,7 +14,6 @@ use Rattle.reactor_journal.specs.declared.entry.Entry.{Entry}
 use Rattle.reactor_journal.specs.declared.entry.Entry.TheVariants.{Removed}
 use Rattle.reactor_journal.specs.Past.{past_of, offered_here}
 use Rattle.reactor_summary.specs.Summary.{Summary, summary, is_alive}
-use Rattle.reactor_turns.specs.Opens.{opens_of}
 use Rattle.reactor_core.specs.Acting.{StopAppends}
 use Rattle.reactor_core.specs.Refusals.{LeavesOffer}
 use Rattle.reactor_core.specs.Registering.{IsOffered, registered}
@@ -28,7 +27,7 @@ use Rattle.reactor_desk.specs.Desks.{DeskStands, KeepsMarks, core_of}
 use Rattle.reactor_desk.specs.declared.terms.DeskTerms.{DeskTerms}
 use Rattle.reactor_desk.specs.declared.desk.Desk.{Desk}
 use Rattle.reactor_desk.proofs.Opens.{is_still, opens_still}
-use Rattle.tp_reactor.specs.Asked.{HasAsked, Asks, entries_asked, IsOfferedAnywhere, Registers, RemovesHandle, StopsReactor}
+use Rattle.tp_reactor.specs.Asked.{HasAsked, Asks, IsOfferedAnywhere, Registers, RemovesHandle, StopsReactor}
 use Rattle.tp_reactor.proofs.Turns.{Got, Put, May, Holds, finds, leaves, may_put}
 
 module _ {H M Q W V N E : Type 0} (m : Meaning H M Q W V N E) (v mid : View (Entry N) DeskTerms) (found left : Desk H M Q W V N E) (got : Got m v found mid) where

@@ -1,5 +1,5 @@
 -- The rounds of a worker.
-use Rattle.std.proofs.Common.{ℕ, zero, suc, ◌≡◌, ◌≤◌, ◌⊎◌, inl, inr, Bool, List, ◌∷◌, ◌++◌, [], refl, sym, ap, ◌∙◌, subst, Option, Some, None}
+use Rattle.std.proofs.Common.{ℕ, suc, ◌≡◌, inr, ◌++◌, refl, sym, ap, ◌∙◌, subst, Option, Some, None}
 use Rattle.leader_token.specs.declared.kept.View.{View}
 use Rattle.notify_ring.specs.declared.view.View.{View as RingView}
 use Rattle.ev_types.specs.declared.upcall.Handle.{Handle}
@@ -19,7 +19,7 @@ use Rattle.reactor_desk.specs.declared.leading.Led.{Led}
 use Rattle.reactor_desk.specs.declared.leading.Led.TheVariants as led
 use Rattle.tp_reactor.specs.Led.{IsLed}
 use Rattle.tp_reactor.specs.Words.{SameKin}
-use Rattle.tp_reactor.specs.Working.{MayPost, Round, Rounds, EndsRun, Runs, ran_of}
+use Rattle.tp_reactor.specs.Working.{MayPost, Round, Rounds, EndsRun, Runs}
 use Rattle.tp_reactor.specs.declared.working.Ran.{Ran}
 
 pub kin_then : {N : Type 0} (v w x : View (Entry N) DeskTerms) → SameKin v w → SameKin w x → SameKin v x

@@ -1,18 +1,15 @@
 -- The core that a shared reactor gives back.
-use Rattle.std.proofs.Common.{ℕ, ◌≡◌, ◌≤◌, List, [], ◌∷◌, ◌++◌, length, drop, filter, refl, sym, ap, ◌∙◌, subst, arith, Option, Some, append-nil}
+use Rattle.std.proofs.Common.{ℕ, ◌≡◌, List, sym, ap, ◌∙◌, subst}
 use Rattle.ev_base.specs.Terms.{Terms}
 use Rattle.notify_ring.specs.Passes.{new_drainer, IsMerged}
-use Rattle.notify_ring.specs.Words.{drainer_ring, drainer_view}
+use Rattle.notify_ring.specs.Words.{drainer_view}
 use Rattle.notify_ring.specs.declared.parts.Drainer.{Drainer}
 use Rattle.notify_ring.specs.declared.view.View.{View}
 use Rattle.reactor_journal.specs.declared.entry.Entry.{Entry}
-use Rattle.reactor_journal.specs.Past.{past_of, count}
-use Rattle.reactor_core.specs.Marks.{is_polled}
 use Rattle.reactor_core.specs.Stands.{Meaning, Stands}
 use Rattle.reactor_core.specs.declared.reactor.Core.{Core}
 use Rattle.reactor_desk.specs.Begins.{CanShare, desk_terms}
 use Rattle.reactor_desk.specs.Desks.{DeskStands, marks_of, core_marks}
-use Rattle.reactor_desk.specs.Notices.{is_notice, AreRecorded}
 use Rattle.reactor_desk.specs.declared.terms.DeskTerms.{DeskTerms}
 use Rattle.reactor_desk.specs.declared.desk.Desk.{Desk}
 use Rattle.leader_token.specs.Lists.{NoneAbove}

@@ -1,5 +1,5 @@
 -- One hold of the token: what was found, and what is put back.
-use Rattle.std.proofs.Common.{ℕ, ◌≡◌, ◌≤◌, ◌+◌, Bool, true, List, ◌++◌, length, refl, sym, ap, ◌∙◌, subst, arith, Option, Some, None}
+use Rattle.std.proofs.Common.{ℕ, ◌≡◌, ◌≤◌, ◌+◌, List, length, sym, ap, ◌∙◌, subst, arith, Option, None}
 use Rattle.leader_token.specs.Lists.{times, is_event, Begins, NoneAbove}
 use Rattle.leader_token.specs.Passes.{IsGot, MayPut, IsPut, put_view}
 use Rattle.leader_token.specs.declared.kept.Found.{Found}

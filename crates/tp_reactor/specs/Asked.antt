@@ -14,7 +14,6 @@ use Rattle.reactor_core.specs.Acting.{StopAppends}
 use Rattle.reactor_core.specs.Offering.{RegisterGives}
 use Rattle.reactor_core.specs.Refusals.{LeavesOffer}
 use Rattle.reactor_core.specs.Registering.{registered}
-use Rattle.reactor_core.specs.Removing.{AreRemovals}
 use Rattle.reactor_core.specs.Settling.{IsClosing}
 use Rattle.reactor_core.specs.Stands.{Meaning}
 use Rattle.reactor_core.specs.declared.reactor.Core.{Core}

@@ -1,5 +1,5 @@
 -- The beginning and the end of a shared reactor.
-use Rattle.std.specs.Prelude.{ℕ, ◌≡◌, true, false, List, [], length, filter, Option, Some, None}
+use Rattle.std.specs.Prelude.{ℕ, ◌≡◌, true, false, List, [], length, filter, Some, None}
 use Rattle.ev_base.specs.Terms.{Terms}
 use Rattle.leader_token.specs.Lists.{times, is_event, NoneAbove}
 use Rattle.leader_token.specs.declared.kept.View.{View}

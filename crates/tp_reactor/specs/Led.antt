@@ -1,5 +1,5 @@
 -- What a worker knows once it led (POSA2, Leader/Followers).
-use Rattle.std.specs.Prelude.{ℕ, ◌≡◌, Bool, true, List, Option, Some, slice_index}
+use Rattle.std.specs.Prelude.{ℕ, ◌≡◌, true, List, Option, Some, slice_index}
 use Rattle.ev_base.specs.Counts.{Rose}
 use Rattle.leader_token.specs.Lists.{times, is_event, Begins, NoneAbove}
 use Rattle.leader_token.specs.Passes.{put_view}

@@ -1,5 +1,5 @@
 -- What contracts name of a shared reactor and of a worker.
-use Rattle.std.specs.Prelude.{ℕ, ◌≡◌, ◌<◌, List, true, None}
+use Rattle.std.specs.Prelude.{◌≡◌, ◌<◌, List, true, None}
 use Rattle.leader_token.specs.Words.{id_of, token_of, view_of}
 use Rattle.leader_token.specs.declared.kept.View.{View}
 use Rattle.leader_token.specs.declared.kept.Kept.{Ghosts as Keeping}

@@ -1,5 +1,5 @@
 -- The loop of a worker: to lead, to run the job and to settle it, until a lead answers neither a job nor Quiet.
-use Rattle.std.specs.Prelude.{ℕ, zero, suc, ◌≡◌, ◌⊎◌, ◌≤◌, Bool, true, false, nat_le, if◌then◌else◌, List, Option, Some, None, Result}
+use Rattle.std.specs.Prelude.{ℕ, zero, suc, ◌≡◌, ◌⊎◌, ◌≤◌, false, nat_le, if◌then◌else◌, Option, Some, None, Result}
 use Rattle.ev_types.specs.declared.upcall.Handle.{Handle}
 use Rattle.ev_types.specs.declared.upcall.Kind.TheVariants.{Except}
 use Rattle.leader_token.specs.declared.kept.View.{View}

@@ -1,4 +1,4 @@
-use Rattle.std.proofs.Common.{◌+◌, true, false, refl, sym, ap, ◌∙◌}
+use Rattle.std.proofs.Common.{refl, sym, ap, ◌∙◌}
 use Rattle.reactor_journal.specs.declared.entry.Entry.TheVariants.{Cancelled}
 use Rattle.reactor_summary.specs.Summary.{Summary}
 use Rattle.reactor_state.specs.State.{Shows, HasPlaces, IsPlaced}

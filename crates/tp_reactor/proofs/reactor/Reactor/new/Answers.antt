@@ -1,6 +1,6 @@
-use Rattle.std.proofs.Common.{rules, refl, ◌∙◌, sym, ap, arith}
+use Rattle.std.proofs.Common.{◌∙◌, sym, ap, arith}
 use Rattle.leader_token.specs.Words.{id_of, token_of, view_of}
-use Rattle.notify_ring.specs.Words.{drainer_ring, drainer_view}
+use Rattle.notify_ring.specs.Words.{drainer_ring}
 use Rattle.tp_reactor.proofs.Lives.{over_none, over_desk, over_entries}
 use Rattle.tp_reactor.proofs.Sharing.{shared, marks_shared}
 use Rattle.tp_reactor.proofs.reactor.Reactor.new.Goals as goal

@@ -1,4 +1,4 @@
-use Rattle.std.proofs.Common.{refl, sym, ap, ◌∙◌}
+use Rattle.std.proofs.Common.{sym, ap, ◌∙◌}
 use Rattle.reactor_journal.specs.Past.{past_of, offered_here}
 use Rattle.reactor_state.specs.State.{Shows, HasPlaces, IsPlaced}
 use Rattle.reactor_core.specs.Stands.{meaning}

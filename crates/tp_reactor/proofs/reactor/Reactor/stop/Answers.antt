@@ -1,5 +1,4 @@
-use Rattle.std.proofs.Common.{refl, sym, ap, ◌∙◌}
-use Rattle.reactor_journal.specs.Past.{past_of, offered_here}
+use Rattle.std.proofs.Common.{sym, ap, ◌∙◌}
 use Rattle.reactor_state.specs.State.{Shows, HasPlaces, IsPlaced}
 use Rattle.reactor_core.specs.Stands.{meaning}
 use Rattle.tp_reactor.proofs.Belongs.{still_of}

@@ -1,4 +1,3 @@
-use Rattle.std.proofs.Common.{refl, ap, ◌∙◌}
 use Rattle.tp_reactor.proofs.Rounds.{no_rounds, round_more, runs_by, kin_then, kin_same}
 use Rattle.tp_reactor.proofs.reactor.Reactor.work.Goals as goal
 
