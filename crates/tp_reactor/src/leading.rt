@@ -1,0 +1,140 @@
+//! The calls of a worker's loop: to lead, to settle and to post.
+ghost use Rattle.std.specs.Prelude.{◌≡◌, ◌<◌, ◌^◌, length, None, Some};
+ghost use Rattle.leader_token.specs.Passes.{IsGot};
+ghost use Rattle.leader_token.specs.Words.{value_of};
+ghost use Rattle.notify_ring.specs.Passes.{HasPosted};
+ghost use Rattle.notify_ring.specs.Words.{poster_view};
+ghost use Rattle.reactor_journal.specs.Past.{past_of};
+ghost use Rattle.reactor_turns.specs.Opens.{opens_of};
+ghost use Rattle.reactor_core.specs.Polling.{FitsLimit};
+ghost use Rattle.reactor_core.specs.Upcalls.{DoneFits};
+ghost use Rattle.reactor_core.specs.Views.{done_event};
+ghost use Rattle.reactor_desk.specs.Desks.{DeskStands, marks_of};
+ghost use Rattle.tp_reactor.specs.Led.{IsLed, MarksTell};
+ghost use Rattle.tp_reactor.specs.Settled.{HasSettled};
+ghost use Rattle.tp_reactor.specs.Words.{posted_of, known_by, poster_of, IsOf};
+
+use crate::{Reactor, Worker};
+use ev_base::{Net, Wake};
+use ev_types::{Handle, Kind};
+use leader_token::Held;
+use notify_ring::Full;
+use reactor_core::{Done, Means, Settled};
+use reactor_desk::{Desk, Led};
+use reactor_model::{EventHandler, Volumes, Watch};
+use std::sync::Wait;
+use std::sync::atomic::Ordering;
+use std::thread::yield_now;
+use timer_queue::TimerQueue;
+
+/// How often a leader steps aside for calls that want the token.
+const YIELDS: u32 = 1_000;
+
+impl<
+    H: EventHandler,
+    M: Net<End = H::End>,
+    Q: TimerQueue,
+    W: Watch<H::Note>,
+    V: Volumes<H::Note>,
+    K: Wake,
+> Reactor<H, M, Q, W, V, K> {
+    /// Leads once (POSA2, Leader/Followers; ACE's `handle_events` of `ACE_TP_Reactor`): gets the token, hands a volume over where one is due,
+    /// drains the notifications, and starts the next upcall, or waits at the net and looks again. A job that it answers is to be run and settled;
+    /// meanwhile the token is free.
+    pub fn lead<R: Wait>(
+        &self,
+        rt: &R,
+        worker: &mut Worker<H, M, Q, W, V>,
+        most_ms: Option<u64>,
+    ) -> Led<H>
+        requires of { IsOf worker.old self.now }
+        requires free { ((known_by worker.old).base ≡ None) × ((known_by worker.old).mine ≡ None) }
+        requires limit { FitsLimit (known_by worker.old).terms.run most_ms }
+        ensures of { IsOf worker.new self.now }
+        ensures led { IsLed ⟦<Self as Means>⟧.m (known_by worker.old) most_ms result (known_by worker.new) }
+        ensures tells { MarksTell (known_by worker.old) result (known_by worker.new) }
+        ensures poster { poster_of worker.new ≡ poster_of worker.old }
+    {
+        let gate = self.gate.lock(rt);
+        self.step_aside();
+        let mut held = self.token.get(rt, &mut worker.pass);
+        if self.wanted.load(Ordering::SeqCst) > 0 {
+            self.waker.wake();
+        }
+        let led = held.value().lead(&self.ring, most_ms);
+        self.token.put(&mut worker.pass, held);
+        drop(gate);
+        led
+    }
+
+    // Lets calls that want the token have it before a leader does. It ends whether they got it or not.
+    fn step_aside(&self) {
+        for _ in 0..YIELDS {
+            if self.wanted.load(Ordering::SeqCst) == 0 {
+                return;
+            }
+            yield_now();
+        }
+    }
+
+    // Gets the token for a call that does not wait at the net, and ends the wait of a leader who does. A leader looks at the count when it has the
+    // token, and waits no longer where there are any; one that looked before this call was counted is woken by it. So neither is missed.
+    pub(crate) fn take<R: Wait>(
+        &self,
+        rt: &R,
+        worker: &mut Worker<H, M, Q, W, V>,
+    ) -> Held<Desk<H, M, Q, W, V>>
+        requires of { IsOf worker.old self.now }
+        requires free { (known_by worker.old).base ≡ None }
+        ensures of { IsOf worker.new self.now }
+        ensures got { IsGot (λ q first desk h. DeskStands ⟦<Self as Means>⟧.m q first desk h) opens_of (marks_of ⟦<Self as Means>⟧.m) (known_by worker.old) (value_of result) (known_by worker.new) }
+        ensures poster { poster_of worker.new ≡ poster_of worker.old }
+    {
+        self.wanted.fetch_add(1, Ordering::SeqCst);
+        self.waker.wake();
+        let held = self.token.get(rt, &mut worker.pass);
+        self.wanted.fetch_sub(1, Ordering::SeqCst);
+        held
+    }
+
+    /// Settles the worker's own upcall, which was made. Whatever entries came since it was started, it fits the journal still. It takes no memory
+    /// and cannot fail.
+    pub fn settle<R: Wait>(
+        &self,
+        rt: &R,
+        worker: &mut Worker<H, M, Q, W, V>,
+        done: Done<H>,
+    ) -> Settled
+        requires of { IsOf worker.old self.now }
+        requires free { (known_by worker.old).base ≡ None }
+        requires own { (known_by worker.old).mine ≡ Some (done_event done) }
+        requires fits { DoneFits H.means (known_by worker.old).terms.run (past_of (known_by worker.old).seen) done }
+        ensures of { IsOf worker.new self.now }
+        ensures settled { HasSettled ⟦<Self as Means>⟧.m (known_by worker.old) done result (known_by worker.new) }
+        ensures poster { poster_of worker.new ≡ poster_of worker.old }
+    {
+        let mut held = self.take(rt, worker);
+        let settled = held.value().settle(done);
+        self.token.put(&mut worker.pass, held);
+        settled
+    }
+
+    /// Posts a notification to the handler of a handle (ACE's `notify`), and wakes the leader. It neither waits nor takes memory. `Full` comes
+    /// exactly where 256 places of the ring or more were held or in flight when it looked, and then nothing is posted.
+    pub fn post(
+        &self,
+        worker: &mut Worker<H, M, Q, W, V>,
+        handle: Handle,
+        kind: Kind,
+    ) -> Result<u64, Full>
+        requires of { IsOf worker.old self.now }
+        requires room { length (posted_of worker.old) < 2 ^ 56 }
+        ensures of { IsOf worker.new self.now }
+        ensures posted { HasPosted (poster_view (poster_of worker.old)) handle kind result (poster_view (poster_of worker.new)) }
+        ensures pass { known_by worker.new ≡ known_by worker.old }
+    {
+        let posted = self.ring.post(&mut worker.poster, handle, kind);
+        self.waker.wake();
+        posted
+    }
+}
