@@ -16,8 +16,7 @@ loop-at-preserved g c =
     let end = c.min-end.result in
     let inside : at ≤ length xs = c.loop-at.invariant.0 in
     let up : at ≤ end = omega (arith, c.min-end.ensures) in
-    let few = encode_lower (take (end - at) (drop at xs)) in
-    (
+    let few = encode_lower (take (end - at) (drop at xs)) in (
       omega (arith, c.min-end.ensures),
       λ since text h.
           let all = c.put_few.ensures since _ (c.loop-at.invariant.1 since text h) in
