@@ -4,7 +4,7 @@ use Rattle.std.proofs.lemmas.List.{take-append-le}
 use Rattle.std.proofs.Math.Seq.{take-append_seam}
 use Rattle.std.proofs.lemmas.Grind.{flat_map-append}
 use Rattle.ev_base.specs.Counts.{Rose, counted}
-use Rattle.ev_base.specs.Sink.{SinkFacts, GrowsBy}
+use Rattle.ev_base.specs.Sink.{SinkFacts}
 use Rattle.ev_base.specs.Terms.{Terms}
 use Rattle.reactor_journal.specs.declared.entry.Entry.{Entry}
 use Rattle.sink_buffer.specs.Written.{IsPrefixOf, TakesAll}
@@ -13,7 +13,7 @@ use Rattle.sink_buffer.specs.declared.buffer.SinkBuffer.{SinkBuffer}
 use Rattle.sink_buffer.proofs.Texts.{grows-none, grows-twice, prefix-behind, prefix-more}
 use Rattle.log_handler.specs.declared.note.ServerNote.{ServerNote}
 use Rattle.journal_text.specs.declared.journal_sink.JournalSink.{JournalSink}
-use Rattle.journal_text.specs.Texts.{entry_line, entry_lines, most_line, journal_text}
+use Rattle.journal_text.specs.Texts.{entry_line, entry_lines, most_line}
 use Rattle.journal_text.specs.JournalSink.{PutsJournal, is_broken, text_so_far, has_begun, next_text}
 
 -- ---- the text with one more entry

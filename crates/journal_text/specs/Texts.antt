@@ -1,6 +1,6 @@
 -- The text of a journal: the line `most N`, where N is how many handlers may be live at once, and then one line for each entry, in
 -- order. Words are parted by one space, and each line ends with a line feed. The spelling is this project's own; each journal has one.
-use Rattle.std.specs.Prelude.{ℕ, Bool, true, false, if◌then◌else◌, List, [], ◌∷◌, ◌++◌, codes, decimal, flat_map, length}
+use Rattle.std.specs.Prelude.{ℕ, Bool, true, false, if◌then◌else◌, List, ◌++◌, codes, decimal, flat_map, length}
 use Rattle.std.specs.Fmt.{signed_decimal}
 use Rattle.hex.specs.Hex.{encode_lower}
 use Rattle.ev_types.specs.declared.upcall.Mask.{Mask}

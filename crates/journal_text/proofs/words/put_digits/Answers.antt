@@ -1,4 +1,4 @@
-use Rattle.std.proofs.Common.{◌≡◌, ◌≤◌, ◌++◌, ◌-◌, ◌∙◌, List, ℕ, [], arith, length, take, drop, ap, sym, subst, append-nil, append_assoc}
+use Rattle.std.proofs.Common.{◌≡◌, ◌≤◌, ◌++◌, ◌-◌, ◌∙◌, List, ℕ, arith, length, take, drop, ap, sym, subst, append-nil, append_assoc}
 use Rattle.hex.specs.Hex.{encode_lower}
 use Rattle.journal_text.proofs.Digits.{encode-none, encode-further}
 use Rattle.journal_text.proofs.words.put_digits.Goals as goal

@@ -1,0 +1,5 @@
+//! Rows of the text of journals. They show what no contract says.
+#![tactic(auto)]
+
+#[cfg(test)]
+mod written;
