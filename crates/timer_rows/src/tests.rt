@@ -1,5 +1,6 @@
 use super::*;
-use std::alloc::AllocError;
+use std::alloc::{AllocError, Global};
+use std::process::Abort;
 use std::test::Fail;
 use timer_heap::HeapTimers;
 use timer_queue::SortedTimers;
@@ -94,23 +95,40 @@ fn call_of(seed: &mut u64) -> Call {
     }
 }
 
-#[test]
-fn the_queues_answer_alike(rt: HostRuntime) -> Result<(), Fail> {
+// So many calls, each answered as plain timers answer it.
+fn answers_as_plain_timers<Q: TimerQueue>(
+    rt: &impl Abort,
+    alloc: Global,
+    queue: &mut Q,
+) -> Result<(), Fail> {
     let mut plain = PlainTimers {
-        timers: Vec::new(rt.alloc()),
+        timers: Vec::new(alloc),
     };
-    let mut sorted = SortedTimers::new(rt.alloc());
-    let mut heap = HeapTimers::new(rt.alloc());
-    let mut wheel = WheelTimers::<8>::new(rt.alloc(), 5)?;
-    let mut narrow = WheelTimers::<1>::new(rt.alloc(), 1)?;
     let mut seed = 7;
     for turn in 0..4000 {
         let call = call_of(&mut seed);
         let want = plain.reply_to(call)?;
-        assert_eq!(rt; reply_to(&mut sorted, call)?, want, "sorted, {turn}");
-        assert_eq!(rt; reply_to(&mut heap, call)?, want, "heap, {turn}");
-        assert_eq!(rt; reply_to(&mut wheel, call)?, want, "wheel, {turn}");
-        assert_eq!(rt; reply_to(&mut narrow, call)?, want, "narrow, {turn}");
+        assert_eq!(rt; reply_to(queue, call)?, want, "{turn}");
     }
     Ok(())
+}
+
+#[test]
+fn the_list_answers_as_plain_timers(rt: HostRuntime) -> Result<(), Fail> {
+    let mut queue = SortedTimers::new(rt.alloc());
+    answers_as_plain_timers(&rt, rt.alloc(), &mut queue)
+}
+
+#[test]
+fn the_heap_answers_as_plain_timers(rt: HostRuntime) -> Result<(), Fail> {
+    let mut queue = HeapTimers::new(rt.alloc());
+    answers_as_plain_timers(&rt, rt.alloc(), &mut queue)
+}
+
+#[test]
+fn wheels_answer_as_plain_timers(rt: HostRuntime) -> Result<(), Fail> {
+    let mut wheel = WheelTimers::<8>::new(rt.alloc(), 5)?;
+    answers_as_plain_timers(&rt, rt.alloc(), &mut wheel)?;
+    let mut narrow = WheelTimers::<1>::new(rt.alloc(), 1)?;
+    answers_as_plain_timers(&rt, rt.alloc(), &mut narrow)
 }
