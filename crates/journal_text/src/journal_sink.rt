@@ -14,8 +14,8 @@ use sink_buffer::{SinkBuffer, TextOut};
 use tally::Tally;
 
 /// A watch that writes the text of a journal as its entries are appended: the line `most N` together with the first entry, and from then
-/// on a line for each entry. A line of at most 8,192 bytes is written in one call where the sink takes all of it, a longer one in
-/// several. It holds nothing back between entries, takes no memory, and writes nothing more once a write failed.
+/// on a line for each entry. What is due for an entry is written in one call where it has at most 8,192 bytes
+/// and the sink takes all of it, and else in several. It holds nothing back between entries, takes no memory, and writes nothing more once a write failed.
 #[derive(Drop)]
 pub struct JournalSink<K> {
     output: SinkBuffer<K>,
