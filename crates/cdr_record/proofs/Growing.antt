@@ -9,7 +9,7 @@ use Rattle.cdr_record.specs.declared.bad.BadWhy.{BadWhy}
 use Rattle.cdr_record.specs.declared.bad.BadWhy.TheVariants as why
 use Rattle.cdr_record.specs.declared.grammar.First.{First}
 use Rattle.cdr_record.specs.declared.grammar.First.TheVariants.{More, Bad, One}
-use Rattle.cdr_record.specs.Grammar.{first_of, number, order_of, octet, word_at, payload_length, fields_length, message_length, seconds_size, seconds_width, record_in}
+use Rattle.cdr_record.specs.Grammar.{first_of, number, order_of, octet, word_at, payload_length, fields_length, HasFields, message_length, seconds_size, seconds_width, record_in}
 
 -- what stands first, by the numbers of bytes, octet, payload, fields and message
 abbrev pub verdict : ℕ → ℕ → ℕ → ℕ → ℕ → First
@@ -69,7 +69,7 @@ word_at-append at t u some h = rw (octet-append t u some) (number_at-append (ord
 pub fields_length-append : (t u : List ℕ) → 0 < length t → fields_length (t ++ u) ≡ fields_length t
 fields_length-append t u some = rw (octet-append t u some) refl
 
-pub message_length-append : (t u : List ℕ) → 8 + fields_length t ≤ length t → message_length (t ++ u) ≡ message_length t
+pub message_length-append : (t u : List ℕ) → HasFields t → message_length (t ++ u) ≡ message_length t
 message_length-append t u h =
     let some : 0 < length t = omega arith in
     let room : 20 + seconds_size (octet t) + 4 ≤ length t = omega arith in
@@ -81,7 +81,7 @@ unfolding seconds_size seconds_width
 seconds_size-most first = grind (arith, nat_tests)
 
 -- the fields of a record that is whole stay as the list grows
-pub record_in-append : (t u : List ℕ) → 8 + fields_length t ≤ length t → 8 + fields_length t + message_length t ≤ length t → record_in (t ++ u) ≡ record_in t
+pub record_in-append : (t u : List ℕ) → HasFields t → 8 + fields_length t + message_length t ≤ length t → record_in (t ++ u) ≡ record_in t
 unfolding record_in
 record_in-append t u h g =
     let size = seconds_size (octet t) in

@@ -7,7 +7,7 @@ use Rattle.std.proofs.Math.Seq.{take-add}
 use Rattle.cdr_record.specs.declared.record.LogRecord.{LogRecord}
 use Rattle.cdr_record.specs.declared.grammar.First.{First}
 use Rattle.cdr_record.specs.declared.grammar.First.TheVariants.{More, Bad, One}
-use Rattle.cdr_record.specs.Grammar.{first_of, record_in, fields_length, payload_length, message_length, octet}
+use Rattle.cdr_record.specs.Grammar.{first_of, record_in, fields_length, HasFields, payload_length, message_length, octet}
 use Rattle.cdr_record.specs.declared.bad.Bad.{Bad as BadRecord}
 use Rattle.cdr_record.specs.declared.bad.BadWhy.{BadWhy}
 use Rattle.cdr_record.specs.declared.decoder.Fed.{Fed}
@@ -19,7 +19,7 @@ use Rattle.cdr_record.proofs.Cutting.{Stops, first_nil, steps_over, StopsAt, sto
 -- ---- a record at the front
 
 -- its fields and its message are there
-pub one_fields : (t : List ℕ) (n : ℕ) → first_of t ≡ One n → 8 + fields_length t ≤ length t
+pub one_fields : (t : List ℕ) (n : ℕ) → first_of t ≡ One n → HasFields t
 one_fields t n e = let w = (first_one t n e).0 in omega (arith, w.whole, w.least)
 
 pub one_message : (t : List ℕ) (n : ℕ) → first_of t ≡ One n → 8 + fields_length t + message_length t ≤ length t

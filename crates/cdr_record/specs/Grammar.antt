@@ -56,6 +56,10 @@ payload_length f = word_at 4 f
 abbrev pub fields_length : List ℕ → ℕ
 fields_length f = 16 + seconds_size (octet f)
 
+-- these bytes hold the fields of the record at their front
+abbrev pub HasFields : List ℕ → Type 0
+HasFields f = 8 + fields_length f ≤ length f
+
 -- how many bytes the message has, as the field before it says
 abbrev pub message_length : List ℕ → ℕ
 message_length f = word_at (20 + seconds_size (octet f)) f

@@ -22,7 +22,7 @@ pub(crate) const LONGEST_MESSAGE: usize = 65_536;
 
 /// What stands first in a list of bytes.
 #[derive(Clone, Copy, PartialEq, Eq, Debug)]
-pub(crate) enum First {
+pub enum First {
     /// More bytes are needed to know.
     More,
     /// No record can stand there.
@@ -88,7 +88,7 @@ pub(crate) fn payload_length(bytes: &[u8]) -> usize
 
 /// The message's length, as the field before it says.
 fn message_length(bytes: &[u8]) -> usize
-    requires { 8 + G.fields_length bytes.now ≤ length bytes.now }
+    requires { G.HasFields bytes.now }
     ensures length { result ≡ G.message_length bytes.now }
     ensures fits { result < 4294967296 }
 {
@@ -96,9 +96,10 @@ fn message_length(bytes: &[u8]) -> usize
     word(order_of(bytes[0]), &bytes[place..]) as usize
 }
 
-/// What stands first in a list of bytes.
+/// What stands first in a list of bytes. Nothing is asked of a byte before it is there, and a record that stands there, or a bad
+/// one, stays as more bytes come.
 #[tactic(auto, unfolding(crate::specs::Grammar::first_of))]
-pub(crate) fn first_in(bytes: &[u8]) -> First
+pub fn first_in(bytes: &[u8]) -> First
     ensures { result ≡ G.first_of bytes.now }
 {
     if bytes.is_empty() {
@@ -127,7 +128,7 @@ pub(crate) fn first_in(bytes: &[u8]) -> First
 /// The seconds of the record at the front.
 #[tactic(auto, unfolding(crate::specs::Grammar::seconds_size, crate::specs::Grammar::seconds_width))]
 fn seconds_in(bytes: &[u8]) -> i64
-    requires { 8 + G.fields_length bytes.now ≤ length bytes.now }
+    requires { G.HasFields bytes.now }
     ensures { result ≡ G.seconds_in bytes.now }
 {
     let order = order_of(bytes[0]);

@@ -22,4 +22,5 @@ pub use bad::{Bad, BadWhy};
 pub use bytes::Bytes;
 pub use decoder::{Decoder, Fed};
 pub use encoding::{EncodeRefused, encode, encode_2};
+pub use grammar::{First, first_in};
 pub use record::{LogRecord, Order, Records};

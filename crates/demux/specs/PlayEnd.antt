@@ -1,6 +1,8 @@
 -- The end that the tests of a reactor use: it always pauses.
 use Rattle.std.specs.Prelude.{ℕ, zero, suc, false, [], Option, Some, None, false}
 use Rattle.ev_base.specs.End.{EndFacts, Try, Paused}
+use Rattle.ev_base.specs.KeepsStory.{KeepsStory}
+use Rattle.ev_base.specs.Terms.{Terms}
 use Rattle.demux.specs.declared.play_end.PlayEnd.{PlayEnd}
 
 -- what the last of so many tries came to, each of which paused
@@ -25,3 +27,7 @@ play_end_facts end = record {
   telling = None;
   offering = None;
 }
+
+-- it keeps its story, where the terms have one of it
+abbrev pub play_end_keeps : Terms → PlayEnd → Type 0
+play_end_keeps t end = KeepsStory t (play_end_facts end)

@@ -12,16 +12,15 @@ pub struct PlayEnd {
 
 impl PlayEnd {
     ghost use Rattle.ev_base.specs.End.{IsFresh};
-    ghost use Rattle.ev_base.specs.KeepsStory.{KeepsStory};
     ghost use Rattle.ev_base.specs.Terms.{Terms};
-    ghost use Rattle.demux.specs.PlayEnd.{play_end_facts};
+    ghost use Rattle.demux.specs.PlayEnd.{play_end_facts, play_end_keeps};
 
     /// An end that has made no call. It is no listener and has no serial number.
     pub fn new() -> PlayEnd
         ensures fresh { IsFresh (play_end_facts result) }
         ensures no_listener { (play_end_facts result).listener ≡ false }
         ensures no_serial { (play_end_facts result).serial ≡ None }
-        ensures kept { (t : Terms) → KeepsStory t (play_end_facts result) }
+        ensures kept { (t : Terms) → play_end_keeps t result }
     {
         PlayEnd {
             reads: 0,
@@ -32,13 +31,12 @@ impl PlayEnd {
 
 impl PeerEnd for PlayEnd {
     ghost use Rattle.ev_base.specs.End.{Accepts, KeptByGiven};
-    ghost use Rattle.ev_base.specs.Terms.{Terms};
-    ghost use Rattle.ev_base.specs.KeepsStory.{KeepsStory};
-    ghost use Rattle.demux.specs.PlayEnd.{play_end_facts};
+    ghost use Rattle.ev_base.specs.Terms.{Terms, KeepsOn};
+    ghost use Rattle.demux.specs.PlayEnd.{play_end_facts, play_end_keeps};
 
     ghost tells = { play_end_facts };
 
-    ghost keeps = { λ t end. KeepsStory t (play_end_facts end) };
+    ghost keeps = { play_end_keeps };
 
     fn is_listener(&self) -> bool {
         false
@@ -57,8 +55,8 @@ impl PeerEnd for PlayEnd {
     // It needs no listener, since it pauses as the other calls do.
     fn accept(&mut self) -> Taken<PlayEnd>
         ensures accepts { Accepts play_end_facts (play_end_facts self.old) result (play_end_facts self.new) }
-        ensures kept { (t : Terms) → KeepsStory t (play_end_facts self.old) → KeepsStory t (play_end_facts self.new) }
-        ensures given { (t : Terms) → KeepsStory t (play_end_facts self.old) → KeptByGiven (λ end. KeepsStory t (play_end_facts end)) result }
+        ensures kept { KeepsOn play_end_keeps self.old self.new }
+        ensures given { (t : Terms) → play_end_keeps t self.old → KeptByGiven (play_end_keeps t) result }
         ensures pauses { result ≡ Taken.Pause }
     {
         self.reads = self.reads.saturating_add(1);

@@ -80,11 +80,10 @@ impl PlayNet {
 
 impl Net for PlayNet {
     ghost use Rattle.std.specs.Prelude.{refl};
-    ghost use Rattle.ev_base.specs.Terms.{Terms};
-    ghost use Rattle.ev_base.specs.KeepsStory.{KeepsStory};
+    ghost use Rattle.ev_base.specs.Terms.{Terms, KeepsOn, KeepsOnWith};
     ghost use Rattle.ev_base.specs.Net.{NetWaits, Reserves, NetAttaches, SetsMaskOf, RetiresEnd, TurnsAwayEnd, Attaches, SetsMask, Retires, TurnsAway};
     ghost use Rattle.net_calls.specs.Groups.{follows_none};
-    ghost use Rattle.demux.specs.PlayEnd.{play_end_facts};
+    ghost use Rattle.demux.specs.PlayEnd.{play_end_facts, play_end_keeps};
     ghost use Rattle.demux.specs.PlayKeeps.{play_net_keeps};
 
     type End = PlayEnd;
@@ -95,7 +94,7 @@ impl Net for PlayNet {
 
     fn wait(&mut self, most_ms: Option<u64>) -> Waited
         ensures waits { NetWaits (play_net_facts self.old) most_ms result (play_net_facts self.new) }
-        ensures kept { (t : Terms) → play_net_keeps t self.old → play_net_keeps t self.new }
+        ensures kept { KeepsOn play_net_keeps self.old self.new }
         ensures plays { PlaysWait (slice_get self.old.moments self.old.waits) self.old most_ms result self.new }
     {
         self.planned.truncate(self.waiting);
@@ -122,7 +121,7 @@ impl Net for PlayNet {
     fn reserve(&mut self, n: usize) -> Result<(), NoMemory>
         ensures same { Reserves (play_net_facts self.old) (play_net_facts self.new) }
         ensures places { OnOk result (n ≤ (play_net_facts self.new).spare) }
-        ensures kept { (t : Terms) → play_net_keeps t self.old → play_net_keeps t self.new }
+        ensures kept { KeepsOn play_net_keeps self.old self.new }
         ensures plays { self.new ≡ record self.old { spare = self.new.spare } }
         ensures room { n ≤ self.old.spare → IsOk result }
     {
@@ -144,8 +143,8 @@ impl Net for PlayNet {
         requires absent { Contains (play_net_facts self.old).attached handle.0 → ⊥ }
         ensures attaches { NetAttaches (play_net_facts self.old) handle.0 mask (play_end_facts end.old).serial result (play_net_facts self.new) }
         ensures end { play_end_facts end.new ≡ play_end_facts end.old }
-        ensures kept { (t : Terms) → play_net_keeps t self.old → KeepsStory t (play_end_facts end.old) → play_net_keeps t self.new }
-        ensures end_kept { (t : Terms) → play_net_keeps t self.old → KeepsStory t (play_end_facts end.old) → KeepsStory t (play_end_facts end.new) }
+        ensures kept { KeepsOnWith play_net_keeps play_end_keeps end.old self.old self.new }
+        ensures end_kept { (t : Terms) → play_net_keeps t self.old → play_end_keeps t end.old → play_end_keeps t end.new }
         ensures plays { self.new ≡ record self.old { watched = watching handle.0 mask self.old.watched; spare = self.old.spare - 1; calls = Attaches handle.0 mask None ∷ self.old.calls } }
         ensures done { result ≡ Ok tt }
     {
@@ -162,7 +161,7 @@ impl Net for PlayNet {
     fn set_mask(&mut self, handle: Handle, mask: Mask)
         requires { Contains (play_net_facts self.old).attached handle.0 }
         ensures sets { SetsMaskOf (play_net_facts self.old) handle.0 mask (play_net_facts self.new) }
-        ensures kept { (t : Terms) → play_net_keeps t self.old → play_net_keeps t self.new }
+        ensures kept { KeepsOn play_net_keeps self.old self.new }
         ensures plays { self.new ≡ record self.old { watched = with_mask handle.0 mask self.old.watched; calls = SetsMask handle.0 mask ∷ self.old.calls } }
     {
         set_mask_in(&mut self.watched, handle, mask);
@@ -172,7 +171,7 @@ impl Net for PlayNet {
     fn retire(&mut self, handle: Handle, end: PlayEnd)
         requires { Contains (play_net_facts self.old).attached handle.0 }
         ensures retires { RetiresEnd (play_net_facts self.old) handle.0 end (play_net_facts self.new) }
-        ensures kept { (t : Terms) → play_net_keeps t self.old → KeepsStory t (play_end_facts end) → play_net_keeps t self.new }
+        ensures kept { KeepsOnWith play_net_keeps play_end_keeps end self.old self.new }
         ensures plays { self.new ≡ record self.old { watched = not_watching handle.0 self.old.watched; retired = record { handle = handle; end = end; waits = self.old.waits } ∷ self.old.retired; calls = Retires handle.0 ∷ self.old.calls } }
     {
         let retired = Retired {
@@ -191,7 +190,7 @@ impl Net for PlayNet {
     fn turn_away(&mut self, end: PlayEnd)
         requires { 1 ≤ (play_net_facts self.old).spare }
         ensures turns_away { TurnsAwayEnd (play_net_facts self.old) (play_end_facts end).serial end (play_net_facts self.new) }
-        ensures kept { (t : Terms) → play_net_keeps t self.old → KeepsStory t (play_end_facts end) → play_net_keeps t self.new }
+        ensures kept { KeepsOnWith play_net_keeps play_end_keeps end self.old self.new }
         ensures plays { self.new ≡ record self.old { turned_away = end ∷ self.old.turned_away; spare = self.old.spare - 1; calls = TurnsAway None ∷ self.old.calls } }
     {
         match self.turned_away.insert(0, end) {

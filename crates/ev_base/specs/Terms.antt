@@ -67,3 +67,11 @@ open_terms most = record {
   volumes_taken = None;
   volumes_faults = None;
 }
+
+-- what a call left of an object is what it keeps: under each terms that held before it
+abbrev pub KeepsOn : {S : Type 0} → (Terms → S → Type 0) → S → S → Type 0
+KeepsOn keeps old new = (t : Terms) → keeps t old → keeps t new
+
+-- a call that is lent or given another object too, here an end, which keeps the terms as well
+abbrev pub KeepsOnWith : {S E : Type 0} → (Terms → S → Type 0) → (Terms → E → Type 0) → E → S → S → Type 0
+KeepsOnWith keeps also given old new = (t : Terms) → keeps t old → also t given → keeps t new

@@ -1,6 +1,6 @@
 //! The ends of connections, and listeners.
 ghost use Rattle.std.specs.Prelude.{◌≡◌, ◌<◌, true, false, length};
-ghost use Rattle.ev_base.specs.Terms.{Terms};
+ghost use Rattle.ev_base.specs.Terms.{Terms, KeepsOn};
 ghost use Rattle.ev_base.specs.End.{EndFacts, EndReads, EndWrites, Accepts, KeptByGiven};
 ghost use Rattle.ev_base.specs.KeepsStory.{KeepsStory};
 
@@ -48,7 +48,7 @@ pub trait PeerEnd: Sized {
         requires reader { (tells self.old).listener ≡ false }
         requires room { 0 < length buf.old }
         ensures reads { EndReads (tells self.old) buf.new result (tells self.new) }
-        ensures kept { (t : Terms) → keeps t self.old → keeps t self.new };
+        ensures kept { KeepsOn keeps self.old self.new };
 
     /// Writes a piece that is not empty to an end that is no listener. One that takes nothing and does not pause is at
     /// fault.
@@ -56,13 +56,13 @@ pub trait PeerEnd: Sized {
         requires writer { (tells self.old).listener ≡ false }
         requires some { 0 < length piece.now }
         ensures writes { EndWrites (tells self.old) piece.now result (tells self.new) }
-        ensures kept { (t : Terms) → keeps t self.old → keeps t self.new };
+        ensures kept { KeepsOn keeps self.old self.new };
 
     /// Takes the next connection from a listener. The end that it gives is no listener and has made no call.
     fn accept(&mut self) -> Taken<Self>
         requires { (tells self.old).listener ≡ true }
         ensures accepts { Accepts tells (tells self.old) result (tells self.new) }
-        ensures kept { (t : Terms) → keeps t self.old → keeps t self.new }
+        ensures kept { KeepsOn keeps self.old self.new }
         ensures given { (t : Terms) → keeps t self.old → KeptByGiven (keeps t) result };
 
     /// What it keeps says that it keeps its story.

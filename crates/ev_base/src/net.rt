@@ -1,6 +1,6 @@
 //! The demultiplexer of events on ends.
 ghost use Rattle.std.specs.Prelude.{◌≡◌, ◌≤◌, ◌<◌, ◌≢◌, ℕ, true, Contains, length, slice_get, Some, OnOk};
-ghost use Rattle.ev_base.specs.Terms.{Terms};
+ghost use Rattle.ev_base.specs.Terms.{Terms, KeepsOn, KeepsOnWith};
 ghost use Rattle.ev_base.specs.Playing.{FollowsGroups};
 ghost use Rattle.ev_base.specs.Net.{NetFacts, IsSound, NetWaits, Reserves, NetAttaches, SetsMaskOf, RetiresEnd, TurnsAwayEnd};
 
@@ -58,7 +58,7 @@ pub trait Net {
     /// stand as they were.
     fn wait(&mut self, most_ms: Option<u64>) -> Waited
         ensures waits { NetWaits (facts self.old) most_ms result (facts self.new) }
-        ensures kept { (t : Terms) → keeps t self.old → keeps t self.new };
+        ensures kept { KeepsOn keeps self.old self.new };
 
     /// A report of the last wait.
     fn report(&self, at: usize) -> Report
@@ -69,7 +69,7 @@ pub trait Net {
     fn reserve(&mut self, n: usize) -> Result<(), NoMemory>
         ensures same { Reserves (facts self.old) (facts self.new) }
         ensures places { OnOk result (n ≤ (facts self.new).spare) }
-        ensures kept { (t : Terms) → keeps t self.old → keeps t self.new };
+        ensures kept { KeepsOn keeps self.old self.new };
 
     /// Begins to watch an end, which leaves all that the end tells as it is. It uses one place, which serves the later
     /// `retire`. `NetFailed` comes only where the count of failed attaches rose, and leaves the place. A net that has no memory
@@ -79,26 +79,26 @@ pub trait Net {
         requires absent { Contains (facts self.old).attached handle.0 → ⊥ }
         ensures attaches { NetAttaches (facts self.old) handle.0 mask (Self.End.tells end.old).serial result (facts self.new) }
         ensures end { Self.End.tells end.new ≡ Self.End.tells end.old }
-        ensures kept { (t : Terms) → keeps t self.old → Self.End.keeps t end.old → keeps t self.new }
+        ensures kept { KeepsOnWith keeps Self.End.keeps end.old self.old self.new }
         ensures end_kept { (t : Terms) → keeps t self.old → Self.End.keeps t end.old → Self.End.keeps t end.new };
 
     /// Changes the mask of an attached end. It takes no memory and cannot fail.
     fn set_mask(&mut self, handle: Handle, mask: Mask)
         requires { Contains (facts self.old).attached handle.0 }
         ensures sets { SetsMaskOf (facts self.old) handle.0 mask (facts self.new) }
-        ensures kept { (t : Terms) → keeps t self.old → keeps t self.new };
+        ensures kept { KeepsOn keeps self.old self.new };
 
     /// Takes an attached end back for good. It takes no memory and cannot fail.
     fn retire(&mut self, handle: Handle, end: Self::End)
         requires { Contains (facts self.old).attached handle.0 }
         ensures retires { RetiresEnd (facts self.old) handle.0 end (facts self.new) }
-        ensures kept { (t : Terms) → keeps t self.old → Self.End.keeps t end → keeps t self.new };
+        ensures kept { KeepsOnWith keeps Self.End.keeps end self.old self.new };
 
     /// Takes an end that is not to be watched. It uses one place, takes no memory and cannot fail.
     fn turn_away(&mut self, end: Self::End)
         requires { 1 ≤ (facts self.old).spare }
         ensures turns_away { TurnsAwayEnd (facts self.old) (Self.End.tells end).serial end (facts self.new) }
-        ensures kept { (t : Terms) → keeps t self.old → Self.End.keeps t end → keeps t self.new };
+        ensures kept { KeepsOnWith keeps Self.End.keeps end self.old self.new };
 
     /// One that never fails has no fault.
     ghost sound: { (net : Self) → IsSound (facts net) };

@@ -11,6 +11,10 @@ use Rattle.reactor_summary.specs.Tells.{listed, Each}
 use Rattle.journal_check.specs.Index.{is_idle}
 use Rattle.journal_check.specs.Queue.{IsOwned}
 
+-- each waiting event stands before the next entry
+abbrev pub AreEarlier : Summary → Type 0
+AreEarlier s = Each (λ w. w.event < s.entries) s.waiting
+
 -- the numbers of its waiting events rise and are those of entries, their timers are not armed, and no timer is armed
 -- that was not set; its handles were opened, the timeouts of a timer are of one handle, no waiting event is open, and
 -- no two open events have one number
@@ -19,7 +23,7 @@ pub record IsSound (s : Summary) : Type 0 where
   pub bound : ℕ
   pub listed : s.waiting ≡ listed event bound
   pub own : (k : ℕ) (w : WaitingEvent) → event k ≡ Some w → w.event ≡ k
-  pub past : Each (λ w. w.event < s.entries) s.waiting
+  pub past : AreEarlier s
   pub idle : Each (λ w. is_idle w.due s.armed ≡ true) s.waiting
   pub fresh : (t : ℕ) → s.scheduled ≤ t → S.is_armed s t ≡ false
   pub owned : (t : ℕ) → IsOwned t s.waiting

@@ -10,7 +10,7 @@ ghost use Rattle.journal_check.specs.Small.{IsSmall};
 ghost use Rattle.journal_check.specs.Index.{is_idle};
 ghost use Rattle.journal_check.specs.Fronts as K;
 ghost use Rattle.journal_check.specs.Sound as L;
-ghost use Rattle.journal_check.specs.Sound.{IsSound, after};
+ghost use Rattle.journal_check.specs.Sound.{IsSound, AreEarlier, after};
 ghost use Rattle.reactor_summary.specs.Tells.{Each};
 ghost use Rattle.std.specs.List.{list_any};
 ghost use Rattle.journal_check.specs.Next.{IsNext, IsNew};
@@ -226,7 +226,7 @@ impl Machine {
         upcall: Upcall,
         due: Option<DueTimer>,
     ) -> Result<(), NoMemory>
-        ensures { Each (λ w. w.event < self.old.entries) self.old.waiting → OnOk result (self.new ≡ record self.old { waiting = self.old.waiting ++ record { event = self.old.entries; handle = handle; upcall = upcall; due = due } ∷ [] }) }
+        ensures { AreEarlier self.old → OnOk result (self.new ≡ record self.old { waiting = self.old.waiting ++ record { event = self.old.entries; handle = handle; upcall = upcall; due = due } ∷ [] }) }
     {
         let event = self.entries;
         self.waiting.push(WaitingEvent {
@@ -273,7 +273,7 @@ impl Machine {
 
     fn come_due(&mut self, timer: u64) -> Result<(), NoMemory>
         requires { S.is_first_due self.old timer ≡ true }
-        ensures { Each (λ w. w.event < self.old.entries) self.old.waiting → OnOk result (self.new ≡ after {N = ℕ} self.old (Entry.Due timer)) }
+        ensures { AreEarlier self.old → OnOk result (self.new ≡ after {N = ℕ} self.old (Entry.Due timer)) }
     {
         let first = self.armed.first_due(self.moment, timer);
         self.armed.disarm(timer);
@@ -337,7 +337,7 @@ impl Machine {
 
     /// Adds an event that asks for the same upcall once more, where the handle is alive.
     fn once_more(&mut self, o: OpenEvent) -> Result<(), NoMemory>
-        ensures { Each (λ w. w.event < self.old.entries) self.old.waiting → OnOk result (self.new ≡ record self.old { waiting = self.old.waiting ++ S.waiting_again self.old (Some o) }) }
+        ensures { AreEarlier self.old → OnOk result (self.new ≡ record self.old { waiting = self.old.waiting ++ S.waiting_again self.old (Some o) }) }
     {
         if self.handles.is_alive(o.handle) {
             self.report(o.handle, o.upcall, None)
@@ -347,7 +347,7 @@ impl Machine {
     }
 
     fn settle_again(&mut self, event: u64) -> Result<(), NoMemory>
-        ensures { Each (λ w. w.event < self.old.entries) self.old.waiting → OnOk result (self.new ≡ after {N = ℕ} self.old (Entry.Returned event Answer.Again 0)) }
+        ensures { AreEarlier self.old → OnOk result (self.new ≡ after {N = ℕ} self.old (Entry.Returned event Answer.Again 0)) }
     {
         let found = self.opens.find(event);
         self.opens.settle(event);
@@ -370,7 +370,7 @@ impl Machine {
     }
 
     fn settle(&mut self, event: u64, answer: Answer) -> Result<(), NoMemory>
-        ensures { Each (λ w. w.event < self.old.entries) self.old.waiting → OnOk result (self.new ≡ after {N = ℕ} self.old (Entry.Returned event answer 0)) }
+        ensures { AreEarlier self.old → OnOk result (self.new ≡ after {N = ℕ} self.old (Entry.Returned event answer 0)) }
     {
         match answer {
             Answer::Keep => {

@@ -2,4 +2,8 @@
 #![tactic(auto)]
 
 #[cfg(test)]
+mod read;
+#[cfg(test)]
+mod tables;
+#[cfg(test)]
 mod written;

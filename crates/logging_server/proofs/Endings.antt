@@ -36,7 +36,8 @@ use Rattle.one_run.specs.declared.opening.Unopened.{Unopened}
 use Rattle.one_run.specs.declared.serving.Halt.{Halt}
 use Rattle.one_run.specs.declared.serving.Halt.TheVariants as halt
 use Rattle.logging_server.specs.Written.{TookAll, TookFront, IsWritten}
-use Rattle.logging_server.specs.Outcome.{lines_of, IsReadToEnd, IsClosedWith, TakesInput, ComesTo, IsMalformed, EndsAsRead}
+use Rattle.logging_server.specs.Outcome.{lines_of, IsClosedWith, ComesTo, IsMalformed, EndsAsRead}
+use Rattle.bounded_input.specs.Input.{IsReadToEnd, TakesInput}
 use Rattle.logging_server.specs.Journals.{IsTold, IsTakenAndHeld, IsOver, WroteUntilLast, BreaksLate, HasWritten, StandsFor, SomeJournal}
 use Rattle.logging_server.specs.Statuses.{DecodesLeft, HasLines, IsDone, IsReadFault, IsNoMemory, IsTooLong, IsVolumeFault, HasStatus, code_of}
 use Rattle.logging_server.specs.Ran.{RunsOne, status_without_fault, status_of}
@@ -387,7 +388,7 @@ unbegun_stands i o j p journal broken bytes gave faults written entries = by bro
     by true w = record {
       over = over_at_once journal entries;
       some = λ code. absurd (omega (arith, code));
-      run = inl (record { entries = entries; bytes = bytes; gave = gave; faults = faults; code_is = inr (inl refl) });
+      run = inl (record { entries = entries; bytes = bytes; gave = gave; faults = faults; code_is = inl refl });
       written = inr (w, none_returned journal entries w.front);
       whole = λ not_three not_four. absurd (not_four refl);
       broken = λ code. (w, none_returned journal entries w.front);
@@ -395,7 +396,7 @@ unbegun_stands i o j p journal broken bytes gave faults written entries = by bro
     by false w = record {
       over = over_at_once journal entries;
       some = λ code. absurd (omega (arith, code));
-      run = inl (record { entries = entries; bytes = bytes; gave = gave; faults = faults; code_is = inr (inr refl) });
+      run = inl (record { entries = entries; bytes = bytes; gave = gave; faults = faults; code_is = inr refl });
       written = inl w;
       whole = λ not_three not_four. w;
       broken = λ code. absurd (omega (arith, code));
@@ -433,20 +434,3 @@ unbegun source sink volumes input output left status is leaves = record {
     written = nothing_written (sink output) (sink left.output) left.broken leaves.text leaves.output_faults
 
 -- ---- other words
-
--- nothing was done
-refused_stands : (i : SourceFacts) (o : SinkFacts) (code : ℕ) → code ≡ 1 → StandsFor most_input i o i o code []
-refused_stands i o code is = record {
-  over = inl refl;
-  some = λ done. absurd (omega (arith, is, done));
-  run = inl (record { entries = inl refl; bytes = refl; gave = refl; faults = refl; code_is = inl is });
-  written = inl (nothing_whole o o (λ start told. told) refl);
-  whole = λ not_three not_four. nothing_whole o o (λ start told. told) refl;
-  broken = λ failed. absurd (omega (arith, is, failed));
-}
-
-pub refused : (i : SourceFacts) (o : SinkFacts) (v : VolumesFacts ServerNote) (code : ℕ) (entries journal : List (Entry ServerNote)) → code ≡ 1 → entries ≡ [] → IsTold v v 0 entries journal → StandsFor most_input i o i o code journal
-refused i o v code entries journal is none told = subst (λ (journal : List (Entry ServerNote)). StandsFor most_input i o i o code journal) (sym (held_is v entries journal told ∙ none)) (refused_stands i o code is)
-
-pub refused_some : (i : SourceFacts) (o : SinkFacts) (code : ℕ) (entries : List (Entry ServerNote)) → code ≡ 1 → entries ≡ [] → SomeJournal most_input i o i o code 0 entries
-refused_some i o code entries is none = record { journal = []; within = omega arith; is_held = none; stands = refused_stands i o code is }

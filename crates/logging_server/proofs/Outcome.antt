@@ -34,7 +34,8 @@ use Rattle.one_net.specs.OneKeeps.{OneEndKeeps, most_input}
 use Rattle.one_run.specs.Phases.{one_handle, EndsBy, AllReadOn, IsFinished, note_of, notes_in, turns_in}
 use Rattle.one_run.specs.Opening.{StartsRun}
 use Rattle.one_run.proofs.Leaves.{finished_notes}
-use Rattle.logging_server.specs.Outcome.{lines_of, IsReadToEnd, IsClosedWith, TakesInput, TellsConnection, IsWordFor, IsClosedIn, ComesTo}
+use Rattle.logging_server.specs.Outcome.{lines_of, IsClosedWith, TellsConnection, IsWordFor, IsClosedIn, ComesTo}
+use Rattle.bounded_input.specs.Input.{IsReadToEnd, TakesInput}
 use Rattle.logging_server.proofs.Courses.{reads_on, few_turns}
 use Rattle.logging_server.proofs.Lines.{lines_by_notes, lines_of_pieces, pieces_of, records_of_turns}
 

@@ -47,13 +47,13 @@ pub record ServesOne (journal : List (Entry ServerNote)) : Type 0 where
   pub kinds : served_until_end served ≡ true
   pub none_refused : count is_refused (past_of journal) ≡ 0
 
--- no connection was opened, so the input was not read: the words were others, there was no memory, or a write failed
+-- no connection was opened, so the input was not read: there was no memory, or a write failed
 pub record OpensNothing (i j : SourceFacts) (code : ℕ) (journal : List (Entry ServerNote)) : Type 0 where
   pub entries : (journal ≡ []) ⊎ (journal ≡ entry.Ended ∷ [])
   pub bytes : j.bytes ≡ i.bytes
   pub gave : j.gave ≡ i.gave
   pub faults : j.faults ≡ i.faults
-  pub code_is : (code ≡ 1) ⊎ (code ≡ 4) ⊎ (code ≡ 6)
+  pub code_is : (code ≡ 4) ⊎ (code ≡ 6)
 
 -- The connection was served until it was closed. With status 0 it closed itself where reading stops; a read failed with status 3 and
 -- no other; and with status 11 a byte was met behind the limit.

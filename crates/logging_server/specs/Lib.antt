@@ -4,5 +4,6 @@ pub mod Outcome
 pub mod Journals
 pub mod Statuses
 pub mod Ran
+pub mod Texts
 pub mod FaultLines
 pub mod NoHost

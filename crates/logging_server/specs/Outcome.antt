@@ -5,7 +5,6 @@ use Rattle.std.specs.Prelude.{◌≡◌, ◌≢◌, ◌≤◌, ◌+◌, ◌*◌,
 use Rattle.std.specs.List.{sum_by, AllByRecursion}
 use Rattle.ev_types.specs.declared.upcall.Why.{Why}
 use Rattle.ev_types.specs.declared.upcall.Why.TheVariants.{Own, Removed, Refused}
-use Rattle.ev_base.specs.Bytes.{MovesOn, NothingLeft}
 use Rattle.ev_base.specs.Source.{SourceFacts}
 use Rattle.cdr_record.specs.declared.record.LogRecord.{LogRecord}
 use Rattle.cdr_record.specs.Decoding.{Stop, Clean, Partial, Malformed, decode}
@@ -21,7 +20,7 @@ use Rattle.log_handler.specs.declared.note.ServerNote.TheVariants as note
 use Rattle.log_handler.specs.Connection.{end_of}
 use Rattle.log_handler.specs.Laws.{took_of, records_of_note}
 use Rattle.log_handler.specs.Notes.{journal_lines}
-use Rattle.one_net.specs.OneKeeps.{FaultsSince}
+use Rattle.bounded_input.specs.Input.{TakesInput, IsReadToEnd}
 use Rattle.one_run.specs.Phases.{notes_in, one_handle}
 
 -- the lines of the records of some bytes, and a closing line
@@ -36,11 +35,6 @@ IsPiece said = (took : ℕ) × (records : List LogRecord) × (said ≡ note.Piec
 abbrev pub IsSound : Bool → List ℕ → Type 0
 IsSound failed extra = (failed ≡ false) × (extra ≡ [])
 
--- a read found the end of the input
-pub record IsReadToEnd (j : SourceFacts) : Type 0 where
-  pub over : j.over ≡ true
-  pub nothing_left : NothingLeft j.bytes
-
 -- What stands behind the word with which the connection was closed, which took these bytes, met `extra` behind the limit, and
 -- noted the records of `decoded`: `end` and `partial` only where the input was read to its end and reading stops so, `malformed` only
 -- where reading stops there, `failed` only where a read failed or a byte was met behind the limit, and `stopped` where the run was
@@ -54,15 +48,6 @@ IsClosedWith j failed taken extra decoded end.NoMemory = IsPrefixOf decoded take
 IsClosedWith j failed taken extra decoded end.Stopped = (decoded ≡ taken) × IsSound failed extra
 IsClosedWith j failed taken extra decoded end.Idle = ⊥
 IsClosedWith j failed taken extra decoded end.Refused = ⊥
-
--- The connection took these bytes of the input, whose next is `extra` where one was met behind the limit. The input gave so many, and
--- no more than the limit were taken, whether it tells them or not.
-pub record TakesInput (limit : ℕ) (failed : Bool) (i : SourceFacts) (j : SourceFacts) (taken extra : List ℕ) : Type 0 where
-  pub moves : MovesOn i.bytes (taken ++ extra) j.bytes
-  pub gave : j.gave ≡ i.gave + length (taken ++ extra)
-  pub within : length taken ≤ limit
-  pub behind : extra ≢ [] → (length taken ≡ limit) × (length extra ≡ 1)
-  pub faults : FaultsSince failed i.faults j.faults
 
 -- The connection, as a journal tells it: it took as many bytes as its notes say, which have the records of `decoded`, and one note
 -- more, the last, tells that it was closed with this word.

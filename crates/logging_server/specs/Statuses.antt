@@ -6,11 +6,12 @@ use Rattle.ev_base.specs.Bytes.{ReaderBytes}
 use Rattle.ev_base.specs.Source.{SourceFacts}
 use Rattle.ev_base.specs.Sink.{SinkFacts}
 use Rattle.cdr_record.specs.Decoding.{decode}
+use Rattle.bounded_input.specs.Input.{TakesInput, IsReadToEnd}
 use Rattle.log_lines.specs.declared.end_kind.EndKind.{EndKind}
 use Rattle.log_lines.specs.declared.end_kind.EndKind.TheVariants as end
 use Rattle.log_handler.specs.Connection.{end_of}
 use Rattle.logging_server.specs.Written.{TookAll, TookFront}
-use Rattle.logging_server.specs.Outcome.{TakesInput, IsClosedWith, IsReadToEnd, IsMalformed, lines_of}
+use Rattle.logging_server.specs.Outcome.{IsClosedWith, IsMalformed, lines_of}
 use Rattle.logging_server.specs.declared.status.Status.{Status}
 use Rattle.logging_server.specs.declared.status.Status.TheVariants.{Done, Usage, ReadFault, WriteFault, NoMemory, TooLong, VolumeFault}
 
@@ -104,7 +105,3 @@ code_of VolumeFault = 12
 abbrev pub number_of : ℕ → Status → ℕ
 number_of limit TooLong = limit
 number_of limit _ = 0
-
--- the numbers that there are
-abbrev pub IsStatus : ℕ → Type 0
-IsStatus code = (code ≡ 0) ⊎ (code ≡ 1) ⊎ (code ≡ 3) ⊎ (code ≡ 4) ⊎ (code ≡ 6) ⊎ (code ≡ 11) ⊎ (code ≡ 12)

@@ -31,6 +31,10 @@ has_started stream = stream.started
 abbrev pub is_spent : {X : Type 0} {F : X → Type 0} → Stream X F → Bool
 is_spent stream = stream.spent
 
+-- it takes messages before and after
+abbrev pub StaysOpen : {X : Type 0} {F : X → Type 0} → Stream X F → Stream X F → Type 0
+StaysOpen old new = (is_spent old ≡ false) × (is_spent new ≡ false)
+
 -- a stream without modules
 pub record IsEmptyStream {X : Type 0} {F : X → Type 0} (stream : Stream X F) : Type 0 where
   pub names : names_of stream ≡ []

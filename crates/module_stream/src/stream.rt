@@ -63,7 +63,7 @@ pub enum StreamRefused {
 }
 
 impl Stream {
-    ghost use Rattle.module_stream.specs.Streams.{writers_of, readers_of, names_of, has_started, is_spent, IsEmptyStream, HasOneMore, IsUnchanged, TakesModule, RefusesModule, RefusesMessage};
+    ghost use Rattle.module_stream.specs.Streams.{writers_of, readers_of, names_of, has_started, is_spent, StaysOpen, IsEmptyStream, HasOneMore, IsUnchanged, TakesModule, RefusesModule, RefusesMessage};
 
     /// A stream without modules. It takes no memory.
     pub fn new(alloc: Global) -> Stream
@@ -152,7 +152,7 @@ impl Stream {
         ensures names { names_of self.new ≡ names_of self.old }
         ensures readers { readers_of self.new ≡ readers_of self.old }
         ensures started { has_started self.new ≡ true }
-        ensures stays { OnOk result ((is_spent self.old ≡ false) × (is_spent self.new ≡ false)) }
+        ensures stays { OnOk result (StaysOpen self.old self.new) }
         ensures refused { IfErr result (λ why. RefusesMessage self.old why self.new) }
     {
         let passed = self.pass(m)?;
@@ -172,7 +172,7 @@ impl Stream {
         ensures names { names_of self.new ≡ names_of self.old }
         ensures readers { readers_of self.new ≡ readers_of self.old }
         ensures started { has_started self.new ≡ true }
-        ensures stays { OnOk result ((is_spent self.old ≡ false) × (is_spent self.new ≡ false)) }
+        ensures stays { OnOk result (StaysOpen self.old self.new) }
         ensures refused { IfErr result (λ why. RefusesMessage self.old why self.new) }
     {
         if self.spent {
@@ -195,7 +195,7 @@ impl Stream {
         ensures names { names_of self.new ≡ names_of self.old }
         ensures writers { writers_of self.new ≡ writers_of self.old }
         ensures started { has_started self.new ≡ true }
-        ensures stays { OnOk result ((is_spent self.old ≡ false) × (is_spent self.new ≡ false)) }
+        ensures stays { OnOk result (StaysOpen self.old self.new) }
         ensures refused { IfErr result (λ why. RefusesMessage self.old why self.new) }
     {
         let passed = self.pass_up(m)?;
@@ -215,7 +215,7 @@ impl Stream {
         ensures names { names_of self.new ≡ names_of self.old }
         ensures writers { writers_of self.new ≡ writers_of self.old }
         ensures started { has_started self.new ≡ true }
-        ensures stays { OnOk result ((is_spent self.old ≡ false) × (is_spent self.new ≡ false)) }
+        ensures stays { OnOk result (StaysOpen self.old self.new) }
         ensures refused { IfErr result (λ why. RefusesMessage self.old why self.new) }
     {
         if self.spent {

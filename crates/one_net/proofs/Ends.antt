@@ -4,7 +4,8 @@ use Rattle.std.proofs.lemmas.List.{length-append, append-nil, append_assoc, take
 use Rattle.ev_base.specs.Counts.{Rose}
 use Rattle.ev_base.specs.Bytes.{ReaderBytes, MovesOn}
 use Rattle.one_net.specs.OneEnd.{last_bytes, passed_on, given_by}
-use Rattle.one_net.specs.OneKeeps.{FaultsSince, IsCountOf}
+use Rattle.bounded_input.specs.Input.{FaultsSince}
+use Rattle.one_net.specs.OneKeeps.{IsCountOf}
 
 -- the source's count of faults rose once more
 rose_again : (start old new : ℕ) → Rose start old → Rose old new → Rose start new

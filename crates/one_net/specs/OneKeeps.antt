@@ -1,12 +1,12 @@
 -- What the one end keeps under the terms that a run starts with (C++NPv2 chapter 4: the networked logging server; the terms and
 -- the limit are this project's own).
 use Rattle.std.specs.Prelude.{◌≡◌, ◌≢◌, ◌≤◌, ◌+◌, ◌^◌, ◌⊎◌, ℕ, Bool, true, false, List, [], ◌++◌, length, Option, Some, None}
-use Rattle.ev_base.specs.Counts.{Rose}
 use Rattle.ev_base.specs.Bytes.{ReaderBytes, MovesOn, NothingLeft}
 use Rattle.ev_base.specs.Source.{SourceFacts}
 use Rattle.ev_base.specs.Story.{Story, OfBytes, OfParts}
 use Rattle.ev_base.specs.Terms.{Terms, story_of}
 use Rattle.ev_base.specs.End.{Paused}
+use Rattle.bounded_input.specs.Input.{FaultsSince}
 use Rattle.one_net.specs.declared.one_end.OneEnd.{OneEnd}
 use Rattle.one_net.specs.OneEnd.{input_of, limit_of, count_of, extra_of, took_of, failed_of, given_of, one_end_facts}
 
@@ -39,11 +39,6 @@ pub record StartsAt (t : Terms) (source : SourceFacts) : Type 0 where
   pub bytes : bytes_at_start t ≡ source.bytes
   pub story : IsStoryOfSource t
 
--- the source's count of faults rose above the one at the start, where a read of it failed, and is the same where none did
-abbrev pub FaultsSince : Bool → ℕ → ℕ → Type 0
-FaultsSince true start now = Rose start now
-FaultsSince false start now = now ≡ start
-
 -- where the source tells its bytes, the end gave this many
 abbrev pub IsCountOf : List ℕ → Option ReaderBytes → ℕ → Type 0
 IsCountOf given None count = Unit {0}
@@ -73,7 +68,3 @@ pub record OneEndKeeps {S : Type 0} (facts : S → SourceFacts) (t : Terms) (end
   -- where a read found the end, nothing is left and no byte was met behind the limit
   pub at_end : (one_end_facts facts end).over ≡ true → NothingLeft (facts (input_of end)).bytes × (extra_of end ≡ [])
   pub story : IsStoryOfSource t
-
--- it keeps them still, whatever the terms are
-abbrev pub KeepsOn : {S : Type 0} → (S → SourceFacts) → OneEnd S → OneEnd S → Type 0
-KeepsOn facts old new = (t : Terms) → OneEndKeeps facts t old → OneEndKeeps facts t new

@@ -1,6 +1,6 @@
 //! The end of the one connection, whose bytes come from a source.
 ghost use Rattle.std.specs.Prelude.{◌≡◌, ◌≤◌, ◌<◌, ◌-◌, ◌≢◌, ℕ, List, true, false, [], length, Some, None};
-ghost use Rattle.ev_base.specs.Terms.{Terms};
+ghost use Rattle.ev_base.specs.Terms.{Terms, KeepsOn};
 
 use ev_base::{Got, PeerEnd, Sent, Source, Taken};
 
@@ -30,7 +30,7 @@ pub struct OneEnd<S> {
 impl<S: Source> OneEnd<S> {
     ghost use Rattle.ev_base.specs.End.{IsFresh, EndReads};
     ghost use Rattle.one_net.specs.OneEnd.{input_of, limit_of, count_of, extra_of, failed_of, one_end_facts, OneReads, TakesAll};
-    ghost use Rattle.one_net.specs.OneKeeps.{most_input, StartsAt, OneEndKeeps, KeepsOn};
+    ghost use Rattle.one_net.specs.OneKeeps.{most_input, StartsAt, OneEndKeeps};
 
     /// An end that has made no call, over this source and with this limit.
     pub fn new(input: S, limit: u64) -> OneEnd<S>
@@ -90,7 +90,7 @@ impl<S: Source> OneEnd<S> {
     fn refuse(&mut self) -> Got
         requires { extra_of self.old ≢ [] }
         ensures reads { (buffer : List ℕ) → EndReads (one_end_facts S.facts self.old) buffer result (one_end_facts S.facts self.new) }
-        ensures kept { KeepsOn S.facts self.old self.new }
+        ensures kept { KeepsOn (OneEndKeeps S.facts) self.old self.new }
         ensures causes { OneReads S.facts self.old result self.new }
         ensures took { TakesAll S.facts self.old self.new }
         ensures within { count_of self.new ≤ limit_of self.new }
@@ -109,7 +109,7 @@ impl<S: Source> OneEnd<S> {
         requires none { extra_of self.old ≡ [] }
         requires full { count_of self.old ≡ limit_of self.old }
         ensures reads { (buffer : List ℕ) → EndReads (one_end_facts S.facts self.old) buffer result (one_end_facts S.facts self.new) }
-        ensures kept { KeepsOn S.facts self.old self.new }
+        ensures kept { KeepsOn (OneEndKeeps S.facts) self.old self.new }
         ensures causes { OneReads S.facts self.old result self.new }
         ensures took { TakesAll S.facts self.old self.new }
         ensures within { count_of self.new ≤ limit_of self.new }
@@ -144,7 +144,7 @@ impl<S: Source> OneEnd<S> {
         requires some { 0 < length part.old }
         requires room { length part.old ≤ limit_of self.old - count_of self.old }
         ensures reads { EndReads (one_end_facts S.facts self.old) part.new result (one_end_facts S.facts self.new) }
-        ensures kept { KeepsOn S.facts self.old self.new }
+        ensures kept { KeepsOn (OneEndKeeps S.facts) self.old self.new }
         ensures causes { OneReads S.facts self.old result self.new }
         ensures took { TakesAll S.facts self.old self.new }
         ensures within { count_of self.new ≤ limit_of self.new }
@@ -175,7 +175,7 @@ impl<S: Source> OneEnd<S> {
 impl<S: Source> PeerEnd for OneEnd<S> {
     ghost use Rattle.ev_base.specs.End.{EndReads, EndWrites};
     ghost use Rattle.one_net.specs.OneEnd.{input_of, limit_of, count_of, extra_of, failed_of, one_end_facts, OneReads, TakesAll};
-    ghost use Rattle.one_net.specs.OneKeeps.{OneEndKeeps, KeepsOn};
+    ghost use Rattle.one_net.specs.OneKeeps.{OneEndKeeps};
     ghost use Rattle.one_net.specs.StoryOfEnd.{keeps_its_story};
 
     ghost tells = { one_end_facts S.facts };
@@ -190,7 +190,7 @@ impl<S: Source> PeerEnd for OneEnd<S> {
         requires reader { (one_end_facts S.facts self.old).listener ≡ false }
         requires room { 0 < length buf.old }
         ensures reads { EndReads (one_end_facts S.facts self.old) buf.new result (one_end_facts S.facts self.new) }
-        ensures kept { KeepsOn S.facts self.old self.new }
+        ensures kept { KeepsOn (OneEndKeeps S.facts) self.old self.new }
         ensures causes { OneReads S.facts self.old result self.new }
         ensures took { TakesAll S.facts self.old self.new }
         ensures within { count_of self.new ≤ limit_of self.new }
@@ -212,7 +212,7 @@ impl<S: Source> PeerEnd for OneEnd<S> {
         requires writer { (one_end_facts S.facts self.old).listener ≡ false }
         requires some { 0 < length piece.now }
         ensures writes { EndWrites (one_end_facts S.facts self.old) piece.now result (one_end_facts S.facts self.new) }
-        ensures kept { KeepsOn S.facts self.old self.new }
+        ensures kept { KeepsOn (OneEndKeeps S.facts) self.old self.new }
         ensures pauses { result ≡ Sent.Pause }
         ensures limit { limit_of self.new ≡ limit_of self.old }
         ensures input { input_of self.new ≡ input_of self.old }

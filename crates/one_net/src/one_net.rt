@@ -88,7 +88,7 @@ impl<S: Source> OneNet<S> {
 
 impl<S: Source> Net for OneNet<S> {
     ghost use Rattle.std.specs.Prelude.{refl};
-    ghost use Rattle.ev_base.specs.Terms.{Terms};
+    ghost use Rattle.ev_base.specs.Terms.{Terms, KeepsOn, KeepsOnWith};
     ghost use Rattle.ev_base.specs.Net.{NetWaits, Reserves, NetAttaches, SetsMaskOf, RetiresEnd, TurnsAwayEnd};
     ghost use Rattle.net_calls.specs.Groups.{follows_none};
     ghost use Rattle.one_net.specs.OneEnd.{one_end_facts};
@@ -104,7 +104,7 @@ impl<S: Source> Net for OneNet<S> {
 
     fn wait(&mut self, most_ms: Option<u64>) -> Waited
         ensures waits { NetWaits (one_net_facts self.old) most_ms result (one_net_facts self.new) }
-        ensures kept { (t : Terms) → one_net_keeps t self.old → one_net_keeps t self.new }
+        ensures kept { KeepsOn one_net_keeps self.old self.new }
         ensures waits_exactly { result ≡ answer_of (first_report (masks_of self.old)) }
         ensures reports_exactly { one_net_facts self.new ≡ record (one_net_facts self.old) { reports = report_list (first_report (masks_of self.old)); calls = (one_net_facts self.new).calls } }
         ensures never_fails { result ≢ Waited.Failed }
@@ -126,7 +126,7 @@ impl<S: Source> Net for OneNet<S> {
     fn reserve(&mut self, n: usize) -> Result<(), NoMemory>
         ensures same { Reserves (one_net_facts self.old) (one_net_facts self.new) }
         ensures places { OnOk result (n ≤ (one_net_facts self.new).spare) }
-        ensures kept { (t : Terms) → one_net_keeps t self.old → one_net_keeps t self.new }
+        ensures kept { KeepsOn one_net_keeps self.old self.new }
         ensures room { n ≤ (one_net_facts self.old).spare → IsOk result }
     {
         if n <= self.spare {
@@ -147,7 +147,7 @@ impl<S: Source> Net for OneNet<S> {
         requires absent { Contains (one_net_facts self.old).attached handle.0 → ⊥ }
         ensures attaches { NetAttaches (one_net_facts self.old) handle.0 mask (one_end_facts S.facts end.old).serial result (one_net_facts self.new) }
         ensures end { one_end_facts S.facts end.new ≡ one_end_facts S.facts end.old }
-        ensures kept { (t : Terms) → one_net_keeps t self.old → OneEndKeeps S.facts t end.old → one_net_keeps t self.new }
+        ensures kept { KeepsOnWith one_net_keeps (OneEndKeeps S.facts) end.old self.old self.new }
         ensures end_kept { (t : Terms) → one_net_keeps t self.old → OneEndKeeps S.facts t end.old → OneEndKeeps S.facts t end.new }
         ensures never_fails { result ≡ Ok tt }
         ensures spare { (one_net_facts self.new).spare + 1 ≡ (one_net_facts self.old).spare }

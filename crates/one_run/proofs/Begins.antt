@@ -31,7 +31,8 @@ use Rattle.log_handler.specs.declared.note.ServerNote.{ServerNote}
 use Rattle.log_handler.specs.Connections.{MayComeFrom, ConnectionGone}
 use Rattle.one_net.specs.declared.one_end.OneEnd.{OneEnd}
 use Rattle.one_net.specs.OneEnd.{one_end_facts, given_by, given_of, end_bytes, extra_of, failed_of, input_of, count_of}
-use Rattle.one_net.specs.OneKeeps.{OneEndKeeps, FaultsSince, bytes_at_start, start_bytes}
+use Rattle.bounded_input.specs.Input.{FaultsSince}
+use Rattle.one_net.specs.OneKeeps.{OneEndKeeps, bytes_at_start, start_bytes}
 use Rattle.one_run.specs.Phases.{one_handle, read_mask, IsOpened}
 use Rattle.one_run.specs.Opening.{StartsRun, TakesNothing, stories_of, terms_of_run}
 

@@ -1,16 +1,16 @@
 -- What is made of a script.
-use Rattle.std.proofs.Common.{◌≡◌, ◌∙◌, ℕ, zero, suc, ◌+◌, ◌<◌, ◌≤◌, ◌==◌, cond, Bool, true, false, List, [], ◌∷◌, length, take, drop, get_or, reverse, replicate, Some, vec_capacity, refl, sym, ap, subst, arith}
+use Rattle.std.proofs.Common.{◌≡◌, ◌∙◌, ℕ, zero, suc, ◌+◌, ◌<◌, ◌≤◌, ◌==◌, cond, Bool, true, false, List, [], ◌∷◌, ◌++◌, length, take, drop, get_or, reverse, replicate, Some, vec_capacity, refl, sym, ap, subst, arith}
 use Rattle.std.specs.Prelude.{unwrap_or}
 use Rattle.std.specs.List.{slice_get}
 use Rattle.std.proofs.lemmas.List.{take_more, reverse-append, length-replicate}
 use Rattle.ev_base.specs.Terms.{Terms, AtListener, AtConnection}
-use Rattle.ev_base.specs.Playing.{at_start, without, most_reports}
+use Rattle.ev_base.specs.Playing.{at_start, given, without, most_reports}
 use Rattle.script_net.specs.declared.player.Player.{Player}
 use Rattle.script_net.specs.Scripts.{group_views, steps_at}
 use Rattle.script_net.specs.Playable.{AreInOrder, AreWithin, AllWithin, many_steps}
 use Rattle.script_net.specs.Seating.{SeatsContent, new_seats}
 use Rattle.script_net.specs.Sorting.{AreMarks}
-use Rattle.script_net.specs.Player.{Stands}
+use Rattle.script_net.specs.Player.{Stands, held_of}
 use Rattle.script_net.specs.Ends.{new_listener}
 use Rattle.script_net.specs.Keeps.{ListenerKeeps}
 use Rattle.script_net.specs.Hosts.{ScriptContent, LaysDown}
@@ -31,12 +31,12 @@ no_marks : (n : ℕ) → AreMarks (record { listener = false; connections = repl
 no_marks n AtListener step at within = refl
 no_marks n (AtConnection d) step at within = none_marked n d
 
-pub stands_new : (player : Player) (connections : ℕ) → player.next ≡ 0 → player.now ≡ 0 → player.first ≡ 0 → player.held.items ≡ [] → player.passed.items ≡ [] → player.seats ≡ record (new_seats connections) { room = player.seats.room }
-    → many_steps (group_views player.groups.items) ≤ vec_capacity player.held → many_steps (group_views player.groups.items) ≤ vec_capacity player.passed → most_reports ≤ vec_capacity player.reports
+pub stands_new : (player : Player) (connections : ℕ) → player.next ≡ 0 → player.now ≡ 0 → player.first ≡ 0 → player.unwanted.items ≡ [] → player.held.items ≡ [] → player.passed.items ≡ [] → player.seats ≡ record (new_seats connections) { room = player.seats.room }
+    → many_steps (group_views player.groups.items) ≤ vec_capacity player.unwanted → many_steps (group_views player.groups.items) ≤ vec_capacity player.held → many_steps (group_views player.groups.items) ≤ vec_capacity player.passed → most_reports ≤ vec_capacity player.reports
     → AreInOrder 0 (group_views player.groups.items) → AllWithin connections (group_views player.groups.items) → Stands player (at_start (group_views player.groups.items))
-stands_new player connections next now first held passed seats room passed_room report_room order within =
+stands_new player connections next now first unwanted held passed seats unwanted_room room passed_room report_room order within =
     let many : length player.seats.marks.connections ≡ connections = ap (λ (s : SeatsContent). length s.marks.connections) seats ∙ length-replicate connections false in
-    let none : drop player.first player.held.items ≡ [] = ap (λ (n : ℕ). drop n player.held.items) first ∙ held in
+    let none : held_of player ≡ [] = ap (λ es. es ++ drop player.first player.held.items) unwanted ∙ ap (λ (n : ℕ). drop n player.held.items) first ∙ held in
     record {
       moment = now;
       groups = ap (λ (n : ℕ). drop n (group_views player.groups.items)) next;
@@ -47,6 +47,9 @@ stands_new player connections next now first held passed seats room passed_room 
       last = omega arith;
       within = subst (λ (n : ℕ). AllWithin n (group_views player.groups.items)) (sym many) within;
       held_within = subst (λ es. AreWithin (length player.seats.marks.connections) (steps_at es)) (sym none) tt;
+      unwanted = λ same. ap (λ es. given [] most_reports (without [] (steps_at es))) unwanted;
+      behind = omega (arith, ap length unwanted);
+      unwanted_room = omega (arith, unwanted_room, ap length none);
       first = omega (arith, first);
       room = omega (arith, room, ap length held);
       passed_room = omega (arith, passed_room, ap length none);

@@ -12,7 +12,8 @@ use Rattle.ev_base.specs.Playing.{Seat, Playing, Answered, is_end, report_at, gi
 use Rattle.ev_base.specs.declared.net.Report.{Report}
 use Rattle.ev_base.specs.declared.net.Waited.{Waited}
 use Rattle.ev_base.specs.declared.net.Waited.TheVariants.{Quiet, Over}
-use Rattle.script_net.specs.Playable.{AreInOrder, last_moment}
+use Rattle.event_script.specs.Grammar.{last_moment}
+use Rattle.script_net.specs.Playable.{AreInOrder}
 use Rattle.script_net.specs.declared.end.ScriptEnd.{ScriptEnd}
 use Rattle.script_net.specs.Seating.{handles_of}
 use Rattle.script_net.specs.NetContent.{NetContent, script_net_facts, playing_of, masks_of, after_wait}

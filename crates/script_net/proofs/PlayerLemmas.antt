@@ -5,18 +5,19 @@ use Rattle.std.proofs.lemmas.Bool.Decides.{nat_tests}
 use Rattle.std.proofs.lemmas.Option.{same_Some}
 use Rattle.std.proofs.lemmas.List.{append_assoc, length-append, length-map, length-drop, drop_all, drop-drop, drop-append-le}
 use Rattle.ev_base.specs.Terms.{Step, Group}
-use Rattle.ev_base.specs.Playing.{Seat, Playing, report_at, gives, leaves, given, left, without, waited, by_held, of_held, of_groups, of_none, of_time, of_group, answer_at, is_late, time_up, most_reports}
+use Rattle.ev_base.specs.Playing.{Seat, Playing, gives, given, left, without, waited, by_held, of_held, of_groups, of_none, of_time, of_group, answer_at, is_late, time_up, most_reports}
 use Rattle.ev_base.specs.declared.net.Report.{Report}
 use Rattle.ev_base.specs.declared.net.Waited.TheVariants.{Over, Quiet}
 use Rattle.script_net.specs.declared.player.Player.{Player}
 use Rattle.script_net.specs.declared.script.End.{End}
 use Rattle.script_net.specs.declared.script.Group.{Group as ScriptGroup}
 use Rattle.script_net.specs.Scripts.{step_at, steps_at, group_view, group_views}
-use Rattle.script_net.specs.Playable.{AreInOrder, AreWithin, AllWithin, many_steps, last_moment}
+use Rattle.event_script.specs.Grammar.{last_moment}
+use Rattle.script_net.specs.Playable.{AreInOrder, AreWithin, AllWithin, many_steps}
 use Rattle.script_net.specs.Sorting.{AreGiven, WaitSorts}
-use Rattle.script_net.specs.Player.{Stands, connections_of, held_of, GivesHeld, GivesGroup, PlayerWaits}
+use Rattle.script_net.specs.Player.{Stands, connections_of, fresh_of, held_of, GivesHeld, GivesGroup, PlayerWaits}
 use Rattle.script_net.proofs.Opened.{opened}
-use Rattle.script_net.proofs.SortingLemmas.{without_more}
+use Rattle.script_net.proofs.SortingLemmas.{without_more, nothing_given, given_behind, left_behind}
 
 -- ---- steps of the script
 
@@ -29,54 +30,113 @@ pub within_both : (many : ℕ) (a b : List End) → AreWithin many (steps_at a) 
 within_both many [] b v w = w
 within_both many (e ∷ a) b v w = (v.0, within_both many a b v.1 w)
 
+pub within_behind : (many : ℕ) (a b : List End) → AreWithin many (steps_at (a ++ b)) → AreWithin many (steps_at b)
+within_behind many [] b w = w
+within_behind many (e ∷ a) b w = within_behind many a b w.1
+
+pub within_front : (many : ℕ) (a b : List End) → AreWithin many (steps_at (a ++ b)) → AreWithin many (steps_at a)
+within_front many [] b w = tt
+within_front many (e ∷ a) b w = (w.0, within_front many a b w.1)
+
 -- ---- held steps
 
 -- what a wait sorted, as the rules name it
 sorted_as : (old : Player) (p : Playing) (all : List End) (reports : List Report) (passed rest : List End) → Stands old p → WaitSorts old.seats all reports passed rest
-    → AreGiven p.seats (without p.gone (steps_at all)) reports (without p.gone (steps_at (passed ++ rest)))
+    → AreGiven p.seats (without p.gone (steps_at all)) reports (without p.gone (steps_at passed)) (without p.gone (steps_at (passed ++ rest)))
 sorted_as old p all reports passed rest s sorted =
-    subst (λ (seats : List Seat). AreGiven seats (without p.gone (steps_at all)) reports (without p.gone (steps_at (passed ++ rest)))) s.seats (sorted p.gone s.marks)
+    subst (λ (seats : List Seat). AreGiven seats (without p.gone (steps_at all)) reports (without p.gone (steps_at passed)) (without p.gone (steps_at (passed ++ rest)))) s.seats (sorted p.gone s.marks)
 
--- the lists behind a sorting of held steps
-pub record PutsBack (old : Player) (stop : ℕ) (passed : List End) (held' : Vec End Global) (first' : ℕ) (passed' : Vec End Global) (reports' : Vec Report Global) : Type 0 where
-  pub sorted : WaitSorts old.seats (held_of old) reports'.items passed (drop stop old.held.items)
+-- the lists where the steps that nobody wanted are to be looked at again
+pub record LooksAgain (old : Player) (held' : Vec End Global) (first' : ℕ) (unwanted' : Vec End Global) : Type 0 where
+  pub first : first' ≡ old.first - length old.unwanted.items
+  pub held : drop first' held'.items ≡ held_of old
+  pub many : length held'.items ≡ length old.held.items
+  pub room : vec_capacity old.held ≤ vec_capacity held'
+  pub empty : unwanted'.items ≡ []
+  pub unwanted_room : vec_capacity old.unwanted ≤ vec_capacity unwanted'
+
+pub looks_again : (p : Playing) (old : Player) (held' : Vec End Global) (first' : ℕ) (unwanted' : Vec End Global) → Stands old p → LooksAgain old held' first' unwanted'
+    → Stands (record old { unwanted = unwanted'; held = held'; first = first'; changed = false }) p
+looks_again p old held' first' unwanted' s b =
+    let all : unwanted'.items ++ drop first' held'.items ≡ held_of old = ap (λ es. es ++ drop first' held'.items) b.empty ∙ b.held in
+    let none = ap length b.empty in
+    let long = ap length all in
+    record {
+      moment = s.moment;
+      groups = s.groups;
+      held = ap (λ es. without p.gone (steps_at es)) all ∙ s.held;
+      seats = s.seats;
+      marks = s.marks;
+      order = s.order;
+      last = s.last;
+      within = s.within;
+      held_within = subst (λ es. AreWithin (connections_of old) (steps_at es)) (sym all) s.held_within;
+      unwanted = λ same. ap (λ es. given p.seats most_reports (without p.gone (steps_at es))) b.empty;
+      behind = omega (arith, none);
+      unwanted_room = omega (arith, s.unwanted_room, b.unwanted_room, long);
+      first = omega (arith, s.first, b.first, b.many);
+      room = omega (arith, s.room, b.many, b.room);
+      passed_room = omega (arith, s.passed_room, long);
+      none_passed = s.none_passed;
+      report_room = s.report_room;
+    }
+
+-- the lists behind a sorting of the steps that are still to be looked at
+pub record PutsBehind (old : Player) (stop : ℕ) (passed : List End) (unwanted' passed' : Vec End Global) (reports' : Vec Report Global) : Type 0 where
+  pub sorted : WaitSorts old.seats (fresh_of old) reports'.items passed (drop stop old.held.items)
   pub within : AreWithin (connections_of old) (steps_at passed)
   pub few : old.first + length passed ≤ stop
   pub stops : stop ≤ length old.held.items
-  pub first : first' ≡ stop - length passed
-  pub held : drop first' held'.items ≡ passed ++ drop stop old.held.items
-  pub many : length held'.items ≡ length old.held.items
-  pub room : vec_capacity old.held ≤ vec_capacity held'
+  pub unwanted : unwanted'.items ≡ old.unwanted.items ++ passed
+  pub room : vec_capacity old.unwanted ≤ vec_capacity unwanted'
   pub empty : passed'.items ≡ []
   pub passed_room : vec_capacity old.passed ≤ vec_capacity passed'
   pub report_room : vec_capacity old.reports ≤ vec_capacity reports'
 
-pub gives_held : (p : Playing) (old : Player) (stop : ℕ) (passed : List End) (held' : Vec End Global) (first' : ℕ) (passed' : Vec End Global) (reports' : Vec Report Global) → Stands old p
-    → PutsBack old stop passed held' first' passed' reports' → GivesHeld p (record old { held = held'; first = first'; passed = passed'; reports = reports' })
-gives_held p old stop passed held' first' passed' reports' s b =
-    let given_is = sorted_as old p (held_of old) reports'.items passed (drop stop old.held.items) s b.sorted in
-    let longer = length-append passed (drop stop old.held.items) in
-    let behind = length-drop stop old.held.items in
-    let before = length-drop old.first old.held.items in
-    let now = ap length b.held in
-    let rest : drop stop old.held.items ≡ drop (stop - old.first) (held_of old) =
+pub gives_held : (p : Playing) (old : Player) (stop : ℕ) (passed : List End) (unwanted' passed' : Vec End Global) (reports' : Vec Report Global) → Stands old p → old.changed ≡ false
+    → PutsBehind old stop passed unwanted' passed' reports' → GivesHeld p (record old { unwanted = unwanted'; first = stop; passed = passed'; reports = reports' })
+gives_held p old stop passed unwanted' passed' reports' s same b =
+    let given_is = sorted_as old p (fresh_of old) reports'.items passed (drop stop old.held.items) s b.sorted in
+    let u = without p.gone (steps_at old.unwanted.items) in
+    let fresh = without p.gone (steps_at (fresh_of old)) in
+    let none : given p.seats most_reports u ≡ [] = s.unwanted same in
+    let apart : u ++ fresh ≡ p.held = sym (without_more p.gone old.unwanted.items (fresh_of old)) ∙ s.held in
+    let rest : drop stop old.held.items ≡ drop (stop - old.first) (fresh_of old) =
     (let there : old.first + (stop - old.first) ≡ stop = omega (arith, b.few) in ap (λ (n : ℕ). drop n old.held.items) (sym there)) ∙ sym (drop-drop (stop - old.first) old.first old.held.items) in
-    let rest_within = subst (λ es. AreWithin (connections_of old) (steps_at es)) (sym rest) (within_drop (connections_of old) (stop - old.first) (held_of old) s.held_within) in
+    let fresh_within = within_behind (connections_of old) old.unwanted.items (fresh_of old) s.held_within in
+    let rest_within = subst (λ es. AreWithin (connections_of old) (steps_at es)) (sym rest) (within_drop (connections_of old) (stop - old.first) (fresh_of old) fresh_within) in
+    let all : unwanted'.items ++ drop stop old.held.items ≡ old.unwanted.items ++ (passed ++ drop stop old.held.items) =
+    ap (λ es. es ++ drop stop old.held.items) b.unwanted ∙ append_assoc old.unwanted.items passed (drop stop old.held.items) in
+    let long = ap length all in
+    let long' = length-append old.unwanted.items (passed ++ drop stop old.held.items) in
+    let longer = length-append passed (drop stop old.held.items) in
+    let before = length-append old.unwanted.items (fresh_of old) in
+    let before' = length-drop old.first old.held.items in
+    let behind = length-drop stop old.held.items in
+    let more = ap length b.unwanted in
+    let more' = length-append old.unwanted.items passed in
     record {
-      reports = given_is.given_are ∙ ap (given p.seats most_reports) s.held;
+      reports = given_is.given_are ∙ sym (given_behind p.seats most_reports u fresh (omega arith) none) ∙ ap (given p.seats most_reports) apart;
       stands = record {
         moment = s.moment;
         groups = s.groups;
-        held = ap (λ es. without p.gone (steps_at es)) b.held ∙ given_is.left_are ∙ ap (left p.seats most_reports) s.held;
+        held = ap (λ es. without p.gone (steps_at es)) all ∙ without_more p.gone old.unwanted.items (passed ++ drop stop old.held.items) ∙ ap (λ ss. u ++ ss) given_is.left_are
+            ∙ sym (left_behind p.seats most_reports u fresh (omega arith) none) ∙ ap (left p.seats most_reports) apart;
         seats = s.seats;
         marks = s.marks;
         order = s.order;
         last = s.last;
         within = s.within;
-        held_within = subst (λ es. AreWithin (connections_of old) (steps_at es)) (sym b.held) (within_both (connections_of old) passed (drop stop old.held.items) b.within rest_within);
-        first = omega (arith, b.first, b.few, b.stops, b.many);
-        room = omega (arith, s.room, b.many, b.room);
-        passed_room = omega (arith, s.passed_room, b.passed_room, now, longer, behind, before, b.few, b.stops);
+        held_within = subst (λ es. AreWithin (connections_of old) (steps_at es)) (sym all)
+            (within_both (connections_of old) old.unwanted.items (passed ++ drop stop old.held.items) (within_front (connections_of old) old.unwanted.items (fresh_of old) s.held_within)
+            (within_both (connections_of old) passed (drop stop old.held.items) b.within rest_within));
+        unwanted = λ still. ap (λ es. given p.seats most_reports (without p.gone (steps_at es))) b.unwanted ∙ ap (given p.seats most_reports) (without_more p.gone old.unwanted.items passed)
+            ∙ given_behind p.seats most_reports u (without p.gone (steps_at passed)) (omega arith) none ∙ given_is.unwanted;
+        behind = omega (arith, s.behind, b.few, more, more');
+        unwanted_room = omega (arith, s.unwanted_room, b.room, long, long', longer, before, before', behind, b.few, b.stops);
+        first = b.stops;
+        room = s.room;
+        passed_room = omega (arith, s.passed_room, b.passed_room, long, long', longer, before, before', behind, b.few, b.stops);
         none_passed = b.empty;
         report_room = omega (arith, s.report_room, b.report_room);
       };
@@ -90,6 +150,7 @@ pub record NextGroup (old : Player) (p : Playing) (group : ScriptGroup) : Type 0
   pub within_rest : AllWithin (connections_of old) (drop (old.next + 1) (group_views old.groups.items))
   pub room : length old.held.items + length group.steps.items + many_steps (drop (old.next + 1) (group_views old.groups.items)) ≤ vec_capacity old.held
   pub passed_room : length (held_of old) + length group.steps.items + many_steps (drop (old.next + 1) (group_views old.groups.items)) ≤ vec_capacity old.passed
+  pub unwanted_room : length (held_of old) + length group.steps.items + many_steps (drop (old.next + 1) (group_views old.groups.items)) ≤ vec_capacity old.unwanted
   pub later : p.moment ≤ group.moment
   pub bounded : group.moment ≤ last_moment
   pub order : AreInOrder group.moment (drop (old.next + 1) (group_views old.groups.items))
@@ -107,6 +168,7 @@ next_group old p group s lt read =
       within_rest = within.1;
       room = omega (arith, s.room, steps, many);
       passed_room = omega (arith, s.passed_room, steps, many);
+      unwanted_room = omega (arith, s.unwanted_room, steps, many);
       later = order.0;
       bounded = order.1;
       order = order.2;
@@ -130,8 +192,9 @@ gives_next : (p : Playing) (old : Player) (group : ScriptGroup) (stop : ℕ) (pa
 gives_next p old group stop passed held' passed' reports' s g h =
     let given_is = sorted_as old p group.steps.items reports'.items passed (drop stop group.steps.items) s h.sorted in
     let more = passed ++ drop stop group.steps.items in
-    let held : drop old.first held'.items ≡ held_of old ++ more =
+    let fresh : drop old.first held'.items ≡ fresh_of old ++ more =
     ap (drop old.first) (h.held ∙ append_assoc old.held.items passed (drop stop group.steps.items)) ∙ drop-append-le old.first old.held.items more s.first in
+    let held : old.unwanted.items ++ drop old.first held'.items ≡ held_of old ++ more = ap (λ es. old.unwanted.items ++ es) fresh ∙ sym (append_assoc old.unwanted.items (fresh_of old) more) in
     let longer = length-append passed (drop stop group.steps.items) in
     let all = length-append old.held.items more in
     let all' = length-append (held_of old) more in
@@ -151,6 +214,9 @@ gives_next p old group stop passed held' passed' reports' s g h =
         last = g.bounded;
         within = g.within_rest;
         held_within = subst (λ es. AreWithin (connections_of old) (steps_at es)) (sym held) (within_both (connections_of old) (held_of old) more s.held_within (within_both (connections_of old) passed (drop stop group.steps.items) h.within rest_within));
+        unwanted = s.unwanted;
+        behind = s.behind;
+        unwanted_room = omega (arith, g.unwanted_room, long', all', longer, behind, h.few, h.stops);
         first = omega (arith, s.first, long, all);
         room = omega (arith, g.room, h.room, long, all, longer, behind, h.few, h.stops);
         passed_room = omega (arith, g.passed_room, h.passed_room, long', all', longer, behind, h.few, h.stops);
@@ -171,19 +237,6 @@ gives_group p old group stop passed held' passed' reports' s n h g gs are =
     subst (λ xs. GivesGroup p g xs new) same.1 (subst (λ x. GivesGroup p x (drop (old.next + 1) (group_views old.groups.items)) new) same.0 (gives_next p old group stop passed held' passed' reports' s n h))
 
 -- ---- a wait
-
--- where nothing is given, all is left
-gives_nothing : (r : Option Report) (room : ℕ) (more : ℕ → List Report) → 0 < room → gives r room more ≡ [] → r ≡ None
-gives_nothing None room more some none = refl
-gives_nothing (Some r) zero more some none = absurd (omega arith)
-gives_nothing (Some r) (suc room) more some none = absurd cc
-
-pub nothing_given : (seats : List Seat) (room : ℕ) (steps : List Step) → 0 < room → given seats room steps ≡ [] → left seats room steps ≡ steps
-nothing_given seats room [] some none = refl
-nothing_given seats room (step ∷ steps) some none =
-    let no = gives_nothing (report_at seats step) room (λ n. given seats n steps) some none in
-    let rest = ap (λ r. gives r room (λ n. given seats n steps)) (sym no) ∙ none in
-    ap (λ r. leaves r step room (λ n. left seats n steps)) no ∙ ap (λ ss. step ∷ ss) (nothing_given seats room steps some rest)
 
 pub waits_held : (p : Playing) (most : Option ℕ) (new : Player) (reports : List Report) → GivesHeld p new → new.reports.items ≡ reports → (reports ≡ [] → ⊥) → PlayerWaits p most (answer_at new.now new.reports.items) new
 waits_held p most new reports g are some = by new.reports.items g.reports (λ none. some (sym are ∙ none))
@@ -246,6 +299,9 @@ waits_quiet p most old group now s g none empty up =
       last = omega (arith, bound, g.bounded);
       within = s.within;
       held_within = s.held_within;
+      unwanted = s.unwanted;
+      behind = s.behind;
+      unwanted_room = s.unwanted_room;
       first = s.first;
       room = s.room;
       passed_room = s.passed_room;
@@ -288,6 +344,9 @@ stands_cleared p old reports' s room = record {
   last = s.last;
   within = s.within;
   held_within = s.held_within;
+  unwanted = s.unwanted;
+  behind = s.behind;
+  unwanted_room = s.unwanted_room;
   first = s.first;
   room = s.room;
   passed_room = s.passed_room;

@@ -1,9 +1,10 @@
 -- How a wait sorts steps, one by one.
-use Rattle.std.proofs.Common.{◌≡◌, ◌∙◌, ℕ, suc, ◌+◌, ◌-◌, ◌<◌, ◌≤◌, Bool, true, false, not, cond, List, [], ◌∷◌, ◌++◌, length, drop, get_or, Option, Some, None, refl, sym, ap, subst, arith}
+use Rattle.std.proofs.Common.{◌≡◌, ◌∙◌, ℕ, zero, suc, ◌+◌, ◌-◌, ◌<◌, ◌≤◌, Bool, true, false, not, ◌&&◌, cond, List, [], ◌∷◌, ◌++◌, length, drop, get_or, Option, Some, None, refl, sym, ap, subst, arith}
 use Rattle.std.specs.List.{filter}
 use Rattle.std.proofs.lemmas.List.{append-nil, append_assoc, length-append, map-append, drop_more}
 use Rattle.ev_base.specs.Terms.{StepEnd, Step}
-use Rattle.ev_base.specs.Playing.{Seat, is_at, report_at, gives, leaves, given, left, without, most_reports}
+use Rattle.ev_base.specs.Net.{mask_has}
+use Rattle.ev_base.specs.Playing.{Seat, is_end, is_at, report_at, gives, leaves, given, left, without, most_reports}
 use Rattle.ev_base.specs.declared.net.Report.{Report}
 use Rattle.script_net.specs.declared.script.End.{End}
 use Rattle.script_net.specs.Scripts.{end_view, step_at, steps_at}
@@ -27,6 +28,86 @@ all_leaves (Some r) step steps more rest = ap (λ ss. step ∷ ss) rest
 pub left_all : (seats : List Seat) (steps : List Step) → left seats 0 steps ≡ steps
 left_all seats [] = refl
 left_all seats (step ∷ steps) = all_leaves (report_at seats step) step steps (λ room. left seats room steps) (left_all seats steps)
+
+-- ---- steps that nobody wants
+
+-- where nothing is given, the first step has no report
+gives_nothing : (r : Option Report) (room : ℕ) (more : ℕ → List Report) → 0 < room → gives r room more ≡ [] → r ≡ None
+gives_nothing None room more some none = refl
+gives_nothing (Some r) zero more some none = absurd (omega arith)
+gives_nothing (Some r) (suc room) more some none = absurd cc
+
+-- and nothing is given of the others
+record Unwanted (seats : List Seat) (room : ℕ) (step : Step) (steps : List Step) : Type 0 where
+  first : report_at seats step ≡ None
+  others : given seats room steps ≡ []
+
+unwanted_parts : (seats : List Seat) (room : ℕ) (step : Step) (steps : List Step) → 0 < room → given seats room (step ∷ steps) ≡ [] → Unwanted seats room step steps
+unwanted_parts seats room step steps some none =
+    let absent = gives_nothing (report_at seats step) room (λ n. given seats n steps) some none in
+    record { first = absent; others = ap (λ r. gives r room (λ n. given seats n steps)) (sym absent) ∙ none }
+
+unwanted_first : (seats : List Seat) (room : ℕ) (step : Step) (steps : List Step) → report_at seats step ≡ None → given seats room (step ∷ steps) ≡ given seats room steps
+unwanted_first seats room step steps absent = ap (λ r. gives r room (λ n. given seats n steps)) absent
+
+-- all of them are left
+pub nothing_given : (seats : List Seat) (room : ℕ) (steps : List Step) → 0 < room → given seats room steps ≡ [] → left seats room steps ≡ steps
+nothing_given seats room [] some none = refl
+nothing_given seats room (step ∷ steps) some none =
+    let u = unwanted_parts seats room step steps some none in
+    ap (λ r. leaves r step room (λ n. left seats n steps)) u.first ∙ ap (λ ss. step ∷ ss) (nothing_given seats room steps some u.others)
+
+-- steps behind them are given and left as if they stood alone
+pub given_behind : (seats : List Seat) (room : ℕ) (a b : List Step) → 0 < room → given seats room a ≡ [] → given seats room (a ++ b) ≡ given seats room b
+given_behind seats room [] b some none = refl
+given_behind seats room (step ∷ a) b some none =
+    let u = unwanted_parts seats room step a some none in
+    unwanted_first seats room step (a ++ b) u.first ∙ given_behind seats room a b some u.others
+
+pub left_behind : (seats : List Seat) (room : ℕ) (a b : List Step) → 0 < room → given seats room a ≡ [] → left seats room (a ++ b) ≡ a ++ left seats room b
+left_behind seats room [] b some none = refl
+left_behind seats room (step ∷ a) b some none =
+    let u = unwanted_parts seats room step a some none in
+    ap (λ r. leaves r step room (λ n. left seats n (a ++ b))) u.first ∙ ap (λ ss. step ∷ ss) (left_behind seats room a b some u.others)
+
+-- fewer steps
+unwanted_if : (seats : List Seat) (room : ℕ) (p : Step → Bool) (step : Step) (steps : List Step) (b : Bool) → report_at seats step ≡ None → given seats room (filter p steps) ≡ []
+    → given seats room (cond b (step ∷ filter p steps) (filter p steps)) ≡ []
+unwanted_if seats room p step steps true absent others = unwanted_first seats room step (filter p steps) absent ∙ others
+unwanted_if seats room p step steps false absent others = others
+
+pub unwanted_fewer : (seats : List Seat) (room : ℕ) (p : Step → Bool) (steps : List Step) → 0 < room → given seats room steps ≡ [] → given seats room (filter p steps) ≡ []
+unwanted_fewer seats room p [] some none = refl
+unwanted_fewer seats room p (step ∷ steps) some none =
+    let u = unwanted_parts seats room step steps some none in
+    unwanted_if seats room p step steps (p step) u.first (unwanted_fewer seats room p steps some u.others)
+
+-- fewer seats
+report_if : (q : Seat → Bool) (seat : Seat) (seats : List Seat) (step : Step) (b : Bool) → (is_end seat.end step.end && mask_has seat.mask step.kind) ≡ false → report_at (filter q seats) step ≡ None
+    → report_at (cond b (seat ∷ filter q seats) (filter q seats)) step ≡ None
+report_if q seat seats step true test others = ap (λ c. cond c (Some (record { handle = record { 0 = seat.handle }; kind = step.kind })) (report_at (filter q seats) step)) test ∙ others
+report_if q seat seats step false test others = others
+
+-- where the first seat and the others have no report
+neither : (c : Bool) (report : Report) (other : Option Report) → cond c (Some report) other ≡ None → (c ≡ false) × (other ≡ None)
+neither true report other e = absurd cc
+neither false report other e = (refl, e)
+
+report_fewer : (q : Seat → Bool) (seats : List Seat) (step : Step) → report_at seats step ≡ None → report_at (filter q seats) step ≡ None
+report_fewer q [] step absent = absent
+report_fewer q (seat ∷ seats) step absent =
+    let both = neither (is_end seat.end step.end && mask_has seat.mask step.kind) (record { handle = record { 0 = seat.handle }; kind = step.kind }) (report_at seats step) absent in
+    report_if q seat seats step (q seat) both.0 (report_fewer q seats step both.1)
+
+pub unwanted_still : (q : Seat → Bool) (seats : List Seat) (room : ℕ) (steps : List Step) → 0 < room → given seats room steps ≡ [] → given (filter q seats) room steps ≡ []
+unwanted_still q seats room [] some none = refl
+unwanted_still q seats room (step ∷ steps) some none =
+    let u = unwanted_parts seats room step steps some none in
+    unwanted_first (filter q seats) room step steps (report_fewer q seats step u.first) ∙ unwanted_still q seats room steps some u.others
+
+-- one more that has no report
+unwanted_more : (seats : List Seat) (passed : List Step) (step : Step) → given seats most_reports passed ≡ [] → report_at seats step ≡ None → given seats most_reports (passed ++ step ∷ []) ≡ []
+unwanted_more seats passed step none absent = given_behind seats most_reports passed (step ∷ []) (omega arith) none ∙ unwanted_first seats most_reports step [] absent
 
 -- ---- one step more
 
@@ -60,6 +141,7 @@ passes seats all reports passed step rest none s = record {
   given_is = s.given_is ∙ ap (λ r. reports ++ gives r (most_reports - length reports) (λ room. given seats room rest)) none;
   left_is = s.left_is ∙ ap (λ r. passed ++ leaves r step (most_reports - length reports) (λ room. left seats room rest)) none
       ∙ sym (append_assoc passed (step ∷ []) (left seats (most_reports - length reports) rest));
+  unwanted = unwanted_more seats passed step s.unwanted none;
   few = s.few;
 }
 
@@ -73,27 +155,29 @@ reports_one seats all reports passed step rest report n m wanted one room room' 
       ∙ sym (append_assoc reports (report ∷ []) (given seats m rest)) ∙ ap (λ k. (reports ++ report ∷ []) ++ given seats k rest) room';
   left_is = s.left_is ∙ ap (λ k. passed ++ leaves (report_at seats step) step k (λ room. left seats room rest)) (sym room ∙ one)
       ∙ ap (λ r. passed ++ leaves r step (suc m) (λ room. left seats room rest)) wanted ∙ ap (λ k. passed ++ left seats k rest) room';
+  unwanted = s.unwanted;
   few = omega (arith, length-append reports (report ∷ []));
 }
 
 -- where there is no room, this is what a wait gives and leaves
 stops : (seats : List Seat) (all : List Step) (reports : List Report) (passed rest : List Step) → most_reports ≤ length reports → IsSorted seats all reports passed rest
-    → AreGiven seats all reports (passed ++ rest)
+    → AreGiven seats all reports passed (passed ++ rest)
 stops seats all reports passed rest full s =
     let none : most_reports - length reports ≡ 0 = omega arith in
     record {
       given_are = sym (s.given_is ∙ ap (λ n. reports ++ given seats n rest) none ∙ ap (λ rs. reports ++ rs) (given_none seats rest) ∙ append-nil reports);
       left_are = sym (s.left_is ∙ ap (λ n. passed ++ left seats n rest) none ∙ ap (λ ss. passed ++ ss) (left_all seats rest));
+      unwanted = s.unwanted;
     }
 
 -- and where no step is to come
-ends : (seats : List Seat) (all : List Step) (reports : List Report) (passed : List Step) → IsSorted seats all reports passed [] → AreGiven seats all reports (passed ++ [])
-ends seats all reports passed s = record { given_are = sym (s.given_is ∙ append-nil reports); left_are = sym s.left_is }
+ends : (seats : List Seat) (all : List Step) (reports : List Report) (passed : List Step) → IsSorted seats all reports passed [] → AreGiven seats all reports passed (passed ++ [])
+ends seats all reports passed s = record { given_are = sym (s.given_is ∙ append-nil reports); left_are = sym s.left_is; unwanted = s.unwanted }
 
 -- ---- steps of a script
 
 start_sorted : (seats : List Seat) (all : List Step) → IsSorted seats all [] [] all
-start_sorted seats all = record { given_is = refl; left_is = refl; few = omega arith }
+start_sorted seats all = record { given_is = refl; left_is = refl; unwanted = refl; few = omega arith }
 
 pub sorted_none : (seats : SeatsContent) (all : List End) (reports : List Report) (passed : List End) → reports ≡ [] → passed ≡ [] → AreSorted seats all reports passed all
 sorted_none seats all reports passed no_report none gone marks =
@@ -132,7 +216,7 @@ sorted_more seats all end rest reports reports' passed passed' within takes sort
 
 pub sorted_all : (seats : SeatsContent) (all : List End) (reports : List Report) (passed rest : List End) → rest ≡ [] → AreSorted seats all reports passed rest → WaitSorts seats all reports passed rest
 sorted_all seats all reports passed rest none sorted gone marks =
-    subst (AreGiven seats.seats (without gone (steps_at all)) reports) (sym (without_more gone passed rest ∙ ap (λ es. without gone (steps_at passed) ++ without gone (steps_at es)) none))
+    subst (AreGiven seats.seats (without gone (steps_at all)) reports (without gone (steps_at passed))) (sym (without_more gone passed rest ∙ ap (λ es. without gone (steps_at passed) ++ without gone (steps_at es)) none))
     (ends seats.seats (without gone (steps_at all)) reports (without gone (steps_at passed)) (subst (λ es. IsSorted seats.seats (without gone (steps_at all)) reports (without gone (steps_at passed)) (without gone (steps_at es))) none (sorted gone marks)))
 
 -- a step that was not taken is to be reported, and there is no room; nothing changed
@@ -148,9 +232,9 @@ not_taken false (Some report) end reports reports' passed passed' (full, same, s
 
 pub sorted_full : (seats : SeatsContent) (all : List End) (reports reports' : List Report) (passed passed' rest : List End) → IsFull reports reports' passed passed' → AreSorted seats all reports passed rest → WaitSorts seats all reports' passed' rest
 sorted_full seats all reports reports' passed passed' rest f sorted gone marks =
-    subst (λ rs. AreGiven seats.seats (without gone (steps_at all)) rs (without gone (steps_at (passed' ++ rest)))) (sym f.same)
-    (subst (λ es. AreGiven seats.seats (without gone (steps_at all)) reports (without gone (steps_at (es ++ rest)))) (sym f.same_passed)
-    (subst (AreGiven seats.seats (without gone (steps_at all)) reports) (sym (without_more gone passed rest))
+    subst (λ rs. AreGiven seats.seats (without gone (steps_at all)) rs (without gone (steps_at passed')) (without gone (steps_at (passed' ++ rest)))) (sym f.same)
+    (subst (λ es. AreGiven seats.seats (without gone (steps_at all)) reports (without gone (steps_at es)) (without gone (steps_at (es ++ rest)))) (sym f.same_passed)
+    (subst (AreGiven seats.seats (without gone (steps_at all)) reports (without gone (steps_at passed))) (sym (without_more gone passed rest))
     (stops seats.seats (without gone (steps_at all)) reports (without gone (steps_at passed)) (without gone (steps_at rest)) f.full (sorted gone marks))))
 
 -- ---- what is passed over

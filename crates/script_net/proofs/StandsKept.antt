@@ -1,8 +1,8 @@
 -- That a player still stands for its script when its ends are attached, masked, retired and turned away.
-use Rattle.std.proofs.Common.{◌≡◌, ◌∙◌, ℕ, Bool, true, false, not, cond, ◌||◌, List, [], ◌∷◌, length, map, refl, sym, ap, subst}
+use Rattle.std.proofs.Common.{◌≡◌, ◌∙◌, ℕ, Bool, true, false, not, cond, ◌||◌, List, [], ◌∷◌, length, map, refl, sym, ap, subst, arith}
 use Rattle.std.specs.List.{filter}
 use Rattle.ev_base.specs.Terms.{StepEnd, Step}
-use Rattle.ev_base.specs.Playing.{Seat, Playing, is_end, is_at, without, has_handle, dropped, retired}
+use Rattle.ev_base.specs.Playing.{Seat, Playing, is_end, is_at, given, most_reports, without, has_handle, dropped, retired}
 use Rattle.script_net.specs.declared.player.Player.{Player}
 use Rattle.script_net.specs.Scripts.{steps_at}
 use Rattle.script_net.specs.Playable.{AreWithin, AllWithin, IsWithin}
@@ -10,10 +10,16 @@ use Rattle.script_net.specs.Seating.{SeatsContent, Marks, with_mark}
 use Rattle.script_net.specs.Sorting.{AreMarks}
 use Rattle.script_net.specs.Player.{Stands, held_of}
 use Rattle.script_net.proofs.SeatsKept.{marked_put, marks_same}
+use Rattle.script_net.proofs.SortingLemmas.{unwanted_fewer, unwanted_still}
+
+-- nobody wants the steps that nobody wanted, where no end was attached and no mask set
+abbrev pub StillUnwanted : Player → Playing → List Seat → Bool → Type 0
+StillUnwanted player p are changed = changed ≡ false → given are most_reports (without p.gone (steps_at player.unwanted.items)) ≡ []
 
 -- other seats, of the same script
-pub stands_seats : (player : Player) (p : Playing) (seats : SeatsContent) (are : List Seat) → Stands player p → seats.seats ≡ are → seats.marks ≡ player.seats.marks → Stands (record player { seats = seats }) (record p { seats = are })
-stands_seats player p seats are s is marks =
+pub stands_seats : (player : Player) (p : Playing) (seats : SeatsContent) (are : List Seat) (changed : Bool) → Stands player p → seats.seats ≡ are → seats.marks ≡ player.seats.marks → StillUnwanted player p are changed
+    → Stands (record player { seats = seats; changed = changed }) (record p { seats = are })
+stands_seats player p seats are changed s is marks still =
     let many = ap (λ (m : Marks). length m.connections) (sym marks) in
     record {
       moment = s.moment;
@@ -25,6 +31,9 @@ stands_seats player p seats are s is marks =
       last = s.last;
       within = subst (λ (n : ℕ). AllWithin n p.groups) many s.within;
       held_within = subst (λ (n : ℕ). AreWithin n (steps_at (held_of player))) many s.held_within;
+      unwanted = still;
+      behind = s.behind;
+      unwanted_room = s.unwanted_room;
       first = s.first;
       room = s.room;
       passed_room = s.passed_room;
@@ -65,6 +74,11 @@ stands_gone player p seats end s is =
       last = s.last;
       within = subst (λ (n : ℕ). AllWithin n p.groups) many s.within;
       held_within = subst (λ (n : ℕ). AreWithin n (steps_at (held_of player))) many s.held_within;
+      unwanted = λ same.
+          let apart = without_one end p.gone (steps_at player.unwanted.items) in
+          ap (given p.seats most_reports) apart ∙ unwanted_fewer p.seats most_reports (λ step. not (is_at (end ∷ []) step)) (without p.gone (steps_at player.unwanted.items)) (omega arith) (s.unwanted same);
+      behind = s.behind;
+      unwanted_room = s.unwanted_room;
       first = s.first;
       room = s.room;
       passed_room = s.passed_room;
@@ -79,7 +93,8 @@ pub stands_retired : (player : Player) (p : Playing) (handle : ℕ) (mid new : S
     → new ≡ record mid { marks = with_mark end mid.marks } → Stands (record player { seats = new }) (retired handle p)
 stands_retired player p handle mid new end s ends left same marked =
     let kept = filter (λ (x : Seat). not (has_handle handle x)) p.seats in
-    let one = stands_seats player p mid kept s (left ∙ ap (filter (λ (x : Seat). not (has_handle handle x))) s.seats) (ap (λ (x : SeatsContent). x.marks) same) in
+    let still : StillUnwanted player p kept player.changed = λ fresh. unwanted_still (λ (x : Seat). not (has_handle handle x)) p.seats most_reports (without p.gone (steps_at player.unwanted.items)) (omega arith) (s.unwanted fresh) in
+    let one = stands_seats player p mid kept player.changed s (left ∙ ap (filter (λ (x : Seat). not (has_handle handle x))) s.seats) (ap (λ (x : SeatsContent). x.marks) same) still in
     let two = stands_gone (record player { seats = mid }) (record p { seats = kept }) new end one marked in
     subst (λ (es : List StepEnd). Stands (record player { seats = new }) (dropped es (record p { seats = kept })))
     (sym (ap (λ (ss : List Seat). map (λ (x : Seat). x.end) (filter (has_handle handle) ss)) (sym s.seats) ∙ ends)) two

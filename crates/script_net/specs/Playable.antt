@@ -2,10 +2,7 @@
 use Rattle.std.specs.Prelude.{◌≤◌, ◌<◌, ◌+◌, ℕ, List, [], ◌∷◌, length}
 use Rattle.ev_base.specs.Story.{Part, Piece, Pausing, Ending, Failing, Offer, Connection, NoneThere, OneFailure}
 use Rattle.ev_base.specs.Terms.{StepEnd, AtListener, AtConnection, Step, Group}
-
--- the latest moment of a script, in milliseconds
-abbrev pub last_moment : ℕ
-last_moment = 4294967295
+use Rattle.event_script.specs.Grammar.{last_moment}
 
 -- the moments do not go back, from this one on, and none is beyond the last that a script may name
 abbrev pub AreInOrder : ℕ → List Group → Type 0

@@ -13,10 +13,11 @@ use Rattle.script_net.specs.Seating.{Marks, is_marked, SeatsContent}
 abbrev pub AreMarks : Marks → List StepEnd → Type 0
 AreMarks marks gone = (end : StepEnd) (step : Step) → step.end ≡ end → IsWithin (length marks.connections) end → is_marked marks end ≡ is_at gone step
 
--- Of all steps these were reported and these passed over, and these are still to come.
+-- Of all steps these were reported and these passed over, which nobody wants, and these are still to come.
 pub record IsSorted (seats : List Seat) (all : List Step) (reports : List Report) (passed rest : List Step) : Type 0 where
   pub given_is : given seats most_reports all ≡ reports ++ given seats (most_reports - length reports) rest
   pub left_is : left seats most_reports all ≡ passed ++ left seats (most_reports - length reports) rest
+  pub unwanted : given seats most_reports passed ≡ []
   pub few : length reports ≤ most_reports
 
 -- one step was sorted: it is dropped where its end is gone, reported where that is wanted and there is room, and else passed over
@@ -32,13 +33,14 @@ AreSorted seats all reports passed rest =
     (gone : List StepEnd) → AreMarks seats.marks gone → IsSorted seats.seats (without gone (steps_at all)) reports (without gone (steps_at passed)) (without gone (steps_at rest))
 
 -- and where no more can be reported, or none is to come, this is what a wait gives and leaves
-pub record AreGiven (seats : List Seat) (all : List Step) (reports : List Report) (behind : List Step) : Type 0 where
+pub record AreGiven (seats : List Seat) (all : List Step) (reports : List Report) (passed behind : List Step) : Type 0 where
   pub given_are : reports ≡ given seats most_reports all
   pub left_are : behind ≡ left seats most_reports all
+  pub unwanted : given seats most_reports passed ≡ []
 
 abbrev pub WaitSorts : SeatsContent → List End → List Report → List End → List End → Type 0
 WaitSorts seats all reports passed rest =
-    (gone : List StepEnd) → AreMarks seats.marks gone → AreGiven seats.seats (without gone (steps_at all)) reports (without gone (steps_at (passed ++ rest)))
+    (gone : List StepEnd) → AreMarks seats.marks gone → AreGiven seats.seats (without gone (steps_at all)) reports (without gone (steps_at passed)) (without gone (steps_at (passed ++ rest)))
 
 -- The steps from one place to another were sorted, into lists that have not lost room.
 pub record IsUnderWay (seats : SeatsContent) (steps : List End) (from at : ℕ) (reports : Vec Report Global) (passed : Vec End Global) (report_room room : ℕ) : Type 0 where

@@ -25,7 +25,8 @@ use std::marker::Model;
 /// order, at most 256; the others are held back, and those of ends that were retired or turned away are dropped; where nothing is
 /// reported the answer is `Quiet`. Reports are not merged. Moments are milliseconds.
 ///
-/// A wait costs what it reports and what is held back.
+/// A wait costs what it reports. A step that is held back is looked at when it comes and by the next wait, and from then on only by a wait
+/// before which an end was attached or a mask set.
 #[derive(Drop)]
 pub struct ScriptNet {
     player: Player,
@@ -76,8 +77,10 @@ impl ScriptNet {
                 groups,
                 next: 0,
                 now: 0,
+                unwanted: Vec::with_capacity(alloc, steps)?,
                 held: Vec::with_capacity(alloc, steps)?,
                 first: 0,
+                changed: false,
                 passed: Vec::with_capacity(alloc, steps)?,
                 reports: Vec::with_capacity(alloc, MOST_REPORTS)?,
                 seats: Seats::new(alloc, connections)?,
@@ -118,7 +121,7 @@ impl ScriptNet {
 }
 
 impl Net for ScriptNet {
-    ghost use Rattle.ev_base.specs.Terms.{Terms};
+    ghost use Rattle.ev_base.specs.Terms.{Terms, KeepsOn, KeepsOnWith};
     ghost use Rattle.ev_base.specs.Net.{NetWaits, Reserves, NetAttaches, SetsMaskOf, RetiresEnd, TurnsAwayEnd, Attaches, SetsMask, Retires, TurnsAway};
     ghost use Rattle.script_net.specs.ScriptEnd.{script_end_facts, ScriptEndKeeps};
     ghost use Rattle.script_net.specs.NetLaws.{net_is_sound, net_follows_groups};
@@ -131,7 +134,7 @@ impl Net for ScriptNet {
 
     fn wait(&mut self, most_ms: Option<u64>) -> Waited
         ensures waits { NetWaits (script_net_facts self.old) most_ms result (script_net_facts self.new) }
-        ensures kept { (t : Terms) → script_net_keeps t self.old → script_net_keeps t self.new }
+        ensures kept { KeepsOn script_net_keeps self.old self.new }
         ensures fails { Contains self.old.fail_waits self.old.waits → (result ≡ Waited.Failed) × (self.new ≡ after_failed_wait self.old) }
         ensures plays { (Contains self.old.fail_waits self.old.waits → ⊥) → (result ≡ (waited most_ms (playing_of self.old)).answer) × (self.new ≡ after_wait most_ms self.old) }
     {
@@ -154,7 +157,7 @@ impl Net for ScriptNet {
     fn reserve(&mut self, n: usize) -> Result<(), NoMemory>
         ensures same { Reserves (script_net_facts self.old) (script_net_facts self.new) }
         ensures places { OnOk result (n ≤ (script_net_facts self.new).spare) }
-        ensures kept { (t : Terms) → script_net_keeps t self.old → script_net_keeps t self.new }
+        ensures kept { KeepsOn script_net_keeps self.old self.new }
         ensures exactly { self.new ≡ record self.old { spare = self.new.spare } }
         ensures room { n ≤ self.old.spare → IsOk result }
     {
@@ -176,7 +179,7 @@ impl Net for ScriptNet {
         requires absent { Contains (script_net_facts self.old).attached handle.0 → ⊥ }
         ensures attaches { NetAttaches (script_net_facts self.old) handle.0 mask (script_end_facts end.old).serial result (script_net_facts self.new) }
         ensures end { script_end_facts end.new ≡ script_end_facts end.old }
-        ensures kept { (t : Terms) → script_net_keeps t self.old → ScriptEndKeeps t end.old → script_net_keeps t self.new }
+        ensures kept { KeepsOnWith script_net_keeps ScriptEndKeeps end.old self.old self.new }
         ensures end_kept { (t : Terms) → script_net_keeps t self.old → ScriptEndKeeps t end.old → ScriptEndKeeps t end.new }
         ensures same_end { end.new ≡ end.old }
         ensures fails { Contains self.old.fail_attaches self.old.attaches → (result ≡ Err record {}) × (self.new ≡ record self.old { attaches = counted self.old.attaches; failed_attaches = counted self.old.failed_attaches }) }
@@ -189,6 +192,7 @@ impl Net for ScriptNet {
             return Err(NetFailed);
         }
         self.player.seats.attach(handle, mask, end.place());
+        self.player.changed = true;
         self.spare -= 1;
         self.calls.add(Made::Attach(handle, mask, end.serial()));
         Ok(())
@@ -197,17 +201,18 @@ impl Net for ScriptNet {
     fn set_mask(&mut self, handle: Handle, mask: Mask)
         requires { Contains (script_net_facts self.old).attached handle.0 }
         ensures sets { SetsMaskOf (script_net_facts self.old) handle.0 mask (script_net_facts self.new) }
-        ensures kept { (t : Terms) → script_net_keeps t self.old → script_net_keeps t self.new }
+        ensures kept { KeepsOn script_net_keeps self.old self.new }
         ensures exactly { self.new ≡ record self.old { calls = SetsMask handle.0 mask ∷ self.old.calls } }
     {
         self.player.seats.set_mask(handle, mask);
+        self.player.changed = true;
         self.calls.add(Made::Mask(handle, mask));
     }
 
     fn retire(&mut self, handle: Handle, end: ScriptEnd)
         requires { Contains (script_net_facts self.old).attached handle.0 }
         ensures retires { RetiresEnd (script_net_facts self.old) handle.0 end (script_net_facts self.new) }
-        ensures kept { (t : Terms) → script_net_keeps t self.old → ScriptEndKeeps t end → script_net_keeps t self.new }
+        ensures kept { KeepsOnWith script_net_keeps ScriptEndKeeps end self.old self.new }
         ensures exactly { self.new ≡ record self.old { retired = (handle.0, end) ∷ self.old.retired; calls = Retires handle.0 ∷ self.old.calls } }
     {
         let place = self.player.seats.retire(handle);
@@ -222,7 +227,7 @@ impl Net for ScriptNet {
     fn turn_away(&mut self, end: ScriptEnd)
         requires { 1 ≤ (script_net_facts self.old).spare }
         ensures turns_away { TurnsAwayEnd (script_net_facts self.old) (script_end_facts end).serial end (script_net_facts self.new) }
-        ensures kept { (t : Terms) → script_net_keeps t self.old → ScriptEndKeeps t end → script_net_keeps t self.new }
+        ensures kept { KeepsOnWith script_net_keeps ScriptEndKeeps end self.old self.new }
         ensures exactly { self.new ≡ record self.old { turned_away = end ∷ self.old.turned_away; spare = self.old.spare - 1; calls = TurnsAway (script_end_facts end).serial ∷ self.old.calls } }
     {
         let serial = end.serial();

@@ -1,5 +1,5 @@
 //! How a net plays the groups of a script.
-ghost use Rattle.std.specs.Prelude.{◌≡◌, ◌≤◌, ◌<◌, ◌+◌, ◌-◌, ◌++◌, ◌∷◌, [], List, length, drop, vec_len, vec_capacity, if◌then◌else◌, Some, None};
+ghost use Rattle.std.specs.Prelude.{◌≡◌, ◌≤◌, ◌<◌, ◌+◌, ◌-◌, ◌++◌, ◌∷◌, [], List, length, drop, vec_len, vec_capacity, if◌then◌else◌, Some, None, false};
 ghost use Rattle.ev_base.specs.Terms as terms;
 ghost use Rattle.ev_base.specs.Playing.{Playing, given, most_reports, answer_at, is_late, time_up};
 ghost use Rattle.script_net.specs.Player.{Stands, GivesHeld, GivesGroup, PlayerWaits};
@@ -10,16 +10,19 @@ use crate::sorting::sort_out;
 use ev_base::{Report, Waited};
 
 /// The groups of a script, the moment and the steps that are held back. The steps of a group whose ends are gone may be held too: they are
-/// dropped once a wait comes to them.
+/// dropped once a wait comes to them. A step that nobody wants is looked at again only where an end was attached or a mask set since.
 #[derive(Drop)]
 pub(crate) struct Player {
     pub(crate) groups: Vec<Group>,
     // The number of the next group, and the present moment.
     pub(crate) next: usize,
     pub(crate) now: u64,
-    // The steps from this place on are held back.
+    // The steps that are held back: those that nobody wanted when they were looked at, and behind them those of the other list from a place on.
+    pub(crate) unwanted: Vec<End>,
     pub(crate) held: Vec<End>,
     pub(crate) first: usize,
+    // Whether an end was attached or a mask set since steps were looked at.
+    pub(crate) changed: bool,
     // Room for the steps that a wait passes over.
     pub(crate) passed: Vec<End>,
     // The reports of the last wait.
@@ -28,9 +31,37 @@ pub(crate) struct Player {
 }
 
 impl Player {
+    // Has all steps that are held back looked at again, where an end was attached or a mask set since they were.
+    fn look_again(&mut self)
+        requires { (p : Playing) × Stands self.old p }
+        ensures stands { (p : Playing) → Stands self.old p → Stands self.new p }
+        ensures fresh { self.new.changed ≡ false }
+        ensures reports { self.new.reports ≡ self.old.reports }
+        ensures rest { (self.new.groups ≡ self.old.groups) × (self.new.seats ≡ self.old.seats) }
+    {
+        if !self.changed {
+            return;
+        }
+        self.first = put_back(&mut self.held, self.first, &self.unwanted);
+        self.unwanted.clear();
+        self.changed = false;
+    }
+
     // Reports held steps that can be reported now, in order.
     fn give_held(&mut self)
         requires stands { (p : Playing) × Stands self.old p }
+        requires no_report { self.old.reports.items ≡ [] }
+        ensures gives { (p : Playing) → Stands self.old p → GivesHeld p self.new }
+        ensures rest { (self.new.groups ≡ self.old.groups) × (self.new.seats ≡ self.old.seats) }
+    {
+        self.look_again();
+        self.give_fresh();
+    }
+
+    // Reports steps that can be reported now, of those that are still to be looked at.
+    fn give_fresh(&mut self)
+        requires stands { (p : Playing) × Stands self.old p }
+        requires fresh { self.old.changed ≡ false }
         requires no_report { self.old.reports.items ≡ [] }
         ensures gives { (p : Playing) → Stands self.old p → GivesHeld p self.new }
         ensures rest { (self.new.groups ≡ self.old.groups) × (self.new.seats ≡ self.old.seats) }
@@ -42,7 +73,8 @@ impl Player {
             &mut self.reports,
             &mut self.passed,
         );
-        self.first = put_back(&mut self.held, stop, &self.passed);
+        hold(&mut self.unwanted, &self.passed);
+        self.first = stop;
         self.passed.clear();
     }
 

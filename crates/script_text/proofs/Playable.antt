@@ -9,8 +9,8 @@ use Rattle.event_script.specs.Script.{ScriptStep, Opens, Brings, Shuts, Fails, L
 use Rattle.event_script.specs.Stories.{parts_of, offers_of, story, offers}
 use Rattle.event_script.specs.Grammar.{Line, At, Quiet, Stepping, moment_of, steps_in, is_step, may_stand, last_moment, groups_of, raw_lines, Spells, IsScriptText}
 use Rattle.script_text.specs.Reading.{told_by, offered_by, and_step, played_by}
-use Rattle.script_net.specs.Playable.{AreInOrder, many_offered, IsWithin, AreWithin, AllWithin, many_steps}
-use Rattle.script_text.specs.Playable.{AreFilled, ArePlayable}
+use Rattle.script_net.specs.Playable.{AreInOrder, AreFilled, many_offered, IsWithin, AreWithin, AllWithin, many_steps}
+use Rattle.script_text.specs.Playable.{ArePlayable}
 use Rattle.script_text.proofs.Groups.{told_is, offered_is, opened_is, played_is, steps_are}
 
 left_of : (a b : Bool) → a && b ≡ true → a ≡ true
@@ -90,10 +90,7 @@ ordered (raw ∷ raws) (Stepping step ∷ past) s =
 
 filled_more : (a b : List Part) → AreFilled a → AreFilled b → AreFilled (a ++ b)
 filled_more [] b f g = g
-filled_more (Piece bytes ∷ a) b f g = (f.0, filled_more a b f.1 g)
-filled_more (Pausing ∷ a) b f g = filled_more a b f g
-filled_more (Ending ∷ a) b f g = filled_more a b f g
-filled_more (Failing ∷ a) b f g = filled_more a b f g
+filled_more (part ∷ a) b f g = (f.0, filled_more a b f.1 g)
 
 filled_if : (b : Bool) (parts : List Part) → AreFilled parts → AreFilled (cond b parts [])
 filled_if true parts f = f
@@ -104,9 +101,9 @@ step_filled c past (Opens conn) may = tt
 step_filled c past (Brings conn bytes) may =
     let some = right_of (goes_on conn past) (nat_lt 0 (length bytes)) may in
     let more : 0 < length bytes = grind (arith, nat_tests) in
-    filled_if (conn == c) (Piece bytes ∷ Pausing ∷ []) (more, tt)
-step_filled c past (Shuts conn) may = filled_if (conn == c) (Ending ∷ []) tt
-step_filled c past (Fails conn) may = filled_if (conn == c) (Failing ∷ []) tt
+    filled_if (conn == c) (Piece bytes ∷ Pausing ∷ []) (more, (tt, tt))
+step_filled c past (Shuts conn) may = filled_if (conn == c) (Ending ∷ []) (tt, tt)
+step_filled c past (Fails conn) may = filled_if (conn == c) (Failing ∷ []) (tt, tt)
 step_filled c past ListenerFails may = tt
 
 follows : (past : List Line) (step : ScriptStep) → may_stand past (Stepping step) ≡ true → may_follow (steps_in past) step ≡ true

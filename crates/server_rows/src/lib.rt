@@ -9,3 +9,5 @@ mod long_rows;
 mod one_rows;
 #[cfg(test)]
 mod running;
+#[cfg(test)]
+mod text_rows;

@@ -291,8 +291,8 @@ fn other_words_are_refused(rt: HostRuntime) -> Result<(), Fail> {
         &["One"],
         &["replay"],
         &["serve", "--port", "7000"],
-        &["display"],
-        &["audit"],
+        &["display", "display"],
+        &["Audit"],
         &["gen", "1", "0"],
     ];
     for words in table {

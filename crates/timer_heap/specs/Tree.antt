@@ -36,6 +36,10 @@ pub record AreMoved (old new : List Timer) (old_keys new_keys : List ℕ) : Type
 abbrev pub IsClear : ℕ → List Timer → ℕ → Type 0
 IsClear handle slots from = AllWithin (λ t. t.handle.0 ≢ handle) slots from (length slots)
 
+-- whichever handle has no timer in those places has none in these
+abbrev pub StaysClear : List Timer → ℕ → List Timer → ℕ → Type 0
+StaysClear old from new to = (handle : ℕ) → IsClear handle old from → IsClear handle new to
+
 -- a heap but for one place and its parent
 pub record IsHeapBelow (slots : List Timer) (at : ℕ) : Type 0 where
   pub others : (k : ℕ) (d : Timer) → 0 < k → k < length slots → k ≢ at → comes_before (slice_index_or slots (parent k) d) (slice_index_or slots k d) ≡ true

@@ -4,7 +4,7 @@ ghost use Rattle.std.specs.List.Sorted.{IsPermutation};
 ghost use Rattle.timer_queue.specs.declared.timer.Timer.{Timer};
 ghost use Rattle.timer_queue.specs.Timers.{comes_before, AreApart};
 ghost use Rattle.timer_heap.specs.Heap.{parent, IsHeap, OnPath};
-ghost use Rattle.timer_heap.specs.Tree.{IsClear, HasKeys, KeepsRoom, AreMoved, IsHeapBelow, IsHeapAbove, IsHeapAround, ArePairs, place_in};
+ghost use Rattle.timer_heap.specs.Tree.{StaysClear, HasKeys, KeepsRoom, AreMoved, IsHeapBelow, IsHeapAbove, IsHeapAround, ArePairs, place_in};
 
 use crate::index::Numbered;
 use timer_queue::Timer;
@@ -86,7 +86,7 @@ pub fn sift_down(tree: &mut Tree, from: usize)
     requires apart { AreApart tree.old.slots.items }
     requires heap { IsHeapAbove tree.old.slots.items from }
     ensures heap { IsHeap tree.new.slots.items }
-    ensures clear { (handle : ℕ) → IsClear handle tree.old.slots.items from → IsClear handle tree.new.slots.items from }
+    ensures clear { StaysClear tree.old.slots.items from tree.new.slots.items from }
     ensures moved { AreMoved tree.old.slots.items tree.new.slots.items tree.old.keys.items tree.new.keys.items }
     ensures keyed { HasKeys tree.new }
     ensures room { KeepsRoom tree.old tree.new }
@@ -108,7 +108,7 @@ fn settle(tree: &mut Tree, place: usize)
     requires apart { AreApart tree.old.slots.items }
     requires heap { IsHeapAround tree.old.slots.items place }
     ensures heap { IsHeap tree.new.slots.items }
-    ensures clear { (handle : ℕ) → IsClear handle tree.old.slots.items place → IsClear handle tree.new.slots.items (place + 1) }
+    ensures clear { StaysClear tree.old.slots.items place tree.new.slots.items (place + 1) }
     ensures moved { AreMoved tree.old.slots.items tree.new.slots.items tree.old.keys.items tree.new.keys.items }
     ensures keyed { HasKeys tree.new }
     ensures room { KeepsRoom tree.old tree.new }
@@ -128,7 +128,7 @@ fn replace_by_last(tree: &mut Tree, place: usize) -> Timer
     ensures taken { (d : Timer) → result ≡ slice_index_or tree.old.slots.items place d }
     ensures slots { IsPermutation tree.old.slots.items (result ∷ tree.new.slots.items) }
     ensures heap { IsHeapAround tree.new.slots.items place }
-    ensures clear { (handle : ℕ) → IsClear handle tree.old.slots.items (place + 1) → IsClear handle tree.new.slots.items place }
+    ensures clear { StaysClear tree.old.slots.items (place + 1) tree.new.slots.items place }
     ensures pairs { ArePairs tree.old.slots.items tree.new.slots.items tree.old.keys.items tree.new.keys.items }
     ensures keyed { HasKeys tree.new }
     ensures keys { length tree.new.keys.items ≡ length tree.old.keys.items }
@@ -151,7 +151,7 @@ pub fn take_out(tree: &mut Tree, place: usize) -> Timer
     ensures taken { (d : Timer) → result ≡ slice_index_or tree.old.slots.items place d }
     ensures slots { IsPermutation tree.old.slots.items (result ∷ tree.new.slots.items) }
     ensures heap { IsHeap tree.new.slots.items }
-    ensures clear { (handle : ℕ) → IsClear handle tree.old.slots.items (place + 1) → IsClear handle tree.new.slots.items (place + 1) }
+    ensures clear { StaysClear tree.old.slots.items (place + 1) tree.new.slots.items (place + 1) }
     ensures pairs { ArePairs tree.old.slots.items tree.new.slots.items tree.old.keys.items tree.new.keys.items }
     ensures keyed { HasKeys tree.new }
     ensures keys { length tree.new.keys.items ≡ length tree.old.keys.items }

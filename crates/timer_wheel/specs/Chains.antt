@@ -40,6 +40,10 @@ abbrev pub first_of : List Timer → Option Timer
 first_of [] = None
 first_of (t ∷ rest) = Some t
 
+-- the timer of these places that comes first of all, or none
+abbrev pub IsEarliest : List Place → Option Timer → Type 0
+IsEarliest places first = first ≡ first_of (in_order (timers_of places))
+
 -- where the chain is changed behind the place `last`, or at its head: the heads and the places then
 abbrev pub linked_heads : List (Option ℕ) → ℕ → Option ℕ → Option ℕ → List (Option ℕ)
 linked_heads heads spoke None to = slice_set heads spoke to
@@ -64,7 +68,7 @@ pub record IsWheel (spokes resolution : ℕ) (heads : List (Option ℕ)) (places
   pub each_spoke : length heads ≡ spokes
   pub apart : AreApart (timers_of places)
   pub chains : AreChains spokes resolution heads places (in_order (timers_of places))
-  pub earliest : first ≡ first_of (in_order (timers_of places))
+  pub earliest : IsEarliest places first
 
 -- the list has the timer of each place but this one
 pub record HasAllBut (hole : ℕ) (places : List Place) (timers : List Timer) : Type 0 where

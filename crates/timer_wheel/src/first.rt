@@ -3,7 +3,7 @@ ghost use Rattle.std.specs.Prelude.{◌≡◌, ◌<◌, ◌≤◌, length, All};
 ghost use Rattle.timer_queue.specs.declared.timer.Timer.{Timer};
 ghost use Rattle.timer_queue.specs.Timers.{in_order, AreApart};
 ghost use Rattle.timer_wheel.specs.Spokes.{timers_of};
-ghost use Rattle.timer_wheel.specs.Chains.{AreChains, earlier_at, earlier_of, first_of, head_timer, in_tick, is_behind};
+ghost use Rattle.timer_wheel.specs.Chains.{AreChains, earlier_at, earlier_of, IsEarliest, head_timer, in_tick, is_behind};
 
 use crate::Place;
 use crate::chain::spoke;
@@ -32,7 +32,7 @@ pub fn is_behind(first: &Option<Timer>, t: &Timer) -> bool
 // The first of the timers, by their places.
 fn first_of_places(places: &[Place]) -> Option<Timer>
     requires { AreApart (timers_of places.now) }
-    ensures { result ≡ first_of (in_order (timers_of places.now)) }
+    ensures { IsEarliest places.now result }
 {
     let mut first = None;
     for place in places {
@@ -60,7 +60,7 @@ fn first_of_heads(heads: &[Option<usize>], places: &[Place], resolution: u64) ->
     requires spokes { 0 < length heads.now }
     requires apart { AreApart (timers_of places.now) }
     requires chains { AreChains (length heads.now) resolution heads.now places.now (in_order (timers_of places.now)) }
-    ensures { result ≡ first_of (in_order (timers_of places.now)) }
+    ensures { IsEarliest places.now result }
 {
     let mut first = None;
     for head in heads {
@@ -75,7 +75,7 @@ pub fn find_first(heads: &[Option<usize>], places: &[Place], resolution: u64) ->
     requires spokes { 0 < length heads.now }
     requires apart { AreApart (timers_of places.now) }
     requires chains { AreChains (length heads.now) resolution heads.now places.now (in_order (timers_of places.now)) }
-    ensures { result ≡ first_of (in_order (timers_of places.now)) }
+    ensures { IsEarliest places.now result }
 {
     if places.len() <= heads.len() {
         first_of_places(places)
@@ -124,7 +124,7 @@ pub fn find_next(
     requires apart { AreApart (timers_of places.now) }
     requires chains { AreChains (length heads.now) resolution heads.now places.now (in_order (timers_of places.now)) }
     requires from { All (λ (t : Timer). from ≤ t.deadline) (timers_of places.now) }
-    ensures { result ≡ first_of (in_order (timers_of places.now)) }
+    ensures { IsEarliest places.now result }
 {
     let tick = from / resolution;
     let mut at = spoke(heads.len(), resolution, from);

@@ -6,3 +6,7 @@ pub mod Lives
 pub mod Marked
 pub mod Requests
 pub mod Rounds
+pub mod Grows
+pub mod Solo
+pub mod Pooled
+pub mod Seats

@@ -4,3 +4,6 @@ pub mod Settled
 pub mod Ends
 pub mod Asked
 pub mod Working
+pub mod Alone
+pub mod Pool
+pub mod Hired

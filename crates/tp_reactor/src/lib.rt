@@ -4,6 +4,7 @@
 mod asking;
 mod crew;
 mod leading;
+mod pool;
 mod reactor;
 mod start;
 mod working;

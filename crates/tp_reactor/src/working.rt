@@ -1,8 +1,8 @@
 //! The loop of a worker.
-ghost use Rattle.std.specs.Prelude.{◌≡◌, ◌<◌, ◌^◌, length, None, Some, IfSome, IfNone, true};
+ghost use Rattle.std.specs.Prelude.{◌≡◌, ◌<◌, ◌≤◌, ◌+◌, ◌^◌, length, None, Some, IfSome, IfNone, cond, true};
 ghost use Rattle.notify_ring.specs.Words.{poster_view};
 ghost use Rattle.reactor_core.specs.Polling.{FitsLimit};
-ghost use Rattle.tp_reactor.specs.Working.{MayPost, Round, EndsRun, Runs};
+ghost use Rattle.tp_reactor.specs.Working.{MayPost, Round, EndsRun, Runs, first_ran};
 ghost use Rattle.tp_reactor.specs.Words.{posted_of, known_by, poster_of, IsOf, IsIdle, SameKin};
 
 use crate::{Reactor, Worker};
@@ -31,6 +31,19 @@ pub enum Ran {
     Over,
 }
 
+impl Ran {
+    // The one that goes first.
+    pub(crate) fn or_first(self, other: Ran) -> Ran
+        ensures { result ≡ first_ran self other }
+    {
+        if self as u8 <= other as u8 {
+            self
+        } else {
+            other
+        }
+    }
+}
+
 impl<
     H: EventHandler,
     M: Net<End = H::End>,
@@ -57,6 +70,7 @@ impl<
         ensures kin { SameKin (known_by worker.old) (known_by worker.new) }
         ensures runs { Runs ⟦<Self as Means>⟧.m most_ms until (known_by worker.old) (poster_view (poster_of worker.old)) result (known_by worker.new) (poster_view (poster_of worker.new)) }
         ensures room { waits.new ≡ true → length (posted_of worker.new) < 2 ^ 56 }
+        ensures once { length (posted_of worker.new) + cond waits.new 1 0 ≤ length (posted_of worker.old) + cond waits.old 1 0 }
     {
         for _ in rt.forever() {
             if let Some(ran) = self.round(rt, worker, most_ms, until, waits) {
@@ -85,6 +99,7 @@ impl<
         ensures goes { IfNone result (Round ⟦<Self as Means>⟧.m most_ms until (known_by worker.old) (poster_view (poster_of worker.old)) (known_by worker.new) (poster_view (poster_of worker.new))) }
         ensures ends { IfSome result (λ ran. EndsRun ⟦<Self as Means>⟧.m most_ms (known_by worker.old) (poster_view (poster_of worker.old)) ran (known_by worker.new) (poster_view (poster_of worker.new))) }
         ensures room { waits.new ≡ true → length (posted_of worker.new) < 2 ^ 56 }
+        ensures once { length (posted_of worker.new) + cond waits.new 1 0 ≤ length (posted_of worker.old) + cond waits.old 1 0 }
     {
         match self.lead(rt, worker, most_ms) {
             Led::Job(job) => {
@@ -118,6 +133,7 @@ impl<
         ensures posts { MayPost until settled (poster_view (poster_of worker.old)) (poster_view (poster_of worker.new)) }
         ensures pass { known_by worker.new ≡ known_by worker.old }
         ensures room { waits.new ≡ true → length (posted_of worker.new) < 2 ^ 56 }
+        ensures once { length (posted_of worker.new) + cond waits.new 1 0 ≤ length (posted_of worker.old) + cond waits.old 1 0 }
     {
         let Some((count, handle)) = until else {
             return;

@@ -1,4 +1,4 @@
-use Rattle.std.proofs.Common.{◌≡◌, ◌<◌, ◌^◌, length, true}
+use Rattle.std.proofs.Common.{◌≡◌, ◌<◌, ◌≤◌, ◌+◌, ◌^◌, cond, length, true}
 use Rattle.notify_ring.specs.Words.{poster_view}
 use Rattle.reactor_state.specs.State.{Shows, HasPlaces, IsPlaced}
 use Rattle.reactor_core.specs.Stands.{meaning}
@@ -17,4 +17,5 @@ invariant-loop g l =
       rounds : SomeRounds (meaning g.H.EventHandler.means g.M.Net.facts g.M.Net.keeps (Shows g.Q.TimerQueue.timers) (HasPlaces g.Q.TimerQueue.spare) IsPlaced g.W.Watch.stands g.W.Watch.faults g.W.Watch.is_broken g.W.Watch.whole g.V.Volumes.facts) l.fn.most_ms l.fn.until
           (known_by l.fn.worker) (poster_view l.fn.worker.poster) (known_by l.worker) (poster_view l.worker.poster);
       room : l.waits ≡ true → length (posted_of l.worker) < 2 ^ 56;
+      once : length (posted_of l.worker) + cond l.waits 1 0 ≤ length (posted_of l.fn.worker) + cond l.fn.waits 1 0;
     }

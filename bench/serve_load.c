@@ -1,0 +1,262 @@
+/* Loads a logging server and checks what it printed.
+
+   serve_load PORT bulk CONNECTIONS RECORDS        connections at once, each of which sends so many records of 100 bytes
+   serve_load PORT short CONNECTIONS               connections of one record each, eight at a time
+   serve_load PORT silent SILENT RECORDS           so many connections that send nothing, and one that sends so many records
+   serve_load PORT hostile STREAMS RECORDS SEED    so many connections that send bytes drawn by the seed, of which some are
+                                                   reset, while one sends so many records
+   serve_load check FILE COUNTxRECORDS..           whether the file has, for each of so many connections, the lines of its
+                                                   records in order and its closing line, each once, and nothing else;
+                                                   COUNTxother stands for connections of which no more is asked than one
+                                                   closing line, their last
+
+   A load prints how many seconds passed from the first connect until the server had closed the last connection. */
+#include <arpa/inet.h>
+#include <pthread.h>
+#include <stdint.h>
+#include <stdio.h>
+#include <stdlib.h>
+#include <string.h>
+#include <sys/resource.h>
+#include <sys/socket.h>
+#include <time.h>
+#include <unistd.h>
+
+enum { MESSAGE = 100, RECORD = 28 + MESSAGE, AT_ONCE = 512, SHORT_THREADS = 8 };
+
+static uint16_t port;
+
+static void stop(const char *why) {
+    fprintf(stderr, "serve_load: %s\n", why);
+    exit(1);
+}
+
+static int dial(void) {
+    struct sockaddr_in address = {.sin_family = AF_INET, .sin_port = htons(port), .sin_addr.s_addr = htonl(INADDR_LOOPBACK)};
+    int s = socket(AF_INET, SOCK_STREAM, 0);
+    if (s < 0 || connect(s, (struct sockaddr *)&address, sizeof address) < 0) stop("connect failed");
+    return s;
+}
+
+/* The message of record number `at` of client number `client`. */
+static void message(char *m, unsigned client, unsigned long at) {
+    char head[32];
+    int n = snprintf(head, sizeof head, "%u:%lu:", client, at);
+    memset(m, 'a' + (int)(at % 26), MESSAGE);
+    memcpy(m, head, (size_t)n);
+}
+
+static void record(unsigned char *r, unsigned client, unsigned long at) {
+    static const unsigned char front[28] = {0, 0, 0, 0, 0, 0, 0, 20 + MESSAGE, 0, 0, 0, 4, 0, 0, 0, 7,
+                                            0, 0, 0, 1, 0, 0, 0, 2, 0, 0, 0, MESSAGE};
+    memcpy(r, front, sizeof front);
+    message((char *)r + sizeof front, client, at);
+}
+
+static void send_all(int s, const unsigned char *bytes, size_t n) {
+    while (n > 0) {
+        ssize_t sent = send(s, bytes, n, MSG_NOSIGNAL);
+        if (sent < 0) stop("send failed");
+        bytes += sent;
+        n -= (size_t)sent;
+    }
+}
+
+static void send_records(int s, unsigned client, unsigned long records) {
+    unsigned char *bytes = malloc(AT_ONCE * RECORD);
+    if (!bytes) stop("out of memory");
+    for (unsigned long at = 0; at < records;) {
+        size_t n = 0;
+        for (; n < AT_ONCE && at < records; n++, at++) record(bytes + n * RECORD, client, at);
+        send_all(s, bytes, n * RECORD);
+    }
+    free(bytes);
+}
+
+/* Ends a connection, behind the server's own end. */
+static void hang_up(int s) {
+    char byte;
+    shutdown(s, SHUT_WR);
+    while (recv(s, &byte, 1, 0) > 0) {}
+    close(s);
+}
+
+struct task {
+    unsigned first, many;
+    unsigned long records;
+};
+
+static void *talk(void *of) {
+    struct task *t = of;
+    for (unsigned client = t->first; client < t->first + t->many; client++) {
+        int s = dial();
+        send_records(s, client, t->records);
+        hang_up(s);
+    }
+    return 0;
+}
+
+static double now(void) {
+    struct timespec t;
+    clock_gettime(CLOCK_MONOTONIC, &t);
+    return (double)t.tv_sec + (double)t.tv_nsec / 1e9;
+}
+
+/* Connections from `first` on, dealt out to so many threads. */
+static void talk_in_threads(unsigned threads, unsigned first, unsigned many, unsigned long records) {
+    pthread_t *started = calloc(threads, sizeof *started);
+    struct task *tasks = calloc(threads, sizeof *tasks);
+    if (!started || !tasks) stop("out of memory");
+    for (unsigned i = 0; i < threads; i++) {
+        unsigned from = first + (unsigned)((uint64_t)many * i / threads), to = first + (unsigned)((uint64_t)many * (i + 1) / threads);
+        tasks[i] = (struct task){.first = from, .many = to - from, .records = records};
+        if (pthread_create(&started[i], 0, talk, &tasks[i])) stop("no thread");
+    }
+    for (unsigned i = 0; i < threads; i++) pthread_join(started[i], 0);
+    free(started);
+    free(tasks);
+}
+
+static void silent(unsigned many, unsigned long records) {
+    int *sockets = calloc(many + 1, sizeof *sockets);
+    if (!sockets) stop("out of memory");
+    for (unsigned i = 0; i < many; i++) sockets[i] = dial();
+    talk_in_threads(1, many, 1, records);
+    for (unsigned i = 0; i < many; i++) hang_up(sockets[i]);
+    free(sockets);
+}
+
+static uint64_t drawn;
+
+/* The next number by the seed (xorshift64). */
+static uint64_t draw(void) {
+    drawn ^= drawn << 13;
+    drawn ^= drawn >> 7;
+    return drawn ^= drawn << 17;
+}
+
+/* A stream of bytes of which a server can expect nothing: one in four begins with a record, and one in three is reset. */
+static void talk_garbage(void) {
+    unsigned char bytes[4096];
+    size_t n = draw() % sizeof bytes;
+    for (size_t i = 0; i < n; i++) bytes[i] = (unsigned char)draw();
+    if (draw() % 4 == 0) record(bytes, 0, 0);
+    if (draw() % 4 == 0) memset(bytes, 0, 7);
+    int s = dial();
+    if (send(s, bytes, n, MSG_NOSIGNAL) >= 0 && draw() % 3 != 0) return hang_up(s);
+    struct linger at_once = {.l_onoff = 1};
+    setsockopt(s, SOL_SOCKET, SO_LINGER, &at_once, sizeof at_once);
+    close(s);
+}
+
+static void hostile(unsigned streams, unsigned long records, uint64_t seed) {
+    pthread_t honest;
+    struct task one = {.first = 1, .many = 1, .records = records};
+    drawn = seed ? seed : 1;
+    if (pthread_create(&honest, 0, talk, &one)) stop("no thread");
+    for (unsigned i = 0; i < streams; i++) talk_garbage();
+    pthread_join(honest, 0);
+}
+
+/* ---- checking */
+
+struct told {
+    long client; /* the number by which its messages name the client, or -1 */
+    unsigned long records;
+    int closed;
+    int other; /* it has a line that no client of the load sends */
+};
+
+static struct told *all;
+static size_t many_told;
+
+static struct told *told(unsigned long number) {
+    if (number >= many_told) {
+        size_t many = 2 * number + 16;
+        all = realloc(all, many * sizeof *all);
+        if (!all) stop("out of memory");
+        for (size_t i = many_told; i < many; i++) all[i] = (struct told){.client = -1};
+        many_told = many;
+    }
+    return &all[number];
+}
+
+/* Whether a line behind the connection's number is that of the client's next record. */
+static int is_next(struct told *t, const char *rest) {
+    static const char front[] = " 1,2 7 LM_DEBUG: ";
+    char wanted[MESSAGE + 64], text[MESSAGE + 1];
+    if (strncmp(rest, front, sizeof front - 1)) return 0;
+    long client = strtol(rest + sizeof front - 1, 0, 10);
+    if (t->client < 0) t->client = client;
+    message(text, (unsigned)t->client, t->records++);
+    text[MESSAGE] = 0;
+    snprintf(wanted, sizeof wanted, "%s%s\n", front, text);
+    return !strcmp(rest, wanted);
+}
+
+static void check_line(const char *line, unsigned long at) {
+    char *rest;
+    unsigned long number = strtoul(line, &rest, 10);
+    struct told *t = told(number);
+    if (rest == line || t->closed) {
+        fprintf(stderr, "serve_load: line %lu is wrong: %s", at, line);
+        exit(1);
+    }
+    if (!strncmp(rest, " closed: ", 9)) {
+        t->closed = 1;
+        t->other |= strcmp(rest, " closed: end\n") != 0;
+    } else if (!t->other) {
+        t->other = !is_next(t, rest);
+    }
+}
+
+static int check(const char *name, char **groups, int many_groups) {
+    FILE *file = fopen(name, "r");
+    char *line = 0;
+    size_t room = 0;
+    unsigned long lines = 0, connections = 0, records = 0, wanted = 0;
+    if (!file) stop("no such file");
+    while (getline(&line, &room, file) > 0) check_line(line, ++lines);
+    for (size_t i = 0; i < many_told; i++) {
+        if (!all[i].closed && (all[i].records || all[i].other)) stop("a connection has no closing line");
+        connections += (unsigned long)all[i].closed;
+        records += all[i].other ? 0 : all[i].records;
+    }
+    for (int g = 0; g < many_groups; g++) {
+        char *end;
+        unsigned long count = strtoul(groups[g], &end, 10), found = 0;
+        int other = !strcmp(end, "xother");
+        if (*end != 'x') stop("a group is COUNTxRECORDS or COUNTxother");
+        for (size_t i = 0; i < many_told; i++)
+            found += all[i].closed && all[i].other == other && (other || all[i].records == strtoul(end + 1, 0, 10));
+        if (other ? found > count : found < count) stop("the numbers of records of the connections are others");
+        wanted += count;
+    }
+    if (connections != wanted) stop("the number of connections is another");
+    for (size_t i = 0; i < many_told; i++)
+        for (size_t j = i + 1; many_told < 5000 && j < many_told; j++)
+            if (!all[i].other && !all[j].other && all[i].client >= 0 && all[i].client == all[j].client) stop("two connections of one client");
+    printf("%lu connections, %lu records: every line stands there once and in order\n", connections, records);
+    return 0;
+}
+
+int main(int argc, char **argv) {
+    struct rlimit files;
+    if (!getrlimit(RLIMIT_NOFILE, &files)) {
+        files.rlim_cur = files.rlim_max;
+        setrlimit(RLIMIT_NOFILE, &files);
+    }
+    if (argc >= 4 && !strcmp(argv[1], "check")) return check(argv[2], argv + 3, argc - 3);
+    if (argc < 4) stop("usage: serve_load PORT bulk|short|silent|hostile .. or serve_load check FILE ..");
+    port = (uint16_t)atoi(argv[1]);
+    unsigned many = (unsigned)atoi(argv[3]);
+    unsigned long records = argc > 4 ? strtoul(argv[4], 0, 10) : 1;
+    double start = now();
+    if (!strcmp(argv[2], "bulk")) talk_in_threads(many, 0, many, records);
+    else if (!strcmp(argv[2], "short")) talk_in_threads(SHORT_THREADS, 0, many, 1);
+    else if (!strcmp(argv[2], "silent")) silent(many, records);
+    else if (!strcmp(argv[2], "hostile")) hostile(many, records, argc > 5 ? strtoull(argv[5], 0, 10) : 1);
+    else stop("bulk, short, silent or hostile");
+    printf("%.3f\n", now() - start);
+    return 0;
+}

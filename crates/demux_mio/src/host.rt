@@ -1,0 +1,116 @@
+//! What makes nets and listeners of sockets.
+ghost use Rattle.std.specs.Prelude.{◌≡◌};
+
+use crate::net::WAKER;
+use crate::shared::{Shared, Sharing};
+use crate::socket::Socket;
+use crate::{MioEnd, MioNet};
+use ev_base::{Host, ListenRefused, Wake};
+use mio::net::TcpListener;
+use mio::{Poll, Waker};
+use std::alloc::Global;
+use std::io;
+use std::net::{Ipv4Addr, Net as Sockets, SocketAddr};
+use std::sync::Arc;
+use std::time::{Clock, Instant};
+
+/// What wakes a waiting net. Any thread may call it.
+#[derive(Drop)]
+pub struct MioWake {
+    shared: Sharing,
+}
+
+impl Wake for MioWake {
+    fn wake(&self) {
+        self.shared.wake();
+    }
+}
+
+/// A host of sockets on 127.0.0.1. It keeps the runtime, of which sockets and the clock are asked.
+#[derive(Drop)]
+pub struct MioHost<R> {
+    rt: R,
+    faults: u64,
+}
+
+/// What the system gave for a listener.
+#[derive(Drop)]
+struct Opened {
+    poll: Poll,
+    listener: TcpListener,
+    shared: Shared,
+    start: Instant,
+}
+
+impl<R: Sockets + Clock + Copy> MioHost<R> {
+    ghost use Rattle.demux_mio.specs.Hosts.{mio_host_faults};
+
+    /// A host that made no call.
+    pub fn new(rt: R) -> MioHost<R>
+        ensures { mio_host_faults result ≡ 0 }
+    {
+        MioHost { rt, faults: 0 }
+    }
+
+    /// Asks the system for all that a listener wants.
+    fn open(&self, port: u16) -> io::Result<Opened> {
+        let poll = Poll::new(&self.rt)?;
+        let waker = Waker::new(poll.registry(), WAKER)?;
+        let shared = Shared::new(poll.registry().try_clone()?, waker);
+        let address = SocketAddr::from((Ipv4Addr::LOCALHOST, port));
+        let listener = TcpListener::bind(&self.rt, address)?;
+        let start = Instant::now(&self.rt)?;
+        Ok(Opened {
+            poll,
+            listener,
+            shared,
+            start,
+        })
+    }
+}
+
+impl<R: Sockets + Clock + Copy> Host for MioHost<R> {
+    ghost use Rattle.ev_base.specs.Host.{LeavesHostOpen};
+    ghost use Rattle.demux_mio.specs.Hosts.{mio_host_faults, mio_host_keeps};
+
+    type End = MioEnd;
+
+    type Net = MioNet<R>;
+
+    type Waker = MioWake;
+
+    ghost faults = { mio_host_faults };
+
+    ghost keeps = { mio_host_keeps };
+
+    fn listen(
+        &mut self,
+        alloc: Global,
+        port: u16,
+    ) -> Result<(MioNet<R>, MioEnd, MioWake), ListenRefused> {
+        let Ok(opened) = self.open(port) else {
+            self.faults = self.faults.saturating_add(1);
+            return Err(ListenRefused::Failed);
+        };
+        let Opened {
+            poll,
+            listener,
+            shared,
+            start,
+        } = opened;
+        let Ok(shared) = Arc::new(alloc, shared) else {
+            return Err(ListenRefused::NoMemory);
+        };
+        let Ok(theirs) = Arc::try_clone(&shared) else {
+            return Err(ListenRefused::NoMemory);
+        };
+        let Ok(net) = MioNet::new(self.rt, alloc, poll, shared, start) else {
+            return Err(ListenRefused::NoMemory);
+        };
+        let end = MioEnd::new(Socket::listening(listener), true);
+        let waker = MioWake { shared: theirs };
+        Ok((net, end, waker))
+    }
+
+    ghost keeps_open = { λ t host leaves. leaves.offers };
+}

@@ -1,0 +1,278 @@
+//! The demultiplexer of sockets.
+ghost use Rattle.std.specs.Prelude.{◌≡◌, ◌≤◌, ◌<◌, ◌+◌, ◌∷◌, ◌^◌, [], ℕ, true, None, length, All, Contains, IfOk, OnErr, OnOk};
+
+use crate::MioEnd;
+use crate::readiness::Readiness;
+use crate::shared::Sharing;
+use crate::socket::Place;
+use crate::watching::Watching;
+use ev_base::{Net, PeerEnd, Report, Waited};
+use ev_types::{Handle, Mask, NetFailed, NoMemory};
+use mio::{Events, Poll, Token};
+use std::alloc::Global;
+use std::io;
+use std::sync::Arc;
+use std::time::{Clock, Duration, Instant};
+
+/// How many events a wait takes from the system at most: each gives two reports at most.
+const MOST_EVENTS: usize = 128;
+
+/// How many reports a wait has room for.
+const MOST_REPORTS: usize = 256;
+
+/// The last moment.
+const LAST_MOMENT: u64 = 1 << 62;
+
+/// After how many milliseconds an accept that failed is tried again.
+const RETRY: u64 = 100;
+
+/// The token of the waker.
+pub(crate) const WAKER: Token = Token(usize::MAX);
+
+/// A demultiplexer of sockets. Its moments are milliseconds since the host listened. Only `reserve` and `attach` take memory.
+#[derive(Drop)]
+pub struct MioNet<R> {
+    rt: R,
+    alloc: Global,
+    poll: Poll,
+    events: Events,
+    shared: Sharing,
+    start: Instant,
+    last: u64,
+    // When the listeners are tried again.
+    retry: Option<u64>,
+    watching: Watching,
+    spare: usize,
+    reports: Vec<Report>,
+    failed_waits: u64,
+    failed_attaches: u64,
+    ghost bounded: { last ≤ 2 ^ 62 },
+}
+
+impl<R: Clock + Copy> MioNet<R> {
+    ghost use Rattle.ev_base.specs.Net.{IsNew, Attaches};
+    ghost use Rattle.demux_mio.specs.Asked.{attached_in};
+    ghost use Rattle.demux_mio.specs.Nets.{mio_net_facts, asked_of};
+    ghost use Rattle.demux_mio.specs.Ends.{mio_end_facts};
+
+    /// A net that has made no call, over this poll.
+    pub(crate) fn new(
+        rt: R,
+        alloc: Global,
+        poll: Poll,
+        shared: Sharing,
+        start: Instant,
+    ) -> Result<MioNet<R>, NoMemory>
+        ensures { IfOk result (λ net. IsNew (mio_net_facts net)) }
+    {
+        Ok(MioNet {
+            rt,
+            alloc,
+            poll,
+            events: Events::with_capacity(alloc, MOST_EVENTS)?,
+            shared,
+            start,
+            last: 0,
+            retry: None,
+            watching: Watching::new(alloc),
+            spare: 0,
+            reports: Vec::with_capacity(alloc, MOST_REPORTS)?,
+            failed_waits: 0,
+            failed_attaches: 0,
+        })
+    }
+
+    /// The present moment: that of the clock, but not below the last one.
+    fn moment(&self) -> u64
+        ensures later { self.now.last ≤ result }
+        ensures bounded { result ≤ 2 ^ 62 }
+    {
+        match self.start.elapsed(&self.rt) {
+            Ok(elapsed) => (elapsed.as_millis().min(LAST_MOMENT as u128) as u64).max(self.last),
+            Err(_) => self.last,
+        }
+    }
+
+    /// How long to wait at most, where the caller names a limit or none.
+    fn limit(&self, most_ms: Option<u64>) -> Option<Duration> {
+        if self.watching.is_owing() {
+            return Some(Duration::ZERO);
+        }
+        let until_retry = self.retry.map(|retry| retry.saturating_sub(self.last));
+        match (until_retry, most_ms) {
+            (Some(first), Some(most)) => Some(Duration::from_millis(first.min(most))),
+            (Some(limit), None) | (None, Some(limit)) => Some(Duration::from_millis(limit)),
+            (None, None) => None,
+        }
+    }
+
+    /// Waits at the system, but not where somebody woke the net.
+    fn wait_for_events(&mut self, limit: Option<Duration>) -> io::Result<()>
+        ensures facts { mio_net_facts self.new ≡ mio_net_facts self.old }
+        ensures asked { asked_of self.new ≡ asked_of self.old }
+    {
+        let limit = if self.shared.begin_wait() {
+            limit
+        } else {
+            Some(Duration::ZERO)
+        };
+        let outcome = self.poll.poll(&mut self.events, limit);
+        self.shared.end_wait();
+        outcome
+    }
+
+    /// Notes when the listeners are tried again, where an accept failed.
+    fn note_failed_accepts(&mut self)
+        ensures facts { mio_net_facts self.new ≡ mio_net_facts self.old }
+        ensures asked { asked_of self.new ≡ asked_of self.old }
+    {
+        if self.shared.take_failed_accept() {
+            self.retry = Some(self.last.saturating_add(RETRY));
+        }
+    }
+
+    /// Has the listeners tried again once it is time.
+    fn retry_listeners(&mut self)
+        ensures facts { mio_net_facts self.new ≡ mio_net_facts self.old }
+        ensures asked { asked_of self.new ≡ asked_of self.old }
+    {
+        match self.retry {
+            Some(retry) if retry <= self.last => {
+                self.retry = None;
+                self.watching.owe_listeners();
+            }
+            _ => {}
+        }
+    }
+
+    /// Watches an end.
+    fn watch(&mut self, end: &mut MioEnd, handle: Handle, mask: Mask) -> Result<(), NetFailed>
+        ensures end { mio_end_facts end.new ≡ mio_end_facts end.old }
+        ensures ok { OnOk result (asked_of self.new ≡ Attaches handle.0 mask None ∷ asked_of self.old) }
+        ensures err { OnErr result (asked_of self.new ≡ asked_of self.old) }
+        ensures rest { mio_net_facts self.new ≡ record (mio_net_facts self.old) { attached = attached_in (asked_of self.new) } }
+    {
+        let Ok(signs) = Arc::new(self.alloc, Readiness::nothing()) else {
+            return Err(NetFailed);
+        };
+        let Ok(theirs) = Arc::try_clone(&signs) else {
+            return Err(NetFailed);
+        };
+        let Ok(shared) = Arc::try_clone(&self.shared) else {
+            return Err(NetFailed);
+        };
+        let token = Token(handle.0 as usize);
+        let place = Place {
+            shared,
+            token,
+            signs: theirs,
+        };
+        if end.socket.watch(place).is_err() {
+            return Err(NetFailed);
+        }
+        let listens = end.is_listener();
+        if self.watching.add(handle, mask, listens, signs).is_err() {
+            end.socket.unwatch();
+            return Err(NetFailed);
+        }
+        Ok(())
+    }
+}
+
+impl<R: Clock + Copy> Net for MioNet<R> {
+    ghost use Rattle.ev_base.specs.Terms.{Terms, KeepsOn, KeepsOnWith};
+    ghost use Rattle.ev_base.specs.Net.{NetWaits, NetAttaches, SetsMaskOf, RetiresEnd, Attaches, SetsMask, Retires};
+    ghost use Rattle.demux_mio.specs.Nets.{mio_net_facts, mio_net_keeps, asked_of, GivesWanted};
+    ghost use Rattle.demux_mio.specs.Ends.{mio_end_facts, mio_end_keeps};
+
+    type End = MioEnd;
+
+    ghost facts = { mio_net_facts };
+
+    ghost keeps = { mio_net_keeps };
+
+    fn wait(&mut self, most_ms: Option<u64>) -> Waited
+        ensures waits { NetWaits (mio_net_facts self.old) most_ms result (mio_net_facts self.new) }
+        ensures kept { KeepsOn mio_net_keeps self.old self.new }
+        ensures asked { asked_of self.new ≡ asked_of self.old }
+        ensures wanted { GivesWanted result (asked_of self.old) (mio_net_facts self.new).reports }
+    {
+        self.note_failed_accepts();
+        let limit = self.limit(most_ms);
+        if self.wait_for_events(limit).is_err() {
+            self.failed_waits = self.failed_waits.saturating_add(1);
+            return Waited::Failed;
+        }
+        let now = self.moment();
+        self.last = now;
+        self.retry_listeners();
+        self.reports.clear();
+        self.watching.collect(&self.events, &mut self.reports);
+        match self.reports.len() {
+            0 => Waited::Quiet { now },
+            count => Waited::Reports { now, count },
+        }
+    }
+
+    fn report(&self, at: usize) -> Report {
+        self.reports[at]
+    }
+
+    fn reserve(&mut self, n: usize) -> Result<(), NoMemory> {
+        if n > self.spare {
+            self.watching.reserve(n)?;
+            self.spare = n;
+        }
+        Ok(())
+    }
+
+    fn attach(&mut self, end: &mut MioEnd, handle: Handle, mask: Mask) -> Result<(), NetFailed>
+        requires place { 1 ≤ (mio_net_facts self.old).spare }
+        requires absent { Contains (mio_net_facts self.old).attached handle.0 → ⊥ }
+        ensures attaches { NetAttaches (mio_net_facts self.old) handle.0 mask (mio_end_facts end.old).serial result (mio_net_facts self.new) }
+        ensures end { mio_end_facts end.new ≡ mio_end_facts end.old }
+        ensures kept { KeepsOnWith mio_net_keeps mio_end_keeps end.old self.old self.new }
+        ensures end_kept { (t : Terms) → mio_net_keeps t self.old → mio_end_keeps t end.old → mio_end_keeps t end.new }
+        ensures asked { OnOk result (asked_of self.new ≡ Attaches handle.0 mask None ∷ asked_of self.old) }
+        ensures not_asked { OnErr result (asked_of self.new ≡ asked_of self.old) }
+    {
+        match self.watch(end, handle, mask) {
+            Ok(()) => {
+                self.spare -= 1;
+                Ok(())
+            }
+            Err(refused) => {
+                self.failed_attaches = self.failed_attaches.saturating_add(1);
+                Err(refused)
+            }
+        }
+    }
+
+    fn set_mask(&mut self, handle: Handle, mask: Mask)
+        requires { Contains (mio_net_facts self.old).attached handle.0 }
+        ensures sets { SetsMaskOf (mio_net_facts self.old) handle.0 mask (mio_net_facts self.new) }
+        ensures kept { KeepsOn mio_net_keeps self.old self.new }
+        ensures asked { asked_of self.new ≡ SetsMask handle.0 mask ∷ asked_of self.old }
+    {
+        self.watching.set_mask(handle, mask);
+    }
+
+    fn retire(&mut self, handle: Handle, end: MioEnd)
+        requires { Contains (mio_net_facts self.old).attached handle.0 }
+        ensures retires { RetiresEnd (mio_net_facts self.old) handle.0 end (mio_net_facts self.new) }
+        ensures kept { KeepsOnWith mio_net_keeps mio_end_keeps end self.old self.new }
+        ensures asked { asked_of self.new ≡ Retires handle.0 ∷ asked_of self.old }
+    {
+        self.watching.remove(handle);
+        drop(end);
+    }
+
+    fn turn_away(&mut self, end: MioEnd) {
+        drop(end);
+        self.spare -= 1;
+    }
+
+    ghost sound = { λ net steady. cc };
+
+    ghost keeps_groups = { λ t net keeps. tt };
+}

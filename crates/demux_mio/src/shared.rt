@@ -1,0 +1,61 @@
+//! What a net, its ends and its waker share.
+
+use mio::{Registry, Waker};
+use std::alloc::Global;
+use std::sync::Arc;
+use std::sync::atomic::{AtomicBool, Ordering};
+
+/// The set of watched sockets, whether an accept failed since the net looked, and how the net's wait stands.
+#[derive(Drop)]
+pub(crate) struct Shared {
+    pub(crate) registry: Registry,
+    waker: Waker,
+    accept_failed: AtomicBool,
+    waits: AtomicBool,
+    woken: AtomicBool,
+}
+
+/// An owner of it.
+pub(crate) type Sharing = Arc<Shared, Global>;
+
+impl Shared {
+    pub(crate) fn new(registry: Registry, waker: Waker) -> Shared {
+        Shared {
+            registry,
+            waker,
+            accept_failed: AtomicBool::new(false),
+            waits: AtomicBool::new(false),
+            woken: AtomicBool::new(false),
+        }
+    }
+
+    /// An accept failed, as where too many files are open.
+    pub(crate) fn note_failed_accept(&self) {
+        self.accept_failed.store(true, Ordering::SeqCst);
+    }
+
+    /// Whether an accept failed since this was asked last.
+    pub(crate) fn take_failed_accept(&self) -> bool {
+        self.accept_failed.swap(false, Ordering::SeqCst)
+    }
+
+    /// A wait begins. It may last only where nobody woke the net since the last one ended.
+    pub(crate) fn begin_wait(&self) -> bool {
+        self.waits.store(true, Ordering::SeqCst);
+        !self.woken.swap(false, Ordering::SeqCst)
+    }
+
+    /// A wait ends, and with it all that woke it.
+    pub(crate) fn end_wait(&self) {
+        self.waits.store(false, Ordering::SeqCst);
+        self.woken.store(false, Ordering::SeqCst);
+    }
+
+    /// The wait that is under way, or else the next, is not to last. The system is called only where a wait is under way that nobody woke
+    /// yet: a wait that begins meanwhile sees that it is woken, or is seen here to have begun.
+    pub(crate) fn wake(&self) {
+        if !self.woken.swap(true, Ordering::SeqCst) && self.waits.load(Ordering::SeqCst) {
+            let _ = self.waker.wake();
+        }
+    }
+}

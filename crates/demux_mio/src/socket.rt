@@ -1,0 +1,288 @@
+//! A socket, and where it is watched.
+ghost use Rattle.std.specs.Prelude.{◌≡◌, ◌≤◌, ◌<◌, length};
+ghost use Rattle.std.specs.Io.{ReadsAtMost, WritesAtMost};
+ghost use Rattle.demux_mio.specs.Moves.{GotOf, GotWithin, SentOf, SentWithin};
+
+use crate::readiness::Signs;
+use crate::shared::Sharing;
+use ev_base::{Got, Sent};
+use ev_types::Kind;
+use mio::net::{TcpListener, TcpStream};
+use mio::{Interest, Token};
+use std::io;
+use std::io::{ErrorKind, Read, Write};
+
+/// How often an interrupted call, or an accept of a connection that was aborted, is tried again.
+const TRIES: usize = 64;
+
+/// How many reads in a row may give bytes before one pauses.
+const MOST_IN_A_ROW: u32 = 4;
+
+#[derive(Drop)]
+enum Opened {
+    Listener(TcpListener),
+    Stream(TcpStream),
+}
+
+/// Where a socket is watched: by which net, under which token, and what it is ready for.
+#[derive(Drop)]
+pub(crate) struct Place {
+    pub(crate) shared: Sharing,
+    pub(crate) token: Token,
+    pub(crate) signs: Signs,
+}
+
+/// A socket, where it is watched, and how many reads in a row gave bytes.
+#[derive(Drop)]
+pub(crate) struct Socket {
+    opened: Opened,
+    place: Option<Place>,
+    in_a_row: u32,
+    ghost few: { in_a_row ≤ 4 },
+}
+
+/// What an accept of a socket gave.
+#[derive(Drop)]
+pub(crate) enum Accepted {
+    One(Socket),
+    None,
+    Failed,
+}
+
+/// What sockets are watched for.
+fn both_ways() -> Interest {
+    Interest::READABLE | Interest::WRITABLE
+}
+
+impl Socket {
+    pub(crate) fn listening(listener: TcpListener) -> Socket {
+        Socket::new(Opened::Listener(listener))
+    }
+
+    fn new(opened: Opened) -> Socket {
+        Socket {
+            opened,
+            place: None,
+            in_a_row: 0,
+        }
+    }
+
+    /// The port that it is bound to, where the system tells it.
+    pub(crate) fn port(&self) -> Option<u16> {
+        let address = match &self.opened {
+            Opened::Listener(listener) => listener.local_addr(),
+            Opened::Stream(stream) => stream.local_addr(),
+        };
+        match address {
+            Ok(address) => Some(address.port()),
+            Err(_) => None,
+        }
+    }
+
+    /// Begins to watch it.
+    pub(crate) fn watch(&mut self, place: Place) -> io::Result<()> {
+        let registry = &place.shared.registry;
+        match &mut self.opened {
+            Opened::Listener(listener) => registry.register(listener, place.token, both_ways())?,
+            Opened::Stream(stream) => registry.register(stream, place.token, both_ways())?,
+        }
+        self.place = Some(place);
+        Ok(())
+    }
+
+    /// Ends that it is watched, where it was.
+    pub(crate) fn unwatch(&mut self) {
+        if let Some(place) = self.place.take() {
+            let registry = &place.shared.registry;
+            let _ = match &mut self.opened {
+                Opened::Listener(listener) => registry.deregister(listener),
+                Opened::Stream(stream) => registry.deregister(stream),
+            };
+        }
+    }
+
+    /// Has the net report it again at the next wait, if it is ready then, and tells whether it will.
+    fn report_again(&mut self) -> bool
+        ensures { self.new.in_a_row ≡ self.old.in_a_row }
+    {
+        match (&self.place, &mut self.opened) {
+            (Some(place), Opened::Stream(stream)) => place
+                .shared
+                .registry
+                .reregister(stream, place.token, both_ways())
+                .is_ok(),
+            _ => false,
+        }
+    }
+
+    /// A call of this kind is tried, which may pause.
+    fn begin(&self, kind: Kind) {
+        if let Some(place) = &self.place {
+            place.signs.take_back(kind);
+        }
+    }
+
+    /// A call of this kind did not pause.
+    fn go_on(&self, kind: Kind) {
+        if let Some(place) = &self.place {
+            place.signs.note(kind);
+        }
+    }
+
+    /// Reads once. Behind so many reads in a row that gave bytes one pauses, and the net reports the socket again.
+    pub(crate) fn read(&mut self, buf: &mut [u8]) -> Got
+        ensures { GotWithin result buf.new }
+    {
+        if self.ends_row() {
+            return Got::Pause;
+        }
+        self.begin(Kind::Read);
+        let got = read_once(&mut self.opened, buf);
+        self.count(got);
+        if got != Got::Pause {
+            self.go_on(Kind::Read);
+        }
+        got
+    }
+
+    /// Whether the reads in a row are so many that the next pauses. Where nobody would report the socket again none does.
+    fn ends_row(&mut self) -> bool
+        ensures { self.new.in_a_row < 4 }
+    {
+        if self.in_a_row < MOST_IN_A_ROW {
+            return false;
+        }
+        self.in_a_row = 0;
+        self.report_again()
+    }
+
+    /// Counts a read that was not yet in a row of the greatest length.
+    fn count(&mut self, got: Got)
+        requires { self.old.in_a_row < 4 }
+    {
+        self.in_a_row = match got {
+            Got::Bytes(_) => self.in_a_row + 1,
+            _ => 0,
+        };
+    }
+
+    /// Writes once.
+    pub(crate) fn write(&mut self, piece: &[u8]) -> Sent
+        ensures { SentWithin result piece.now }
+    {
+        self.begin(Kind::Write);
+        let sent = write_once(&mut self.opened, piece);
+        if sent != Sent::Pause {
+            self.go_on(Kind::Write);
+        }
+        sent
+    }
+
+    /// Accepts once. The net hears of a failure, and reports the listener again after a while.
+    pub(crate) fn accept(&mut self) -> Accepted {
+        self.begin(Kind::Read);
+        let Opened::Listener(listener) = &self.opened else {
+            return Accepted::Failed;
+        };
+        match accept_again(listener) {
+            Ok(stream) => {
+                self.go_on(Kind::Read);
+                Accepted::One(Socket::new(Opened::Stream(stream)))
+            }
+            Err(error) if error.kind() == ErrorKind::WouldBlock => Accepted::None,
+            Err(_) => {
+                self.go_on(Kind::Read);
+                self.tell_of_failed_accept();
+                Accepted::Failed
+            }
+        }
+    }
+
+    fn tell_of_failed_accept(&self) {
+        if let Some(place) = &self.place {
+            place.shared.note_failed_accept();
+        }
+    }
+}
+
+// A stream alone reads and writes.
+fn read_once(opened: &mut Opened, buf: &mut [u8]) -> Got
+    ensures { GotWithin result buf.new }
+{
+    match opened {
+        Opened::Stream(stream) => got_of(read_again(stream, buf)),
+        Opened::Listener(_) => Got::Failed,
+    }
+}
+
+fn write_once(opened: &mut Opened, piece: &[u8]) -> Sent
+    ensures { SentWithin result piece.now }
+{
+    match opened {
+        Opened::Stream(stream) => sent_of(write_again(stream, piece)),
+        Opened::Listener(_) => Sent::Failed,
+    }
+}
+
+// What a read into a buffer that is not empty came to.
+fn got_of(outcome: io::Result<usize>) -> Got
+    ensures { GotOf outcome result }
+{
+    match outcome {
+        Ok(0) => Got::Over,
+        Ok(count) => Got::Bytes(count),
+        Err(error) if error.kind() == ErrorKind::WouldBlock => Got::Pause,
+        Err(_) => Got::Failed,
+    }
+}
+
+// What a write of a piece that is not empty came to.
+fn sent_of(outcome: io::Result<usize>) -> Sent
+    ensures { SentOf outcome result }
+{
+    match outcome {
+        Ok(0) => Sent::Failed,
+        Ok(count) => Sent::Bytes(count),
+        Err(error) if error.kind() == ErrorKind::WouldBlock => Sent::Pause,
+        Err(_) => Sent::Failed,
+    }
+}
+
+fn read_again(stream: &mut TcpStream, buf: &mut [u8]) -> io::Result<usize>
+    ensures { ReadsAtMost result buf.new }
+{
+    for _ in 1..TRIES {
+        match stream.read(buf) {
+            Err(error) if error.kind() == ErrorKind::Interrupted => {}
+            outcome => return outcome,
+        }
+    }
+    stream.read(buf)
+}
+
+fn write_again(stream: &mut TcpStream, piece: &[u8]) -> io::Result<usize>
+    ensures { WritesAtMost result piece.now }
+{
+    for _ in 1..TRIES {
+        match stream.write(piece) {
+            Err(error) if error.kind() == ErrorKind::Interrupted => {}
+            outcome => return outcome,
+        }
+    }
+    stream.write(piece)
+}
+
+fn is_passing(kind: ErrorKind) -> bool {
+    kind == ErrorKind::Interrupted || kind == ErrorKind::ConnectionAborted
+}
+
+fn accept_again(listener: &TcpListener) -> io::Result<TcpStream> {
+    for _ in 1..TRIES {
+        match listener.accept() {
+            Ok((stream, _)) => return Ok(stream),
+            Err(error) if is_passing(error.kind()) => {}
+            Err(error) => return Err(error),
+        }
+    }
+    Ok(listener.accept()?.0)
+}

@@ -1,0 +1,279 @@
+//! Texts of journals that are read, and texts that are none with their first bad line.
+use ev_base::MemSink;
+use journal_text::{JournalRefused, read_journal, write_journal};
+use log_handler::ServerNote;
+use reactor_model::Journal;
+use std::alloc::Global;
+use std::test::Fail;
+
+/// The worked journals: of one connection; of an acceptor and one connection; of a connection that is refused; of a run that ends by a
+/// notice; of a connection that is idle. Each with the number of its first line.
+const JOURNALS: [(u64, &str); 5] = [
+    (
+        1,
+        "most 1\nopened 0 r--\npolled 0\nready 0 read\nstarted 2\nreturned 2 again piece 0 30 1 4:7:1:2:6869\nstarted 4\nreturned 4 close piece 0 0 0\nclosed 0 end 0 end\npolled 0\nended\n",
+    ),
+    (
+        1001,
+        "most 1001\nopened 0 r--\npolled 0\nready 0 read\nstarted 2\nreturned 2 again accepted 0\nopened 1 r--\nstarted 4\nreturned 4 keep none\npolled 0\nready 1 read\nready 1 read\nstarted 9\nreturned 9 again piece 0 30 1 4:7:1:2:6869\nstarted 10\nreturned 10 keep piece 0 0 0\nstarted 12\nreturned 12 close piece 0 0 0\nclosed 1 end 0 end\npolled 0\nended\nremoved 0\nclosed 0 shut\n",
+    ),
+    (
+        2,
+        "most 2\nopened 0 r--\npolled 0\nready 0 read\nready 0 read\nstarted 2\nreturned 2 again accepted 0\nopened 1 r--\nstarted 3\nreturned 3 keep none\nstarted 5\nreturned 5 again accepted 1\nrefused 2 no end 1 refused\nstarted 10\nreturned 10 keep none\npolled 0\nready 1 read\nstarted 15\nreturned 15 close piece 0 0 0\nclosed 1 end 0 end\npolled 0\nended\nremoved 0\nclosed 0 shut\n",
+    ),
+    (
+        1001,
+        "most 1001\nopened 0 r--\npolled 0\nready 0 read\nstarted 2\nreturned 2 again accepted 0\nopened 1 r--\nstarted 4\nreturned 4 keep none\npolled 0\nready 1 read\nstarted 9\nreturned 9 close piece 0 0 0\nclosed 1 end 0 end\nposted 0 except 0 0\nstarted 13\nreturned 13 keep none\nended\nremoved 0\nclosed 0 shut\n",
+    ),
+    (
+        1001,
+        "most 1001\nopened 0 r--\npolled 0\nready 0 read\nstarted 2\nreturned 2 again accepted 0\nopened 1 r--\nscheduled 0 1 100 100\nstarted 4\nreturned 4 keep none\npolled 100\ndue 0\nready 1 read\nstarted 10\nreturned 10 close piece 0 0 0\nclosed 1 end 0 idle\npolled 100\nended\nremoved 0\nclosed 0 shut\n",
+    ),
+];
+
+/// Texts, each with the number of its first bad line, or 0 where it is a journal's.
+const TEXTS: [(&str, u64); 116] = [
+    ("", 1),
+    ("\n", 1),
+    ("most 1", 1),
+    ("most 1\n", 0),
+    ("most 4097\n", 0),
+    ("most 4098\n", 1),
+    ("most 0\n", 1),
+    ("most 01\n", 1),
+    ("most 1 \n", 1),
+    ("most  1\n", 1),
+    (" most 1\n", 1),
+    ("Most 1\n", 1),
+    ("most x\n", 1),
+    ("most\n", 1),
+    ("most 1 1\n", 1),
+    ("ended\n", 1),
+    ("most 1\nmost 1\n", 2),
+    ("most 1\n\n", 2),
+    ("most 1\nended", 2),
+    ("most 1\nended\n", 0),
+    ("most 1\nended \n", 2),
+    ("most 1\nended 0\n", 2),
+    ("most 1\nended\r\n", 2),
+    ("most 1\nended\n\n", 3),
+    ("most 1\npolled 0\nx\nended\n", 3),
+    ("most 1\nx\ny\n", 2),
+    ("most 1\npolled 18446744073709551615\n", 0),
+    ("most 1\npolled 18446744073709551616\n", 2),
+    ("most 1\npolled 99999999999999999999\n", 2),
+    ("most 1\npolled 00\n", 2),
+    ("most 1\npolled 01\n", 2),
+    ("most 1\npolled +1\n", 2),
+    ("most 1\npolled -1\n", 2),
+    ("most 1\npolled\n", 2),
+    ("most 1\npolled \n", 2),
+    ("most 1\npolled  1\n", 2),
+    ("most 1\npolled 1 2\n", 2),
+    ("most 1\npolled\t1\n", 2),
+    ("most 1\npoll 1\n", 2),
+    ("most 1\nopened 0 rwe\n", 0),
+    ("most 1\nopened 0 ---\n", 0),
+    ("most 1\nopened 0 wr-\n", 2),
+    ("most 1\nopened 0 rw\n", 2),
+    ("most 1\nopened 0 rwe-\n", 2),
+    ("most 1\nopened 0 R--\n", 2),
+    ("most 1\nmasked 0 r-e\n", 0),
+    ("most 1\nready 0 write\n", 0),
+    ("most 1\nready 0 Read\n", 2),
+    ("most 1\nready 0 input\n", 2),
+    ("most 1\nposted 0 except 0 0\n", 0),
+    ("most 1\nposted 0 except 0\n", 2),
+    ("most 1\nstale 7 0 0\n", 0),
+    ("most 1\nstale 7 0\n", 2),
+    ("most 1\nscheduled 0 1 100 0\n", 0),
+    ("most 1\nscheduled 0 1 100\n", 2),
+    ("most 1\ncancelled 3\n", 0),
+    ("most 1\nsuspended 3\n", 0),
+    ("most 1\nresumed 3\n", 0),
+    ("most 1\nremoved 3\n", 0),
+    ("most 1\ndue 3\n", 0),
+    ("most 1\nstarted 3\n", 0),
+    ("most 1\nreturned 0 keep none\n", 0),
+    ("most 1\nreturned 0 keep\n", 2),
+    ("most 1\nreturned 0 keep none none\n", 2),
+    ("most 1\nreturned 0 stay none\n", 2),
+    ("most 1\nreturned 0 keep listenerfailed\n", 0),
+    ("most 1\nreturned 0 keep shut\n", 0),
+    ("most 1\nreturned 0 keep accepted 5\n", 0),
+    ("most 1\nreturned 0 keep accepted\n", 2),
+    ("most 1\nrefused 1 yes shut\n", 0),
+    ("most 1\nrefused 1 true shut\n", 2),
+    ("most 1\nclosed 0 end 0 end\n", 0),
+    ("most 1\nclosed 0 end 0 failed\n", 0),
+    ("most 1\nclosed 0 end 0 nomemory\n", 0),
+    ("most 1\nclosed 0 end 0 no memory\n", 2),
+    ("most 1\nclosed 0 end 0 idle\n", 0),
+    ("most 1\nclosed 0 end 0 stopped\n", 0),
+    ("most 1\nclosed 0 end 0 refused\n", 0),
+    ("most 1\nclosed 0 end 0 partial:1\n", 0),
+    ("most 1\nclosed 0 end 0 malformed:18446744073709551615\n", 0),
+    ("most 1\nclosed 0 end 0 malformed:18446744073709551616\n", 2),
+    ("most 1\nclosed 0 end 0 partial:01\n", 2),
+    ("most 1\nclosed 0 end 0 partial:\n", 2),
+    ("most 1\nclosed 0 end 0 partial\n", 2),
+    ("most 1\nclosed 0 end 0 partial:1:\n", 2),
+    ("most 1\nclosed 0 end 0\n", 2),
+    ("most 1\nreturned 0 keep piece 0 30 1 4:7:1:2:6869\n", 0),
+    ("most 1\nreturned 0 keep piece 0 30 1 4:7:1:2:\n", 0),
+    ("most 1\nreturned 0 keep piece 0 30 0\n", 0),
+    ("most 1\nreturned 0 keep piece 0 30 0 4:7:1:2:\n", 2),
+    ("most 1\nreturned 0 keep piece 0 30 2 4:7:1:2:\n", 2),
+    (
+        "most 1\nreturned 0 keep piece 0 30 2 4:7:1:2: -4:-7:-1:-2:00\n",
+        0,
+    ),
+    ("most 1\nreturned 0 keep piece 0 30 1  4:7:1:2:\n", 2),
+    ("most 1\nreturned 0 keep piece 0 30 1 4:7:1:2: \n", 2),
+    ("most 1\nreturned 0 keep piece 0 30 1 -0:7:1:2:\n", 2),
+    ("most 1\nreturned 0 keep piece 0 30 1 04:7:1:2:\n", 2),
+    ("most 1\nreturned 0 keep piece 0 30 1 4:7:1:-0:\n", 2),
+    ("most 1\nreturned 0 keep piece 0 30 1 -:7:1:2:\n", 2),
+    ("most 1\nreturned 0 keep piece 0 30 1 -04:7:1:2:\n", 2),
+    ("most 1\nreturned 0 keep piece 0 30 1 +4:7:1:2:\n", 2),
+    ("most 1\nreturned 0 keep piece 0 30 1 --4:7:1:2:\n", 2),
+    (
+        "most 1\nreturned 0 keep piece 0 30 1 2147483647:-2147483648:9223372036854775807:2147483647:\n",
+        0,
+    ),
+    (
+        "most 1\nreturned 0 keep piece 0 30 1 4:7:-9223372036854775808:2:\n",
+        0,
+    ),
+    (
+        "most 1\nreturned 0 keep piece 0 30 1 2147483648:7:1:2:\n",
+        2,
+    ),
+    (
+        "most 1\nreturned 0 keep piece 0 30 1 4:-2147483649:1:2:\n",
+        2,
+    ),
+    (
+        "most 1\nreturned 0 keep piece 0 30 1 4:7:9223372036854775808:2:\n",
+        2,
+    ),
+    (
+        "most 1\nreturned 0 keep piece 0 30 1 4:7:-9223372036854775809:2:\n",
+        2,
+    ),
+    (
+        "most 1\nreturned 0 keep piece 0 30 1 4:7:1:2147483648:\n",
+        2,
+    ),
+    ("most 1\nreturned 0 keep piece 0 30 1 4:7:1:2:6\n", 2),
+    ("most 1\nreturned 0 keep piece 0 30 1 4:7:1:2:6A\n", 2),
+    ("most 1\nreturned 0 keep piece 0 30 1 4:7:1:2:6a\n", 0),
+    ("most 1\nreturned 0 keep piece 0 30 1 4:7:1:2:0g\n", 2),
+    (
+        "most 1\nreturned 0 keep piece 0 30 1 4:7:1:2:0123456789abcdef\n",
+        0,
+    ),
+    ("most 1\nreturned 0 keep piece 0 30 1 4:7:1:2\n", 2),
+    ("most 1\nreturned 0 keep piece 0 30 1 4:7:1:2:68:69\n", 2),
+    ("most 1\nreturned 0 keep piece 0 30 1 LM_DEBUG:7:1:2:\n", 2),
+];
+
+/// What a reader answered: the number of the bad line, or 0 for a journal.
+fn bad_line(read: Result<(u64, Journal<ServerNote>), JournalRefused>) -> u64 {
+    match read {
+        Ok(_) => 0,
+        Err(JournalRefused::BadLine { line }) => line,
+        Err(JournalRefused::NoMemory) => u64::MAX,
+    }
+}
+
+/// What is written of the journal that a text spells.
+fn written_again(alloc: Global, text: &[u8]) -> Result<MemSink, Fail> {
+    let (most, journal) = read_journal(alloc, text).map_err(|_| Fail::from("not read"))?;
+    let mut sink = MemSink::new(alloc, 1_024, None).map_err(|_| Fail::from("no room"))?;
+    write_journal(most, &journal, &mut sink).map_err(|_| Fail::from("not written"))?;
+    Ok(sink)
+}
+
+#[test]
+fn journals_are_written_as_they_were_read(rt: HostRuntime) -> Result<(), Fail> {
+    for (_, text) in JOURNALS {
+        let sink = written_again(rt.alloc(), text.as_bytes())?;
+        assert_eq!(rt; sink.bytes(), text.as_bytes());
+    }
+    Ok(())
+}
+
+#[test]
+fn the_first_line_is_told(rt: HostRuntime) -> Result<(), Fail> {
+    for (most, text) in JOURNALS {
+        match read_journal(rt.alloc(), text.as_bytes()) {
+            Ok((read, _)) => assert_eq!(rt; read, most),
+            Err(_) => return Err(Fail::from("not read")),
+        }
+    }
+    Ok(())
+}
+
+/// The number of the last line of a text if it has no line feed, or else 0; an empty text is bad at line 1.
+fn unfinished(text: &[u8]) -> u64 {
+    match text {
+        [.., b'\n'] => 0,
+        _ => text.iter().filter(|byte| **byte == b'\n').count() as u64 + 1,
+    }
+}
+
+#[test]
+fn a_front_is_bad_at_its_unfinished_line(rt: HostRuntime) -> Result<(), Fail> {
+    for (_, text) in JOURNALS {
+        let bytes = text.as_bytes();
+        for at in 0..bytes.len() {
+            let front = &bytes[..at];
+            assert_eq!(rt;
+                bad_line(read_journal(rt.alloc(), front)),
+                unfinished(front)
+            );
+        }
+    }
+    Ok(())
+}
+
+#[test]
+fn the_first_bad_line_is_named(rt: HostRuntime) -> Result<(), Fail> {
+    for (text, line) in TEXTS {
+        assert_eq!(rt;
+            bad_line(read_journal(rt.alloc(), text.as_bytes())),
+            line,
+            "in {text:?}"
+        );
+    }
+    Ok(())
+}
+
+/// A journal with one message of so many digits.
+fn with_digits(alloc: Global, digits: usize) -> Result<Vec<u8>, Fail> {
+    let mut text = Vec::from_slice(alloc, b"most 1\nreturned 0 keep piece 0 0 1 4:7:1:2:")?;
+    for _ in 0..digits {
+        text.push(b'6')?;
+    }
+    text.push(b'\n')?;
+    Ok(text)
+}
+
+#[test]
+fn messages_have_a_limit(rt: HostRuntime) -> Result<(), Fail> {
+    for (digits, line) in [(131_072, 0), (131_073, 2), (131_074, 2)] {
+        let text = with_digits(rt.alloc(), digits)?;
+        assert_eq!(rt; bad_line(read_journal(rt.alloc(), text.as_slice())), line);
+    }
+    Ok(())
+}
+
+#[test]
+fn a_failed_write_leaves_a_front(rt: HostRuntime) -> Result<(), Fail> {
+    let mut sink = MemSink::new(rt.alloc(), 9, None).map_err(|_| Fail::from("no room"))?;
+    let journal: Journal<ServerNote> = Journal::new(rt.alloc());
+    assert!(rt; write_journal(4_098, &journal, &mut sink).is_err());
+    assert_eq!(rt; sink.bytes(), b"most 4098".as_slice());
+    Ok(())
+}

@@ -1,0 +1,73 @@
+-- That no upcall is on its way behind each call.
+use Rattle.std.proofs.Common.{ℕ, ◌≡◌, Bool, true, false, List, [], ◌∷◌, ◌++◌, sym, ap, ◌∙◌, Option, Some, None}
+use Rattle.std.specs.Prelude.{Result, Ok, Err, OnErr, IfOk}
+use Rattle.ev_types.specs.declared.upcall.Handle.{Handle}
+use Rattle.ev_types.specs.declared.upcall.Mask.{Mask}
+use Rattle.ev_base.specs.Terms.{Terms}
+use Rattle.reactor_journal.specs.declared.entry.Entry.{Entry}
+use Rattle.reactor_journal.specs.declared.entry.Entry.TheVariants.{Ended}
+use Rattle.reactor_summary.specs.Summary.{Summary, step}
+use Rattle.reactor_core.specs.Stands.{Meaning, Stands, StandsAsBefore}
+use Rattle.reactor_core.specs.Polling.{FitsLimit, Polls}
+use Rattle.reactor_core.specs.declared.polling.Polled.{Polled}
+use Rattle.reactor_core.specs.Offering.{RegisterGives}
+use Rattle.reactor_core.specs.Registering.{registered}
+use Rattle.reactor_core.specs.Removing.{StopsOnce}
+use Rattle.reactor_core.specs.declared.registering.RegisterRefused.{RegisterRefused}
+use Rattle.reactor_core.specs.declared.registering.RegisterRefused.TheVariants.{Stopped, Full, NoMemory, NetFailed}
+use Rattle.mio_runs.specs.Idle.{IsIdle, WasStopped}
+use Rattle.reactor_core.specs.declared.reactor.Core.{Core}
+use Rattle.reactor_core.proofs.Over.{none_live}
+use Rattle.mio_runs.proofs.Keeping.{sum, sum_more, Keeps, keeps_removals, keeps_polled, keeps_registered}
+
+pub idle_keeps : {H M Q W V N E : Type 0} {m : Meaning H M Q W V N E} (old new : Core H M Q W V N E) (i : IsIdle m old) (es : List (Entry N)) → Keeps i.history es → Stands m i.terms new i.first (i.history ++ es) → IsIdle m new
+idle_keeps old new i es k st = record { terms = i.terms; limit = i.limit; first = i.first; history = i.history ++ es; stands = st; none_open = k.opens ∙ i.none_open }
+
+pub idle_same : {H M Q W V N E : Type 0} {m : Meaning H M Q W V N E} (old new : Core H M Q W V N E) (i : IsIdle m old) → Stands m i.terms new i.first i.history → IsIdle m new
+idle_same old new i st = record { terms = i.terms; limit = i.limit; first = i.first; history = i.history; stands = st; none_open = i.none_open }
+
+pub registers : {H M Q W V N E : Type 0} {m : Meaning H M Q W V N E} (old new : Core H M Q W V N E) (result : Result Handle (H × RegisterRefused)) (mask : Mask) (timer : Option (ℕ × ℕ)) (i : IsIdle m old)
+    → RegisterGives m i.terms i.first i.history mask timer old result new → IsIdle m new
+registers old new (Ok handle) mask timer i g = idle_keeps old new i (registered (sum i.history) handle mask timer) (keeps_registered i.history (sum i.history) handle mask timer) g.2
+registers old new (Err (back, Stopped)) mask timer i g = idle_same old new i g.1.stands
+registers old new (Err (back, Full l o)) mask timer i g = idle_same old new i g.4.stands
+registers old new (Err (back, NoMemory)) mask timer i g = idle_same old new i g.1.stands
+registers old new (Err (back, NetFailed)) mask timer i g = idle_same old new i g.2.stands
+
+-- a history with no open event that was stopped
+pub record Over {H M Q W V N E : Type 0} (m : Meaning H M Q W V N E) (core : Core H M Q W V N E) : Type 0 where
+  pub idle : IsIdle m core
+  pub ended : (sum idle.history).ended ≡ true
+
+pub stopped : {H M Q W V N E : Type 0} {m : Meaning H M Q W V N E} (old new : Core H M Q W V N E) (i : IsIdle m old) (b : Bool) → (sum i.history).ended ≡ b → StopsOnce m i.terms i.first i.history new b → Over m new
+stopped old new i true q st = record { idle = record { terms = i.terms; limit = i.limit; first = i.first; history = i.history; stands = st; none_open = i.none_open }; ended = q }
+stopped {N = N} old new i false q st =
+    let e : sum (i.history ++ Ended ∷ []) ≡ step {N = N} (sum i.history) Ended = sum_more i.history Ended in
+    let k : Keeps (i.history ++ Ended ∷ []) st.entries = keeps_removals (i.history ++ Ended ∷ []) _ _ st.entries st.removals in
+    record {
+      idle = record { terms = i.terms; limit = i.limit; first = i.first; history = (i.history ++ Ended ∷ []) ++ st.entries; stands = st.stands; none_open = k.opens ∙ (ap (λ (s : Summary). s.opens) e ∙ i.none_open) };
+      ended = k.ended (ap (λ (s : Summary). s.ended) e);
+    }
+
+pub over_stopped : {H M Q W V N E : Type 0} {m : Meaning H M Q W V N E} (core : Core H M Q W V N E) → Over m core → WasStopped m core
+over_stopped core o = (
+  o.idle.terms,
+  o.idle.first,
+  o.idle.history,
+  o.idle.stands,
+  record { ended = o.ended; none_live = none_live (sum o.idle.history).handles (sum o.idle.history).opens o.idle.none_open (o.idle.stands.settled.none_alive o.ended) o.idle.stands.settled.none_waits },
+)
+
+-- terms that leave the limit of waits open fit each limit
+pub any_limit : (t : Terms) (most : Option ℕ) → t.limit ≡ None → FitsLimit t most
+any_limit t most none limit is = absurd (not_some (sym none ∙ is))
+  where
+    not_some : {A : Type 0} {a : A} → None ≡ Some a → ⊥
+    not_some q = cc
+
+pub polls : {H M Q W V N E : Type 0} {m : Meaning H M Q W V N E} {X : Type 0} (old new : Core H M Q W V N E) (most : Option ℕ) (result : Result Polled X) (i : IsIdle m old)
+    → IfOk result (λ polled. (t : Terms) (F : ℕ) (h : List (Entry N)) → Stands m t old F h → FitsLimit t most → Polls m t F h most polled old new) → OnErr result (StandsAsBefore m old new) → IsIdle m new
+polls old new most (Ok polled) i ok err =
+    let w = (ok i.terms i.first i.history i.stands (any_limit i.terms most i.limit)).waits in
+    idle_keeps old new i _ (keeps_polled i.history w.now w.timers _) w.stands
+polls old new most (Err x) i ok err = idle_same old new i (err i.terms i.first i.history i.stands)

@@ -1,0 +1,4 @@
+pub mod Keeping
+pub mod Idling
+pub mod Upcalls
+pub mod Begins

@@ -1,0 +1,13 @@
+use Rattle.std.proofs.Common.{None}
+use Rattle.mio_runs.proofs.Idling.{registers}
+use Rattle.mio_runs.proofs.turns.register.Goals as goal
+
+pub register-requires : goal.register-requires
+register-requires g c =
+    let i = c.requires.0 in
+    record { stands = (i.terms, i.first, i.history, i.stands, c.requires.1); timer = tt }
+
+pub returns : goal.returns
+returns g c =
+    let i = c.requires.0 in
+    registers _ _ c.register.result _ None i (c.register.ensures.stands i.terms i.first i.history i.stands c.requires.1)

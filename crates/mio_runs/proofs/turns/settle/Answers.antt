@@ -1,0 +1,10 @@
+use Rattle.mio_runs.proofs.Upcalls.{settles}
+use Rattle.mio_runs.proofs.turns.settle.Goals as goal
+
+pub settle-requires : goal.settle-requires
+settle-requires g c = let i = c.requires in (i.terms, i.first, i.history, i.stands, i.fits)
+
+pub returns : goal.returns
+returns g c =
+    let i = c.requires in
+    settles _ _ _ _ _ i (c.settle.ensures.stands i.terms i.first i.history i.stands i.fits)

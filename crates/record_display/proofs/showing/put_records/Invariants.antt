@@ -1,0 +1,16 @@
+use Rattle.std.proofs.Common.{◌≡◌, length}
+use Rattle.ev_base.specs.Source.{SourceFacts}
+use Rattle.ev_base.specs.Sink.{SinkFacts}
+use Rattle.module_stream.specs.Progress.{Gives}
+use Rattle.record_display.specs.Windows.{rest_of}
+use Rattle.record_display.specs.Shown.{IsShowing}
+use Rattle.record_display.proofs.showing.put_records.Given as goal
+
+abbrev pub invariant-loop-count : goal.invariant-loop-count
+invariant-loop-count g l =
+    ((i : SourceFacts) (first second : Gives) (o : SinkFacts) → IsShowing g.S.Source.facts g.F.Task.gives g.G.Task.gives g.K.Sink.facts i first second o l.fn.window l.fn.pipeline
+    → IsShowing g.S.Source.facts g.F.Task.gives g.G.Task.gives g.K.Sink.facts i first second o l.window l.pipeline)
+    × (l.window.input ≡ l.fn.window.input)
+
+abbrev pub decreases-loop-count : goal.decreases-loop-count
+decreases-loop-count g l = length (rest_of l.window)

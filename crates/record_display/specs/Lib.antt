@@ -1,0 +1,5 @@
+pub mod Windows
+pub mod Pipelines
+pub mod Shown
+pub mod Displays
+pub mod Endings

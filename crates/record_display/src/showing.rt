@@ -1,0 +1,249 @@
+//! The run of the command.
+ghost use Rattle.std.specs.Prelude.{◌≡◌, ◌≤◌, ◌<◌, ◌+◌, true, false, length, OnOk, OnErr, IfOk};
+ghost use Rattle.ev_base.specs.Source.{SourceFacts};
+ghost use Rattle.ev_base.specs.Sink.{SinkFacts};
+ghost use Rattle.sink_buffer.specs.Gathers.{is_broken};
+ghost use Rattle.module_stream.specs.Progress.{Gives};
+ghost use Rattle.bounded_input.specs.Reading.{limit_of};
+ghost use Rattle.record_display.specs.Displays.{Displays};
+ghost use Rattle.record_display.specs.Windows.{rest_of};
+ghost use Rattle.record_display.specs.Endings.{ending_of, format_gives, separate_gives};
+ghost use Rattle.record_display.specs.Shown as S;
+ghost use Rattle.record_display.specs.Shown.{IsShowing, Leaves, Cuts};
+ghost use Rattle.cdr_record.specs.Grammar.{first_of};
+ghost use Rattle.cdr_record.specs.declared.grammar.First.TheVariants as first;
+
+use crate::pipeline::Pipeline;
+use crate::window::{Filled, Window};
+use cdr_record::laws::{decode_cuts, one_is_a_record};
+use cdr_record::{First, first_in};
+use ev_base::{Sink, Source};
+use ev_types::NoMemory;
+use message_block::{Block, Message};
+use module_stream::{FormatTask, SeparateTask, Task, formats_what_spells_a_record};
+use std::alloc::Global;
+use std::sync::Wait;
+use std::thread::Threads;
+
+/// How displaying the records of an input ended. Of several faults it is the one that stands first here.
+#[derive(Clone, Copy, PartialEq, Eq, Debug)]
+pub enum DisplayEnd {
+    /// All records of the input were written, and nothing was left behind them.
+    Done,
+    /// A read failed.
+    ReadFault,
+    /// A write failed, behind which nothing was written.
+    WriteFault,
+    /// There was no memory for a record or its text.
+    NoMemory,
+    /// The record whose first byte has this offset is bad or unfinished.
+    BadRecord {
+        /// The offset in bytes.
+        at: u64,
+    },
+    /// As many bytes as the limit were read, and one more was there.
+    TooLong,
+}
+
+/// What displaying the records of an input leaves.
+#[derive(Drop)]
+pub struct Displayed<S, K> {
+    /// How it ended.
+    pub end: DisplayEnd,
+    /// The source that was handed in.
+    pub input: S,
+    /// The sink that was handed in.
+    pub output: K,
+}
+
+/// Why no more records are read.
+#[derive(Clone, Copy, PartialEq, Eq, Debug)]
+enum Stop {
+    /// The end of the input was found.
+    Over,
+    /// A bad record stands first.
+    Bad,
+    /// A read failed.
+    Failed,
+    /// One byte more than the limit was there.
+    TooLong,
+    /// There was no memory.
+    NoMemory,
+    /// A write failed.
+    Broken,
+}
+
+/// What cutting off the records that are there came to.
+#[derive(Clone, Copy, PartialEq, Eq, Debug)]
+enum Cut {
+    /// More bytes are needed.
+    More,
+    /// A bad record stands first.
+    Bad,
+    /// There was no memory.
+    NoMemory,
+}
+
+/// Writes the text of each record of an input and a line feed, in order, where `limit` bytes of the input are read at most. The bytes of each
+/// record are a message, which goes through a task that formats it and one that ends it with a line feed; both run on threads of
+/// their own, and are finished whatever comes.
+pub fn display<R: Threads + Wait + Copy + Send + 'static, S: Source, K: Sink>(
+    rt: &R,
+    alloc: Global,
+    input: S,
+    output: K,
+    limit: u64,
+) -> Displayed<S, K>
+    ensures { Displays limit (S.facts input) (K.facts output) (S.facts result.input) (K.facts result.output) result.end }
+{
+    let window = Window::new(alloc, input, limit);
+    let format = FormatTask::new(alloc);
+    let separate = SeparateTask::new(alloc);
+    match Pipeline::begin(rt, alloc, format, separate, output) {
+        Ok(pipeline) => run(rt, alloc, window, pipeline),
+        Err((output, _)) => Displayed {
+            end: DisplayEnd::NoMemory,
+            input: window.into_input(),
+            output,
+        },
+    }
+}
+
+/// Shows all records of a window, and ends the tasks.
+fn run<R: Threads + Wait, S: Source, K: Sink>(
+    rt: &R,
+    alloc: Global,
+    window: Window<S>,
+    pipeline: Pipeline<FormatTask, SeparateTask, K>,
+) -> Displayed<S, K>
+    ensures { (i : SourceFacts) (o : SinkFacts) → IsShowing S.facts ⟦<FormatTask as Task>⟧.gives ⟦<SeparateTask as Task>⟧.gives K.facts i format_gives separate_gives o window pipeline
+        → Displays (limit_of window.input) i o (S.facts result.input) (K.facts result.output) result.end }
+{
+    decode_cuts();
+    formats_what_spells_a_record();
+    let (mut window, mut pipeline) = (window, pipeline);
+    let (stop, all) = show(rt, alloc, &mut window, &mut pipeline);
+    let (lines, whole) = pipeline.end(rt, all);
+    let end = ending(
+        stop,
+        lines.is_broken(),
+        whole,
+        window.place(),
+        window.rest().is_empty(),
+    );
+    Displayed {
+        end,
+        input: window.into_input(),
+        output: lines.into_output(),
+    }
+}
+
+/// How it ended, by why no more records were read, whether a write failed, whether all came out of the tasks, how many bytes were cut, and
+/// whether none is left behind them.
+fn ending(stop: Stop, broken: bool, whole: bool, place: u64, none_left: bool) -> DisplayEnd
+    requires { stop ≡ Stop.Broken → broken ≡ true }
+    ensures { result ≡ ending_of stop broken whole place none_left }
+{
+    match stop {
+        Stop::Failed => DisplayEnd::ReadFault,
+        _ if broken => DisplayEnd::WriteFault,
+        _ if !whole => DisplayEnd::NoMemory,
+        Stop::Over if none_left => DisplayEnd::Done,
+        Stop::Over | Stop::Bad => DisplayEnd::BadRecord { at: place },
+        Stop::TooLong => DisplayEnd::TooLong,
+        Stop::NoMemory => DisplayEnd::NoMemory,
+        Stop::Broken => unreachable!(),
+    }
+}
+
+/// Reads an input to its end, and puts the message of each record into a pipeline. It tells why it stopped, and whether every message was
+/// put.
+fn show<R: Wait, S: Source, F: Task + Send + 'static, G: Task + Send + 'static, K: Sink>(
+    rt: &R,
+    alloc: Global,
+    window: &mut Window<S>,
+    pipeline: &mut Pipeline<F, G, K>,
+) -> (Stop, bool)
+    ensures leaves { (i : SourceFacts) (first second : Gives) (o : SinkFacts) → IsShowing S.facts F.gives G.gives K.facts i first second o window.old pipeline.old
+        → Leaves S.facts F.gives G.gives K.facts i first second o result.0 result.1 window.new pipeline.new }
+    ensures limit { limit_of window.new.input ≡ limit_of window.old.input }
+    ensures broken { result.0 ≡ Stop.Broken → is_broken pipeline.new.second.lines ≡ true }
+{
+    loop {
+        match put_records(rt, alloc, window, pipeline) {
+            Cut::More => {}
+            Cut::Bad => return (Stop::Bad, true),
+            Cut::NoMemory => return (Stop::NoMemory, false),
+        }
+        if pipeline.is_broken() {
+            return (Stop::Broken, true);
+        }
+        pipeline.flush();
+        match window.fill() {
+            Filled::More => {}
+            Filled::Over => return (Stop::Over, true),
+            Filled::Failed => return (Stop::Failed, true),
+            Filled::TooLong => return (Stop::TooLong, true),
+            Filled::NoMemory => return (Stop::NoMemory, true),
+        }
+    }
+}
+
+/// Cuts off the records that are there, and puts the message of each into a pipeline.
+fn put_records<R: Wait, S: Source, F: Task + Send + 'static, G: Task + Send + 'static, K: Sink>(
+    rt: &R,
+    alloc: Global,
+    window: &mut Window<S>,
+    pipeline: &mut Pipeline<F, G, K>,
+) -> Cut
+    ensures cuts { (i : SourceFacts) (first second : Gives) (o : SinkFacts) → IsShowing S.facts F.gives G.gives K.facts i first second o window.old pipeline.old
+        → Cuts S.facts F.gives G.gives K.facts i first second o result window.new pipeline.new }
+    ensures input { window.new.input ≡ window.old.input }
+{
+    loop {
+        match first_in(window.rest()) {
+            First::More => return Cut::More,
+            First::Bad(_) => return Cut::Bad,
+            First::One(count) => match put_record(rt, alloc, window, pipeline, count) {
+                Ok(()) => {}
+                Err(NoMemory) => return Cut::NoMemory,
+            },
+        }
+    }
+}
+
+/// Cuts off the record of so many bytes that stands first, and puts its message into a pipeline.
+fn put_record<R: Wait, S: Source, F: Task + Send + 'static, G: Task + Send + 'static, K: Sink>(
+    rt: &R,
+    alloc: Global,
+    window: &mut Window<S>,
+    pipeline: &mut Pipeline<F, G, K>,
+    count: usize,
+) -> Result<(), NoMemory>
+    requires { first_of (rest_of window.old) ≡ first.One count }
+    ensures put { (i : SourceFacts) (first second : Gives) (o : SinkFacts) → IsShowing S.facts F.gives G.gives K.facts i first second o window.old pipeline.old
+        → OnOk result (IsShowing S.facts F.gives G.gives K.facts i first second o window.new pipeline.new) }
+    ensures lost { (i : SourceFacts) (first second : Gives) (o : SinkFacts) → IsShowing S.facts F.gives G.gives K.facts i first second o window.old pipeline.old
+        → OnErr result (Leaves S.facts F.gives G.gives K.facts i first second o Stop.NoMemory false window.new pipeline.new) }
+    ensures input { window.new.input ≡ window.old.input }
+    ensures shorter { OnOk result (length (rest_of window.new) < length (rest_of window.old)) }
+{
+    one_is_a_record();
+    let Ok(message) = message_of(alloc, &window.rest()[..count]) else {
+        return Err(NoMemory);
+    };
+    window.skip(count);
+    pipeline.put(rt, message)
+}
+
+/// The bytes of a record as a message of one block.
+fn message_of(alloc: Global, bytes: &[u8]) -> Result<Message, NoMemory>
+    requires { length bytes.now ≤ 1048576 }
+    ensures { IfOk result (λ message. message ≡ S.message_of bytes.now) }
+{
+    let block = Block::from_vec(Vec::from_slice(alloc, bytes)?);
+    match Message::new(alloc, block, 0) {
+        Ok(message) => Ok(message),
+        Err((_, refused)) => Err(refused),
+    }
+}

@@ -1,0 +1,5 @@
+pub mod Keeping
+pub mod Serving
+pub mod Counting
+pub mod Opening
+pub mod Notices

@@ -1,0 +1,10 @@
+use Rattle.tp_rows.specs.Callers.{IsOutOrFree, SameRank}
+use Rattle.tp_rows.proofs.steps.play.Given as goal
+
+abbrev pub invariant-loop-who : goal.invariant-loop-who
+invariant-loop-who g l = record {
+  first : IsOutOrFree l.fn.pool l.root l.first;
+  second : IsOutOrFree l.fn.pool l.hired l.second;
+  root : SameRank l.fn.root l.root;
+  hired : SameRank l.fn.hired l.hired;
+}
