@@ -110,9 +110,8 @@ fn write_legal<K: Sink>(entries: u64, output: K) -> (AuditEnd, K)
     line.put(b"legal ");
     put_unsigned(&mut line, entries);
     line.put(b"\n");
-    line.flush();
-    if line.is_broken() {
-        return (AuditEnd::WriteFault, line.into_output());
+    match line.finish() {
+        (output, true) => (AuditEnd::Legal, output),
+        (output, false) => (AuditEnd::WriteFault, output),
     }
-    (AuditEnd::Legal, line.into_output())
 }

@@ -1,13 +1,12 @@
 //! A buffer before a sink that is lent.
 ghost use Rattle.std.specs.Prelude.{◌≡◌, ◌≤◌, ◌+◌, ℕ, List, [], ◌++◌, length};
 ghost use Rattle.ev_base.specs.Sink.{SinkFacts};
-ghost use Rattle.sink_buffer.specs.Written.{WritesAll};
 ghost use Rattle.lent_sink.specs.Held.{held_in};
 ghost use Rattle.lent_sink.specs.Lent.{Gathers, Since, HasPut};
 
 use crate::held::{HeldBytes, SIZE};
-use ev_base::{Sink, Wrote};
-use sink_buffer::TextOut;
+use ev_base::Sink;
+use sink_buffer::{TextOut, write_all};
 
 /// What is put into a sink that is lent, gathered in a fixed buffer of 8,192 bytes. It takes no memory. Once a write failed it writes
 /// nothing more.
@@ -105,18 +104,4 @@ impl<K: Sink> TextOut for LentBuffer<'_, K> {
             self.put_first(bytes);
         }
     }
-}
-
-/// Writes all of some bytes, in as many writes as the sink needs, and tells whether none failed.
-fn write_all<K: Sink>(sink: &mut K, bytes: &[u8]) -> bool
-    ensures { WritesAll (K.facts sink.old) bytes.now result (K.facts sink.new) }
-{
-    let mut at = 0;
-    while at < bytes.len() {
-        match sink.write(&bytes[at..]) {
-            Wrote::Bytes(count) => at += count,
-            Wrote::Failed => return false,
-        }
-    }
-    true
 }

@@ -10,7 +10,7 @@ mod note;
 mod peer;
 
 pub use connection::LogConnection;
-pub use line_sink::LineSink;
+pub use line_sink::{LineSink, put_entry_lines};
 pub use log_lines::EndKind;
 pub use logged::LoggedRecords;
 pub use note::ServerNote;

@@ -60,8 +60,9 @@ fn note_of(entry: &Entry<ServerNote>) -> Option<&ServerNote>
     }
 }
 
-/// Puts the lines of an entry.
-fn put_entry<T: TextOut>(out: &mut T, entry: &Entry<ServerNote>)
+/// Puts the lines of an entry's note into what takes texts: those of a piece's records, or the closing line of a connection. Other
+/// entries have none.
+pub fn put_entry_lines<T: TextOut>(out: &mut T, entry: &Entry<ServerNote>)
     ensures { Puts T.stands out.old (entry_lines entry.now) out.new }
 {
     if let Some(note) = note_of(entry) {
@@ -148,7 +149,7 @@ impl<K: Sink> Watch<ServerNote> for LineSink<K> {
         if self.output.is_broken() {
             return;
         }
-        put_entry(&mut self.output, entry);
+        put_entry_lines(&mut self.output, entry);
         if self.output.is_broken() {
             return;
         }

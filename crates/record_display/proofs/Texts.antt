@@ -17,6 +17,7 @@ use Rattle.module_stream.specs.Progress.{Begins}
 use Rattle.record_display.specs.Pipelines.{text_of, HasEnded}
 use Rattle.record_display.specs.Endings.{format_gives, separate_gives}
 use Rattle.record_display.specs.Shown.{IsCut, IsStuck, message_of, shown_line, shown_of}
+use Rattle.sink_buffer.proofs.Gathering.{takes-all}
 use Rattle.record_display.proofs.Records.{decodes-behind, stuck-is-left}
 
 -- what was put into the sink behind the bytes of some messages are those of others
@@ -79,11 +80,6 @@ text-of-run facts o cut rest put w sink formats cuts h e =
     }
 
 -- ---- what the sink below took
-
-takes-all : {K : Type 0} (facts : K → SinkFacts) (o : SinkFacts) (sink : SinkBuffer K) (text : List ℕ) → Gathers facts o sink text → held_of sink ≡ [] → is_broken sink ≡ false → TakesAll o text (facts (output_of sink))
-takes-all facts o sink text g none sound =
-    let h = g.whole sound in
-    subst (λ t. TakesAll o t (facts (output_of sink))) (sym (append-nil h.written) ∙ ap (λ xs. h.written ++ xs) (sym none) ∙ h.all) h.takes
 
 pub text-taken : {K : Type 0} (facts : K → SinkFacts) (o : SinkFacts) (bytes : List ℕ) (all : Type 0) (sink : SinkBuffer K) (t : IsText facts o bytes all sink) → is_broken sink ≡ false → TakesAll o t.text (facts (output_of sink))
 text-taken facts o bytes all sink t sound = takes-all facts o sink t.text t.gathers (t.nothing_held sound) sound

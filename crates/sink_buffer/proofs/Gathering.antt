@@ -86,3 +86,9 @@ stands-more facts old room new put more (Held first front) some text held output
 -- nothing was put
 pub stands-none : {K : Type 0} (facts : K → SinkFacts) (buffer : SinkBuffer K) → (since : Since K) (put : List ℕ) → HasPut facts since buffer put → HasPut facts since buffer (put ++ [])
 stands-none facts buffer since put h = subst (λ (text : List ℕ). HasPut facts since buffer text) (sym (append-nil put)) h
+
+-- where nothing is held back and no write failed, the sink below took all that was put
+pub takes-all : {K : Type 0} (facts : K → SinkFacts) (o : SinkFacts) (sink : SinkBuffer K) (text : List ℕ) → Gathers facts o sink text → held_of sink ≡ [] → is_broken sink ≡ false → TakesAll o text (facts (output_of sink))
+takes-all facts o sink text g none sound =
+    let h = g.whole sound in
+    subst (λ t. TakesAll o t (facts (output_of sink))) (sym (append-nil h.written) ∙ ap (λ xs. h.written ++ xs) (sym none) ∙ h.all) h.takes

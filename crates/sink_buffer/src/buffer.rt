@@ -121,6 +121,16 @@ impl<K: Sink> SinkBuffer<K> {
     {
         self.output
     }
+
+    /// Writes what is held, and gives the sink below, and whether no write failed: then it has the whole text, and else a front of it.
+    pub fn finish(self) -> (K, bool)
+        ensures { (start : SinkFacts) (put : List ℕ) → Gathers K.facts start self put → WritesAll start put result.1 (K.facts result.0) }
+    {
+        let mut buffer = self;
+        buffer.flush();
+        let whole = !buffer.broken;
+        (buffer.output, whole)
+    }
 }
 
 impl<K: Sink> TextOut for SinkBuffer<K> {
@@ -140,8 +150,8 @@ impl<K: Sink> TextOut for SinkBuffer<K> {
     }
 }
 
-/// Writes all of some bytes, in as many writes as the sink needs, and tells whether none failed.
-pub(crate) fn write_all<K: Sink>(output: &mut K, bytes: &[u8]) -> bool
+/// Writes all of some bytes, in as many writes as the sink needs, and tells whether none failed. Behind a failed write nothing is written.
+pub fn write_all<K: Sink>(output: &mut K, bytes: &[u8]) -> bool
     ensures writes { WritesAll (K.facts output.old) bytes.now result (K.facts output.new) }
     ensures idle { length bytes.now ≡ 0 → output.new ≡ output.old }
 {

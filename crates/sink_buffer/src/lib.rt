@@ -7,7 +7,7 @@ mod direct;
 mod short;
 mod text_out;
 
-pub use buffer::SinkBuffer;
+pub use buffer::{SinkBuffer, write_all};
 pub use direct::DirectSink;
 pub use short::ShortText;
 pub use text_out::TextOut;

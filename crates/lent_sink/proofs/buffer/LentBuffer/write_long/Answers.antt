@@ -7,4 +7,4 @@ returns-then-self-clause-text g c = λ start put h. loses_more g.K.Sink.facts st
 
 pub returns-clause-text : goal.returns-clause-text
 returns-clause-text g c = λ start put h.
-    wrote_more g.K.Sink.facts start c.args.self.now _ put c.args.bytes.now c.write_all-done.result c.if-self.false c.write_all-done.ensures c.requires c.requires refl h
+    wrote_more g.K.Sink.facts start c.args.self.now _ put c.args.bytes.now c.write_all-done.result c.if-self.false c.write_all-done.ensures.writes c.requires c.requires refl h
