@@ -104,12 +104,12 @@ pub(crate) fn send<R: Wait>(rt: &R, line: &Line, end: &mut End, waits: &Waits, i
         match line.try_push_as::<Sent>(end, item) {
             Ok(()) => {
                 looks.end(&waits.worker);
-                waits.caller.wake();
+                waits.caller.tell();
                 return;
             }
             Err(back) => {
                 item = back;
-                looks.pause(rt, &waits.worker);
+                looks.pause(rt, &waits.worker, &waits.caller);
             }
         }
     }
@@ -128,10 +128,10 @@ pub(crate) fn receive<R: Wait>(rt: &R, line: &Line, end: &mut End, waits: &Waits
         match line.try_pop_as::<Got>(end) {
             Some(item) => {
                 looks.end(&waits.worker);
-                waits.caller.wake();
+                waits.caller.tell();
                 return item;
             }
-            None => looks.pause(rt, &waits.worker),
+            None => looks.pause(rt, &waits.worker, &waits.caller),
         }
     }
     unreachable!()

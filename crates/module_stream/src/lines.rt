@@ -97,12 +97,12 @@ impl Lines {
             match self.feed.try_push_as::<Sent>(&mut self.puts, item) {
                 Ok(()) => {
                     looks.end(&self.waits.caller);
-                    self.waits.worker.wake();
+                    self.waits.worker.tell();
                     return Ok(());
                 }
                 Err(back) => item = back,
             }
-            looks.pause(rt, &self.waits.caller);
+            looks.pause(rt, &self.waits.caller, &self.waits.worker);
         }
         unreachable!()
     }
@@ -138,7 +138,7 @@ impl Lines {
         match self.came.try_pop_as::<Got>(&mut self.takes) {
             Some(item) => {
                 self.inbox.accept(item);
-                self.waits.worker.wake();
+                self.waits.worker.tell();
                 true
             }
             None => false,
@@ -159,11 +159,11 @@ impl Lines {
                 .is_ok()
             {
                 looks.end(&self.waits.caller);
-                self.waits.worker.wake();
+                self.waits.worker.tell();
                 return;
             }
             if !self.take_one() {
-                looks.pause(rt, &self.waits.caller);
+                looks.pause(rt, &self.waits.caller, &self.waits.worker);
             }
         }
         unreachable!()
@@ -183,7 +183,7 @@ impl Lines {
                 return;
             }
             if !self.take_one() {
-                looks.pause(rt, &self.waits.caller);
+                looks.pause(rt, &self.waits.caller, &self.waits.worker);
             }
         }
         unreachable!()

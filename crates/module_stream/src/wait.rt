@@ -4,6 +4,7 @@ use std::hint::spin_loop;
 use std::sync::Wait;
 use std::sync::atomic::{AtomicU64, Ordering};
 use std::thread::yield_now;
+use std::time::Duration;
 
 /// How often a thread only waits a moment before it looks again: where both run on processors of their own, the next items come
 /// within a microsecond.
@@ -16,33 +17,82 @@ const FIRST_SPINS: u32 = 4;
 /// goes on then. A sleep with its wake takes longer than all these looks.
 const LOOKS: u32 = 32;
 
-/// What a thread sleeps on until another wakes it. One thread waits at it at a time. No contract speaks of it.
+/// How long a thread dozes at most, in microseconds. Then it sleeps until it is woken.
+const DOZE: u64 = 500;
+
+/// How many changes are worth waking a thread that dozes: half a line.
+const WORTH: u64 = 32;
+
+/// The thread looks.
+const AWAKE: u64 = 0;
+
+/// It sleeps for a short time, or is about to.
+const DOZING: u64 = 1;
+
+/// It sleeps until it is woken, or is about to.
+const ASLEEP: u64 = 2;
+
+/// What a thread sleeps on until another wakes it. One thread sleeps at it, and one wakes it. No contract speaks of it.
 pub(crate) struct Parking {
-    /// 1 from when the thread is about to sleep until it is woken, else 0.
-    parked: AtomicU64,
+    state: AtomicU64,
+    /// How many changes the thread was not woken for while it dozes. The one who wakes it counts them.
+    untold: AtomicU64,
 }
 
 impl Parking {
     /// A place at which no thread sleeps.
     fn new() -> Parking {
         Parking {
-            parked: AtomicU64::new(0),
+            state: AtomicU64::new(AWAKE),
+            untold: AtomicU64::new(0),
         }
     }
 
-    /// Wakes the thread that sleeps, if one does. It comes after a change that the thread may wait for. The thread says that it is
-    /// about to sleep before it looks for the last time, so no change is missed.
-    pub(crate) fn wake(&self) {
-        if self.parked.load(Ordering::SeqCst) == 1 {
-            self.parked.store(0, Ordering::SeqCst);
-            self.parked.wake_one();
+    fn state(&self) -> u64 {
+        self.state.load(Ordering::SeqCst)
+    }
+
+    fn set(&self, state: u64) {
+        self.state.store(state, Ordering::SeqCst);
+    }
+
+    /// Comes after a change that the thread may wait for, and wakes it where it sleeps, but where it dozes only for many changes. The thread
+    /// says that it is about to sleep before it looks for the last time, so no change is missed.
+    pub(crate) fn tell(&self) {
+        match self.state() {
+            AWAKE => {}
+            DOZING => {
+                let untold = self.untold.load(Ordering::SeqCst).saturating_add(1);
+                if untold < WORTH {
+                    self.untold.store(untold, Ordering::SeqCst);
+                } else {
+                    self.wake();
+                }
+            }
+            _ => self.wake(),
         }
+    }
+
+    /// Wakes the thread where it dozes and was not told of a change.
+    fn wake_untold(&self) {
+        if self.state() == DOZING && self.untold.load(Ordering::SeqCst) > 0 {
+            self.wake();
+        }
+    }
+
+    fn wake(&self) {
+        self.untold.store(0, Ordering::SeqCst);
+        self.set(AWAKE);
+        self.state.wake_one();
     }
 }
 
 impl Drop for Parking {
     fn drop(self) {
-        let Parking { parked: _ } = self;
+        let Parking {
+            state: _,
+            untold: _,
+        } = self;
     }
 }
 
@@ -75,9 +125,10 @@ impl Looks {
         Looks { made: 0 }
     }
 
-    /// Comes after a look in vain: it waits a moment at first, then it lets other threads run, then it says that the thread is about to
-    /// sleep, and after one more look it sleeps.
-    pub(crate) fn pause<R: Wait>(&mut self, rt: &R, at: &Parking) {
+    /// Comes after a look in vain: it waits a moment at first, then it lets other threads run, then it dozes, and in the end it sleeps. Before
+    /// the last two the thread wakes the other one, for what that was not told of, and after it has said what it is about to do it looks once
+    /// more.
+    pub(crate) fn pause<R: Wait>(&mut self, rt: &R, at: &Parking, other: &Parking) {
         if self.made < SPINS {
             for _ in 0..FIRST_SPINS << self.made {
                 spin_loop();
@@ -86,19 +137,38 @@ impl Looks {
         } else if self.made < LOOKS {
             self.made += 1;
             yield_now();
-        } else if self.made == LOOKS {
-            self.made += 1;
-            at.parked.store(1, Ordering::SeqCst);
         } else {
-            self.made = LOOKS;
-            at.parked.park(rt, 1);
+            self.rest(rt, at, other);
+        }
+    }
+
+    fn rest<R: Wait>(&mut self, rt: &R, at: &Parking, other: &Parking) {
+        match self.made.saturating_sub(LOOKS) {
+            0 => {
+                other.wake_untold();
+                self.made = LOOKS + 1;
+                at.set(DOZING);
+            }
+            1 => {
+                self.made = LOOKS + 2;
+                at.state
+                    .park_timeout(rt, DOZING as u32, Duration::from_micros(DOZE));
+            }
+            2 => {
+                self.made = LOOKS + 3;
+                at.set(ASLEEP);
+            }
+            _ => {
+                self.made = LOOKS;
+                at.state.park(rt, ASLEEP as u32);
+            }
         }
     }
 
     /// Comes after a look that was not in vain.
     pub(crate) fn end(&self, at: &Parking) {
         if self.made > LOOKS {
-            at.parked.store(0, Ordering::SeqCst);
+            at.set(AWAKE);
         }
     }
 }
