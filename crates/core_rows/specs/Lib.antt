@@ -1,4 +1,3 @@
 pub mod Handlers
 pub mod Idle
-pub mod Play
 pub mod RoundRobin

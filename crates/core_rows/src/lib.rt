@@ -2,16 +2,8 @@
 #![tactic(auto)]
 
 mod handler;
-#[cfg(test)]
-mod refusals;
 mod round_robin;
 mod rows;
-#[cfg(test)]
-mod steps;
-#[cfg(test)]
-mod tests;
-#[cfg(test)]
-mod two_upcalls;
 
 pub use handler::Steady;
 pub use round_robin::RoundRobinNet;

@@ -19,12 +19,18 @@ abbrev pub returned_here : {N : Type 0} → List (Entry N) → Option ℕ
 returned_here (Closed handle note ∷ past) = event_returned past
 returned_here past = event_returned past
 
--- a turn was settled just before, and at its upcall it may have asked for this
+-- a `Closed` that stands last is that of this handle
+abbrev pub ClosesOwn : {N : Type 0} → ℕ → List (Entry N) → Type 0
+ClosesOwn x (Closed handle note ∷ past) = handle.0 ≡ x
+ClosesOwn x _ = Unit {0}
+
+-- a turn was settled just before, with the closing of its own handler or none, and at its upcall it may have asked for this
 pub record MayHere {H E N : Type 0} (means : Handling H E N) (t : Terms) (past : List (Entry N)) (deed : Deed) : Type 0 where
   pub number : ℕ
   pub event : Event
   pub returned : returned_here past ≡ Some number
   pub is : event_at past number ≡ Some event
+  pub closes_own : ClosesOwn event.handle past
   pub may : means.may t event.upcall deed
 
 -- the timer of a registration: that of the `Scheduled` directly behind it, at the moment and its delay, or none

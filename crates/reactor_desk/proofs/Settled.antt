@@ -144,7 +144,7 @@ module _ {H E N : Type 0} (means : Handling H E N) (t : Terms) (b : ℕ) (past :
   there = ap is_some is_there
 
   here_returned : (deed : Deed) → means.may t done.upcall deed → MayHere means t (returned done ∷ past) deed
-  here_returned deed may = record { number = done.event; event = record { handle = done.handle.0; upcall = done.upcall }; returned = refl; is = event_at-before (returned done) past done.event there ∙ is_there; may = may }
+  here_returned deed may = record { number = done.event; event = record { handle = done.handle.0; upcall = done.upcall }; returned = refl; is = event_at-before (returned done) past done.event there ∙ is_there; closes_own = tt; may = may }
 
   there_returned : P.is_event (returned done ∷ past) done.event ≡ true
   there_returned = ap is_some (event_at-before (returned done) past done.event there) ∙ there
@@ -155,6 +155,7 @@ module _ {H E N : Type 0} (means : Handling H E N) (t : Terms) (b : ℕ) (past :
     event = record { handle = done.handle.0; upcall = done.upcall };
     returned = refl;
     is = event_at-before (Closed done.handle note) (returned done ∷ past) done.event there_returned ∙ (event_at-before (returned done) past done.event there ∙ is_there);
+    closes_own = refl;
     may = may;
   }
 

@@ -2,9 +2,9 @@
 ghost use Rattle.std.specs.Prelude.{◌≡◌, ◌≤◌, IfOk, length, true};
 ghost use Rattle.demux.specs.PlayNet.{do_not_fall, are_bounded};
 ghost use Rattle.core_rows.specs.Idle.{IsIdle};
-ghost use Rattle.core_rows.specs.Play.{play_rows};
+ghost use Rattle.reactor_rows.specs.Play.{play_rows};
 
-use super::*;
+use core_rows::*;
 use demux::PlayNet;
 use ev_base::Report;
 use ev_types::{Answer, Handle, Kind, Mask};

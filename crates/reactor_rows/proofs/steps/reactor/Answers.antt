@@ -1,6 +1,6 @@
 use Rattle.ev_base.specs.Terms.{open_terms}
 use Rattle.core_rows.proofs.Beginning.{begins, begun}
-use Rattle.core_rows.proofs.steps.reactor.Goals as goal
+use Rattle.reactor_rows.proofs.steps.reactor.Goals as goal
 
 pub new-made-requires-clause-begins : goal.new-made-requires-clause-begins
 new-made-requires-clause-begins c =

@@ -1,6 +1,6 @@
 use Rattle.ev_base.specs.Terms.{open_terms}
 use Rattle.core_rows.proofs.Beginning.{failing_begins, begun}
-use Rattle.core_rows.proofs.refusals.failing.Goals as goal
+use Rattle.reactor_rows.proofs.refusals.failing.Goals as goal
 
 pub new-requires-2-clause-begins : goal.new-requires-2-clause-begins
 new-requires-2-clause-begins c =

@@ -1,6 +1,6 @@
 use Rattle.core_rows.specs.Idle.{IsIdle}
-use Rattle.core_rows.specs.Play.{play_rows}
-use Rattle.core_rows.proofs.steps.play.Given as goal
+use Rattle.reactor_rows.specs.Play.{play_rows}
+use Rattle.reactor_rows.proofs.steps.play.Given as goal
 
 abbrev pub invariant-loop-step : goal.invariant-loop-step
 invariant-loop-step g l = IsIdle play_rows l.core
