@@ -4,7 +4,7 @@ ghost use Rattle.bench_pool.specs.SlowNet.{slow_facts};
 
 use demux::PlayEnd;
 use ev_base::{Net, Report, Waited, Wake};
-use ev_types::{Handle, Kind, Mask, NetFailed, NoMemory};
+use ev_types::{Handle, Mask, NetFailed, NoMemory};
 use std::alloc::Global;
 use std::sync::{Arc, Wait};
 use std::thread::Parker;
@@ -22,6 +22,8 @@ pub struct SlowNet<R> {
     // The latest first.
     attached: Vec<u64>,
     failed_attaches: u64,
+    // What the last wait reported.
+    reports: Vec<Report>,
 }
 
 /// Wakes such a net.
@@ -33,7 +35,7 @@ pub struct SlowWake {
 impl<R: Copy> SlowNet<R> {
     /// One that has made no call, and its waker.
     pub fn new(alloc: Global, rt: &R) -> Result<(SlowNet<R>, SlowWake), NoMemory>
-        ensures { IfOk result (λ made. ((slow_facts made.0).attached ≡ []) × ((slow_facts made.0).failed_attaches ≡ 0)) }
+        ensures { IfOk result (λ made. ((slow_facts made.0).attached ≡ []) × ((slow_facts made.0).failed_attaches ≡ 0) × ((slow_facts made.0).reports ≡ [])) }
     {
         let parker = Arc::new(alloc, Parker::new())?;
         let waker = SlowWake {
@@ -44,6 +46,7 @@ impl<R: Copy> SlowNet<R> {
             parker,
             attached: Vec::new(alloc),
             failed_attaches: 0,
+            reports: Vec::new(alloc),
         };
         Ok((net, waker))
     }
@@ -68,14 +71,12 @@ impl<R: Wait> Net for SlowNet<R> {
         let limit = most_ms.unwrap_or(LONG);
         self.parker
             .park_timeout(&self.rt, Duration::from_millis(limit));
+        self.reports.clear();
         Waited::Quiet { now: 0 }
     }
 
-    fn report(&self, _at: usize) -> Report {
-        Report {
-            handle: Handle(0),
-            kind: Kind::Read,
-        }
+    fn report(&self, at: usize) -> Report {
+        self.reports[at]
     }
 
     fn reserve(&mut self, _n: usize) -> Result<(), NoMemory> {

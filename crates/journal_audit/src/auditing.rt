@@ -110,8 +110,9 @@ fn write_legal<K: Sink>(entries: u64, output: K) -> (AuditEnd, K)
     line.put(b"legal ");
     put_unsigned(&mut line, entries);
     line.put(b"\n");
-    match line.finish() {
-        (output, true) => (AuditEnd::Legal, output),
-        (output, false) => (AuditEnd::WriteFault, output),
+    let (output, whole) = line.finish();
+    if whole {
+        return (AuditEnd::Legal, output);
     }
+    (AuditEnd::WriteFault, output)
 }

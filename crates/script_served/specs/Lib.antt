@@ -1,0 +1,3 @@
+pub mod Terms
+pub mod Served
+pub mod Laws
