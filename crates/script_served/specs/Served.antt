@@ -1,5 +1,5 @@
 -- What a run of the server over a net that plays a script leaves.
-use Rattle.std.specs.Prelude.{◌≡◌, ◌<◌, ℕ, true, false, List, [], ◌∷◌, ◌++◌, Option}
+use Rattle.std.specs.Prelude.{◌≡◌, ℕ, true, false, List, [], ◌∷◌, ◌++◌, Option}
 use Rattle.std.specs.List.{list_any, list_all}
 use Rattle.ev_base.specs.Terms.{Terms}
 use Rattle.ev_base.specs.declared.end.PeerEnd.{Ghosts}
@@ -13,7 +13,7 @@ use Rattle.log_handler.specs.declared.note.ServerNote.{ServerNote}
 use Rattle.acceptor.specs.Servers.{servers, read_alone}
 use Rattle.acceptor.specs.declared.server.ServerHandler.{ServerHandler}
 use Rattle.dispatch_turns.specs.ByTurns.{DispatchedByTurns}
-use Rattle.event_script.specs.Script.{ScriptGroup, steps_of, groups_told, opened}
+use Rattle.event_script.specs.Script.{ScriptGroup, steps_of, groups_told}
 use Rattle.event_script.specs.Grammar.{IsScriptText}
 use Rattle.script_net.specs.NetContent.{NetContent, script_net_facts, script_net_keeps}
 use Rattle.script_net.specs.ScriptEnd.{script_end_facts, ScriptEndKeeps}
