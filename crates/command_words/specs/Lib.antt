@@ -1,0 +1,5 @@
+pub mod Numbers
+pub mod Options
+pub mod Parse
+pub mod Lines
+pub mod Rows

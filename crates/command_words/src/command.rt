@@ -1,0 +1,138 @@
+//! The commands of the program.
+ghost use Rattle.std.specs.Prelude.{◌≡◌, map, IfOk};
+ghost use Rattle.std.specs.String.{string_bytes};
+ghost use Rattle.clap.specs.Words.{found_of, rows_of};
+ghost use Rattle.command_words.specs.Lines.{alone, command_from, command_named, command_of, generate_of, has_dashes, port_of, replay_from, replay_of, serve_from, serve_of};
+
+use crate::Options;
+use crate::number::read_number;
+use crate::options::{Form, read_form, read_options, text_of};
+use crate::parse::{parse_replay, parse_serve};
+use clap::ArgMatches;
+use ev_types::NoMemory;
+use std::alloc::Global;
+
+/// A command of the program, with what its words say.
+#[derive(Clone, Copy, PartialEq, Eq, Debug)]
+pub enum Command {
+    /// `one`: standard input is the input of one connection.
+    One,
+    /// `replay`: standard input is a script.
+    Replay(Options),
+    /// `serve`: connections come from this port, 1 to 65,535.
+    Serve { port: u16, options: Options },
+    /// `display`: standard input is records, which are shown as text.
+    Display,
+    /// `audit`: standard input is a journal, which is checked.
+    Audit,
+    /// `gen`: a script of 1 to 1,000 connections is made from a seed of 0 to 4,294,967,295, and replayed.
+    Generate { connections: u64, seed: u64 },
+}
+
+impl Command {
+    /// The command that these words call, which stand behind the program's name, or `None` where they call none.
+    ///
+    /// The first word is the command's name. Behind `replay` and `serve` stand options, `--name VALUE` or `--name=VALUE`, and flags,
+    /// `--name`, in any order and each at most once; `serve` has a port. Behind `gen` stand the two numbers. A number is
+    /// decimal digits without a sign and without a leading zero. The word `--` is refused everywhere.
+    #[tactic(auto, unfolding(crate::specs::Lines::command_of))]
+    pub fn of(alloc: Global, words: &[String]) -> Result<Option<Command>, NoMemory>
+        ensures { IfOk result (λ command. command ≡ command_of (map string_bytes words.now)) }
+    {
+        if has_dashes(words) {
+            return Ok(None);
+        }
+        match words.split_first() {
+            Some((name, rest)) => named(alloc, name, rest),
+            None => Ok(None),
+        }
+    }
+}
+
+// Whether the word `--` is one of these.
+fn has_dashes(words: &[String]) -> bool
+    ensures { result ≡ has_dashes (map string_bytes words.now) }
+{
+    for word in words {
+        if word.as_str() == "--" {
+            return true;
+        }
+    }
+    false
+}
+
+// The command of this name, with the words behind it.
+fn named(alloc: Global, name: &str, words: &[String]) -> Result<Option<Command>, NoMemory>
+    ensures { IfOk result (λ command. command ≡ command_named name.now (map string_bytes words.now)) }
+{
+    match name {
+        "one" => Ok(alone(Command::One, words)),
+        "replay" => replay(alloc, words),
+        "serve" => serve(alloc, words),
+        "display" => Ok(alone(Command::Display, words)),
+        "audit" => Ok(alone(Command::Audit, words)),
+        "gen" => Ok(generate(words)),
+        _ => Ok(None),
+    }
+}
+
+// A command that takes no words.
+fn alone(command: Command, words: &[String]) -> Option<Command>
+    ensures { result ≡ alone command (map string_bytes words.now) }
+{
+    if words.is_empty() {
+        Some(command)
+    } else {
+        None
+    }
+}
+
+fn replay(alloc: Global, words: &[String]) -> Result<Option<Command>, NoMemory>
+    ensures { IfOk result (λ command. command ≡ replay_of (map string_bytes words.now)) }
+{
+    match parse_replay(alloc, words)? {
+        Some(matches) => Ok(replay_from(&matches)),
+        None => Ok(None),
+    }
+}
+
+fn replay_from(matches: &ArgMatches) -> Option<Command>
+    ensures { result ≡ replay_from (rows_of (found_of matches.now)) }
+{
+    let form = read_form(matches)?;
+    let options = read_options(matches, form)?;
+    Some(Command::Replay(options))
+}
+
+fn serve(alloc: Global, words: &[String]) -> Result<Option<Command>, NoMemory>
+    ensures { IfOk result (λ command. command ≡ serve_of (map string_bytes words.now)) }
+{
+    match parse_serve(alloc, words)? {
+        Some(matches) => Ok(serve_from(&matches)),
+        None => Ok(None),
+    }
+}
+
+fn serve_from(matches: &ArgMatches) -> Option<Command>
+    ensures { result ≡ serve_from (rows_of (found_of matches.now)) }
+{
+    let port = read_number(text_of(matches, "port")?, 1, 65_535)?;
+    let options = read_options(matches, Form::Plain)?;
+    Some(Command::Serve {
+        port: port as u16,
+        options,
+    })
+}
+
+fn generate(words: &[String]) -> Option<Command>
+    ensures { result ≡ generate_of (map string_bytes words.now) }
+{
+    match words {
+        [connections, seed] => {
+            let connections = read_number(connections, 1, 1_000)?;
+            let seed = read_number(seed, 0, 4_294_967_295)?;
+            Some(Command::Generate { connections, seed })
+        }
+        _ => None,
+    }
+}

@@ -1,0 +1,21 @@
+//! Numbers among the words: decimal digits without a sign and without a leading zero.
+ghost use Rattle.std.specs.Prelude.{◌≡◌, ◌≤◌, IfSome};
+ghost use Rattle.command_words.specs.Numbers.{number_in};
+
+use itoa::Buffer;
+
+/// The number that the word writes, where it lies between these.
+pub(crate) fn read_number(word: &str, least: u64, most: u64) -> Option<u64>
+    ensures value { result ≡ number_in least most word.now }
+    ensures within { IfSome result (λ n. n ≤ most) }
+{
+    let Ok(number) = word.parse::<u64>() else {
+        return None;
+    };
+    let mut digits = Buffer::new();
+    if digits.format(number) == word && least <= number && number <= most {
+        Some(number)
+    } else {
+        None
+    }
+}
