@@ -1,5 +1,6 @@
 pub mod Numbers
+pub mod Given
 pub mod Options
-pub mod Parse
 pub mod Lines
+pub mod Parse
 pub mod Rows

@@ -2,44 +2,70 @@
 use Rattle.std.specs.Prelude.{ℕ, Bool, if◌then◌else◌, List, [], ◌∷◌, Option, Some, None, codes}
 use Rattle.std.specs.List.{list_any}
 use Rattle.std.specs.Str.{bytes_eq}
-use Rattle.clap.specs.Words.{Row, Text, first_of}
 use Rattle.command_words.specs.Numbers.{number_in}
+use Rattle.command_words.specs.Given.{Line, Text, given, has_flag, text_of}
 use Rattle.command_words.specs.Options.{◌>>=◌, form_of, options_of}
-use Rattle.command_words.specs.Parse.{are_taken, rows_on, replay_line, serve_line}
 use Rattle.command_words.specs.declared.command.Command.{Command}
 use Rattle.command_words.specs.declared.command.Command.TheVariants.{One, Replay, Serve, Display, Audit, Generate}
+use Rattle.command_words.specs.declared.options.Form.{Form}
 use Rattle.command_words.specs.declared.options.Form.TheVariants.{Plain}
+use Rattle.command_words.specs.declared.options.Options.{Options}
 
 -- a command that takes no words
 abbrev pub alone : Command → List Text → Option Command
 alone command [] = Some command
 alone command (word ∷ rest) = None
 
--- the options of `replay`
-abbrev pub replay_from : List Row → Option Command
-replay_from rows = do
-  form ← form_of rows
-  options ← options_of form rows
+-- ---- commands with options
+
+-- the texts of options by their names
+abbrev pub Texts : Type 0
+Texts = Text → Option Text
+
+-- the options that both commands have
+abbrev pub shared : Texts → Form → Option Options
+shared text form = options_of (text (codes "workers")) (text (codes "most")) (text (codes "idle")) (text (codes "until")) (text (codes "timers")) form
+
+-- `replay`: its options, what they say, and the words that give them
+abbrev pub replay_line : Line
+replay_line = record {
+  valued = codes "workers" ∷ codes "most" ∷ codes "idle" ∷ codes "until" ∷ codes "timers" ∷ [];
+  flags = codes "grouped" ∷ codes "journal" ∷ [];
+}
+
+abbrev pub replay_by : Texts → Option Command
+replay_by text = do
+  form ← form_of (has_flag (text (codes "grouped"))) (has_flag (text (codes "journal")))
+  options ← shared text form
   Some (Replay options)
 
--- the options of `serve`, of which `--port` must be given
+unfoldable pub replay_of : List Text → Option Command
+replay_of words = given replay_line words >>= λ entries. replay_by (text_of entries)
+
+-- `serve` in the same way. It has a port, and writes plain lines
+abbrev pub serve_line : Line
+serve_line = record {
+  valued = codes "workers" ∷ codes "most" ∷ codes "idle" ∷ codes "until" ∷ codes "timers" ∷ codes "port" ∷ [];
+  flags = [];
+}
+
+-- the port, which must be given
 abbrev pub port_of : Option Text → Option ℕ
 port_of None = None
-port_of (Some word) = number_in 1 65535 word
+port_of (Some text) = number_in 1 65535 text
 
-abbrev pub serve_from : List Row → Option Command
-serve_from rows = do
-  port ← port_of (first_of (codes "port") rows)
-  options ← options_of Plain rows
+abbrev pub serve_by : Texts → Option Command
+serve_by text = do
+  port ← port_of (text (codes "port"))
+  options ← shared text Plain
   Some (Serve port options)
 
-abbrev pub replay_of : List Text → Option Command
-replay_of words = if are_taken replay_line words then replay_from (rows_on replay_line words) else None
+unfoldable pub serve_of : List Text → Option Command
+serve_of words = given serve_line words >>= λ entries. serve_by (text_of entries)
 
-abbrev pub serve_of : List Text → Option Command
-serve_of words = if are_taken serve_line words then serve_from (rows_on serve_line words) else None
+-- ---- all commands
 
--- the two numbers of `gen`
+-- `gen` has two numbers
 abbrev pub generate_of : List Text → Option Command
 generate_of (connections ∷ seed ∷ []) = do
   connections ← number_in 1 1000 connections
@@ -58,6 +84,7 @@ command_named name words =
     else if bytes_eq name (codes "gen") then generate_of words
     else None
 
+-- without words no command is called
 abbrev pub command_from : List Text → Option Command
 command_from [] = None
 command_from (name ∷ words) = command_named name words

@@ -1,24 +1,24 @@
--- The words behind `replay` and `serve` as `clap` reads them: options in any order, each at most once.
-use Rattle.std.specs.Prelude.{◌≡◌, true, false, Bool, List, [], ◌∷◌, ◌++◌, codes, Option, Some, None, MatchOption}
-use Rattle.clap.specs.Words.{App, Row, Rule, Text, fault_of, found_of, matches_of, new_rule, rows_of}
+-- How `clap` reads the words behind `replay` and `serve`. Only clauses of this crate's own functions speak of it.
+use Rattle.std.specs.Prelude.{◌≡◌, true, false, Bool, List, [], ◌∷◌, ◌++◌, map, codes, Option, Some, MatchOption}
+use Rattle.clap.specs.Words.{App, Row, Rule, fault_of, first_of, found_of, matches_of, new_rule, rows_of}
 use Rattle.clap.specs.Walk.{is_empty}
 use Rattle.clap.specs.Simple.{new_shape}
 use Rattle.clap.specs.declared.builder.action.ArgAction.TheVariants.{Set, SetTrue}
 use Rattle.clap.specs.declared.parser.matches.ArgMatches.{ArgMatches}
+use Rattle.command_words.specs.Given.{Line, Text}
 
--- an option with one value: `--name VALUE` or `--name=VALUE`
+-- an option with one value, and one without a value
 abbrev pub valued : Text → Rule
 valued name = record (new_rule name) { long = Some name; action = Some Set }
 
--- an option without a value: `--name`
-abbrev pub bare : Text → Rule
-bare name = record (new_rule name) { long = Some name; action = Some SetTrue }
+abbrev pub flag : Text → Rule
+flag name = record (new_rule name) { long = Some name; action = Some SetTrue }
 
--- a command line with these options alone, without help and version
-abbrev pub line_of : Text → List Rule → App
-line_of name rules = record {
+-- the parser of a command with these options alone, without help and version
+abbrev pub parser_of : Text → Line → App
+parser_of name line = record {
   top = record (new_shape name) {
-    rules = rules;
+    rules = map valued line.valued ++ map flag line.flags;
     no_binary_name = true;
     disable_help_flag = true;
     disable_version_flag = true;
@@ -27,28 +27,24 @@ line_of name rules = record {
 }
 
 -- the options that both commands have
-abbrev pub shared : List Rule
-shared = valued (codes "workers")
-    ∷ valued (codes "most")
-    ∷ valued (codes "idle")
-    ∷ valued (codes "until")
-    ∷ valued (codes "timers") ∷ []
+abbrev pub shared_line : Line
+shared_line = record {
+  valued = codes "workers" ∷ codes "most" ∷ codes "idle" ∷ codes "until" ∷ codes "timers" ∷ [];
+  flags = [];
+}
 
-abbrev pub replay_line : App
-replay_line = line_of (codes "replay") (shared ++ bare (codes "grouped") ∷ bare (codes "journal") ∷ [])
-
-abbrev pub serve_line : App
-serve_line = line_of (codes "serve") (shared ++ valued (codes "port") ∷ [])
-
--- the words are options of the line, each at most once and with its value
+-- the parse has no fault
 unfoldable pub are_taken : App → List Text → Bool
-are_taken line words = is_empty (fault_of line words)
+are_taken app words = is_empty (fault_of app words)
 
--- what the words give each option, where the line takes them
+-- what the parse finds
 unfoldable pub rows_on : App → List Text → List Row
-rows_on line words = matches_of line words
+rows_on app words = matches_of app words
 
--- what was parsed is what the words give, and nothing where the line does not take them
 abbrev pub Parses : App → List Text → Option ArgMatches → Type 0
-Parses line words parsed = MatchOption parsed (are_taken line words ≡ false)
-    (λ m. (are_taken line words ≡ true) × (rows_of (found_of m) ≡ rows_on line words))
+Parses app words parsed = MatchOption parsed (are_taken app words ≡ false)
+    (λ matches. (are_taken app words ≡ true) × (rows_of (found_of matches) ≡ rows_on app words))
+
+-- the texts of the options that a parse found
+abbrev pub text_in : ArgMatches → Text → Option Text
+text_in matches name = first_of name (rows_of (found_of matches))

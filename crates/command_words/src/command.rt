@@ -1,11 +1,11 @@
 //! The commands of the program.
-ghost use Rattle.std.specs.Prelude.{◌≡◌, map, IfOk};
+ghost use Rattle.std.specs.Prelude.{◌≡◌, false, map, IfOk};
 ghost use Rattle.std.specs.String.{string_bytes};
-ghost use Rattle.clap.specs.Words.{found_of, rows_of};
-ghost use Rattle.command_words.specs.Lines.{alone, command_from, command_named, command_of, generate_of, has_dashes, port_of, replay_from, replay_of, serve_from, serve_of};
+ghost use Rattle.command_words.specs.Lines.{alone, command_named, command_of, generate_of, has_dashes, replay_by, replay_of, serve_by, serve_of};
+ghost use Rattle.command_words.specs.Parse.{text_in};
 
 use crate::Options;
-use crate::number::read_number;
+use crate::number::{GREATEST_U32, read_number};
 use crate::options::{Form, read_form, read_options, text_of};
 use crate::parse::{parse_replay, parse_serve};
 use clap::ArgMatches;
@@ -15,18 +15,28 @@ use std::alloc::Global;
 /// A command of the program, with what its words say.
 #[derive(Clone, Copy, PartialEq, Eq, Debug)]
 pub enum Command {
-    /// `one`: standard input is the input of one connection.
+    /// `one`: standard input is one connection.
     One,
     /// `replay`: standard input is a script.
     Replay(Options),
-    /// `serve`: connections come from this port, 1 to 65,535.
-    Serve { port: u16, options: Options },
+    /// `serve`: connections come to a port.
+    Serve {
+        /// The port, 1 to 65,535.
+        port: u16,
+        /// How they are served.
+        options: Options,
+    },
     /// `display`: standard input is records, which are shown as text.
     Display,
     /// `audit`: standard input is a journal, which is checked.
     Audit,
-    /// `gen`: a script of 1 to 1,000 connections is made from a seed of 0 to 4,294,967,295, and replayed.
-    Generate { connections: u64, seed: u64 },
+    /// `gen`: a script is generated and run.
+    Generate {
+        /// How many connections it has, 1 to 1,000.
+        connections: u64,
+        /// What it is generated from, 0 to 4,294,967,295.
+        seed: u64,
+    },
 }
 
 impl Command {
@@ -63,6 +73,7 @@ fn has_dashes(words: &[String]) -> bool
 
 // The command of this name, with the words behind it.
 fn named(alloc: Global, name: &str, words: &[String]) -> Result<Option<Command>, NoMemory>
+    requires { has_dashes (map string_bytes words.now) ≡ false }
     ensures { IfOk result (λ command. command ≡ command_named name.now (map string_bytes words.now)) }
 {
     match name {
@@ -88,16 +99,17 @@ fn alone(command: Command, words: &[String]) -> Option<Command>
 }
 
 fn replay(alloc: Global, words: &[String]) -> Result<Option<Command>, NoMemory>
+    requires { has_dashes (map string_bytes words.now) ≡ false }
     ensures { IfOk result (λ command. command ≡ replay_of (map string_bytes words.now)) }
 {
     match parse_replay(alloc, words)? {
-        Some(matches) => Ok(replay_from(&matches)),
+        Some(matches) => Ok(replay_by(&matches)),
         None => Ok(None),
     }
 }
 
-fn replay_from(matches: &ArgMatches) -> Option<Command>
-    ensures { result ≡ replay_from (rows_of (found_of matches.now)) }
+fn replay_by(matches: &ArgMatches) -> Option<Command>
+    ensures { result ≡ replay_by (text_in matches.now) }
 {
     let form = read_form(matches)?;
     let options = read_options(matches, form)?;
@@ -105,16 +117,17 @@ fn replay_from(matches: &ArgMatches) -> Option<Command>
 }
 
 fn serve(alloc: Global, words: &[String]) -> Result<Option<Command>, NoMemory>
+    requires { has_dashes (map string_bytes words.now) ≡ false }
     ensures { IfOk result (λ command. command ≡ serve_of (map string_bytes words.now)) }
 {
     match parse_serve(alloc, words)? {
-        Some(matches) => Ok(serve_from(&matches)),
+        Some(matches) => Ok(serve_by(&matches)),
         None => Ok(None),
     }
 }
 
-fn serve_from(matches: &ArgMatches) -> Option<Command>
-    ensures { result ≡ serve_from (rows_of (found_of matches.now)) }
+fn serve_by(matches: &ArgMatches) -> Option<Command>
+    ensures { result ≡ serve_by (text_in matches.now) }
 {
     let port = read_number(text_of(matches, "port")?, 1, 65_535)?;
     let options = read_options(matches, Form::Plain)?;
@@ -130,7 +143,7 @@ fn generate(words: &[String]) -> Option<Command>
     match words {
         [connections, seed] => {
             let connections = read_number(connections, 1, 1_000)?;
-            let seed = read_number(seed, 0, 4_294_967_295)?;
+            let seed = read_number(seed, 0, GREATEST_U32)?;
             Some(Command::Generate { connections, seed })
         }
         _ => None,

@@ -4,6 +4,9 @@ ghost use Rattle.command_words.specs.Numbers.{number_in};
 
 use itoa::Buffer;
 
+/// The greatest number of 32 bits.
+pub(crate) const GREATEST_U32: u64 = 4_294_967_295;
+
 /// The number that the word writes, where it lies between these.
 pub(crate) fn read_number(word: &str, least: u64, most: u64) -> Option<u64>
     ensures value { result ≡ number_in least most word.now }

@@ -1,10 +1,12 @@
 //! The options of `replay` and `serve`.
 ghost use Rattle.std.specs.Prelude.{◌≡◌, option_map, codes};
-ghost use Rattle.clap.specs.Words.{first_of, found_of, rows_of};
 ghost use Rattle.command_words.specs.Numbers.{number_in};
-ghost use Rattle.command_words.specs.Options.{form_of, is_given, options_of, timers_named, value_if, value_or};
+ghost use Rattle.command_words.specs.Given.{has_flag};
+ghost use Rattle.command_words.specs.Options.{form_of, timers_named, value_if, value_or};
+ghost use Rattle.command_words.specs.Lines.{shared};
+ghost use Rattle.command_words.specs.Parse.{text_in};
 
-use crate::number::read_number;
+use crate::number::{GREATEST_U32, read_number};
 use clap::ArgMatches;
 
 /// The form of what a replay writes.
@@ -46,16 +48,14 @@ pub struct Options {
     pub timers: Timers,
 }
 
-const NUMBERS_OF_32_BITS: u64 = 4_294_967_295;
-
 /// The options that the parse found, for output of this form.
 pub(crate) fn read_options(matches: &ArgMatches, form: Form) -> Option<Options>
-    ensures { result ≡ options_of form (rows_of (found_of matches.now)) }
+    ensures { result ≡ shared (text_in matches.now) form }
 {
     let workers = read_or(matches, "workers", 64, 1)?;
     let most = read_or(matches, "most", 4_096, 1_000)?;
-    let idle = read_if(matches, "idle", NUMBERS_OF_32_BITS)?;
-    let until = read_if(matches, "until", NUMBERS_OF_32_BITS)?;
+    let idle = read_if(matches, "idle", GREATEST_U32)?;
+    let until = read_if(matches, "until", GREATEST_U32)?;
     let timers = read_timers(matches)?;
     Some(Options {
         workers,
@@ -69,7 +69,7 @@ pub(crate) fn read_options(matches: &ArgMatches, form: Form) -> Option<Options>
 
 /// The form of the output, where no two are asked for.
 pub(crate) fn read_form(matches: &ArgMatches) -> Option<Form>
-    ensures { result ≡ form_of (rows_of (found_of matches.now)) }
+    ensures { result ≡ form_of (has_flag (text_in matches.now (codes "grouped"))) (has_flag (text_in matches.now (codes "journal"))) }
 {
     match (has_flag(matches, "grouped"), has_flag(matches, "journal")) {
         (false, false) => Some(Form::Plain),
@@ -81,14 +81,14 @@ pub(crate) fn read_form(matches: &ArgMatches) -> Option<Form>
 
 /// The value of an option, as it is written.
 pub(crate) fn text_of<'a>(matches: &ArgMatches<'a>, name: &str) -> Option<&'a str>
-    ensures { option_map (λ s. s.now) result ≡ first_of name.now (rows_of (found_of matches.now)) }
+    ensures { option_map (λ s. s.now) result ≡ text_in matches.now name.now }
 {
     matches.get_str(name)
 }
 
 // The number from 1 to `most` that an option gives, or this where it is not given.
 fn read_or(matches: &ArgMatches, name: &str, most: u64, default: u64) -> Option<u64>
-    ensures { result ≡ value_or default (number_in 1 most) (first_of name.now (rows_of (found_of matches.now))) }
+    ensures { result ≡ value_or default (number_in 1 most) (text_in matches.now name.now) }
 {
     match text_of(matches, name) {
         Some(word) => read_number(word, 1, most),
@@ -98,7 +98,7 @@ fn read_or(matches: &ArgMatches, name: &str, most: u64, default: u64) -> Option<
 
 // The number from 1 to `most` that an option gives, if it is given.
 fn read_if(matches: &ArgMatches, name: &str, most: u64) -> Option<Option<u64>>
-    ensures { result ≡ value_if (number_in 1 most) (first_of name.now (rows_of (found_of matches.now))) }
+    ensures { result ≡ value_if (number_in 1 most) (text_in matches.now name.now) }
 {
     match text_of(matches, name) {
         Some(word) => read_number(word, 1, most).map(Some),
@@ -107,7 +107,7 @@ fn read_if(matches: &ArgMatches, name: &str, most: u64) -> Option<Option<u64>>
 }
 
 fn read_timers(matches: &ArgMatches) -> Option<Timers>
-    ensures { result ≡ value_or Timers.List timers_named (first_of (codes "timers") (rows_of (found_of matches.now))) }
+    ensures { result ≡ value_or Timers.List timers_named (text_in matches.now (codes "timers")) }
 {
     match text_of(matches, "timers") {
         Some(word) => timers_by_name(word),
@@ -127,7 +127,7 @@ fn timers_by_name(name: &str) -> Option<Timers>
 }
 
 fn has_flag(matches: &ArgMatches, name: &str) -> bool
-    ensures { result ≡ is_given (first_of name.now (rows_of (found_of matches.now))) }
+    ensures { result ≡ has_flag (text_in matches.now name.now) }
 {
     match text_of(matches, name) {
         Some(word) => word == "true",

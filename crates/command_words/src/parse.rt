@@ -1,8 +1,9 @@
 //! The options of `replay` and `serve`, as `clap` reads them.
-ghost use Rattle.std.specs.Prelude.{◌≡◌, true, false, map, IfOk};
+ghost use Rattle.std.specs.Prelude.{◌≡◌, true, false, map, codes, IfOk};
 ghost use Rattle.std.specs.String.{string_bytes};
 ghost use Rattle.clap.specs.Words.{app_of, rule_of, is_simple_and_free};
-ghost use Rattle.command_words.specs.Parse.{Parses, valued, bare, shared, line_of, replay_line, serve_line};
+ghost use Rattle.command_words.specs.Lines.{replay_line, serve_line};
+ghost use Rattle.command_words.specs.Parse.{Parses, flag, parser_of, shared_line, valued};
 
 use clap::error::ErrorKind;
 use clap::{Arg, ArgAction, ArgMatches, Command};
@@ -14,7 +15,7 @@ pub(crate) fn parse_replay(
     alloc: Global,
     words: &[String],
 ) -> Result<Option<ArgMatches<'_>>, NoMemory>
-    ensures { IfOk result (Parses replay_line (map string_bytes words.entry.now)) }
+    ensures { IfOk result (Parses (parser_of (codes "replay") replay_line) (map string_bytes words.entry.now)) }
 {
     parse(replay(alloc)?, words)
 }
@@ -24,7 +25,7 @@ pub(crate) fn parse_serve(
     alloc: Global,
     words: &[String],
 ) -> Result<Option<ArgMatches<'_>>, NoMemory>
-    ensures { IfOk result (Parses serve_line (map string_bytes words.entry.now)) }
+    ensures { IfOk result (Parses (parser_of (codes "serve") serve_line) (map string_bytes words.entry.now)) }
 {
     parse(serve(alloc)?, words)
 }
@@ -44,7 +45,7 @@ fn parse<'a>(command: Command<'a>, words: &'a [String]) -> Result<Option<ArgMatc
 }
 
 fn replay<'a>(alloc: Global) -> Result<Command<'a>, AllocError>
-    ensures { IfOk result (λ command. app_of command ≡ replay_line) }
+    ensures { IfOk result (λ command. app_of command ≡ parser_of (codes "replay") replay_line) }
 {
     plain(alloc, "replay")?
         .arg(flag(alloc, "grouped"))?
@@ -52,14 +53,14 @@ fn replay<'a>(alloc: Global) -> Result<Command<'a>, AllocError>
 }
 
 fn serve<'a>(alloc: Global) -> Result<Command<'a>, AllocError>
-    ensures { IfOk result (λ command. app_of command ≡ serve_line) }
+    ensures { IfOk result (λ command. app_of command ≡ parser_of (codes "serve") serve_line) }
 {
     plain(alloc, "serve")?.arg(option(alloc, "port"))
 }
 
 // A command line with the options that both have.
 fn plain<'a>(alloc: Global, name: &'a str) -> Result<Command<'a>, AllocError>
-    ensures { IfOk result (λ command. app_of command ≡ line_of name.entry.now shared) }
+    ensures { IfOk result (λ command. app_of command ≡ parser_of name.entry.now shared_line) }
 {
     Command::new(alloc, name)
         .no_binary_name(true)
@@ -82,7 +83,7 @@ fn option<'a>(alloc: Global, name: &'a str) -> Arg<'a>
 
 // An option without a value: `--name`.
 fn flag<'a>(alloc: Global, name: &'a str) -> Arg<'a>
-    ensures rule { rule_of result ≡ bare name.entry.now }
+    ensures rule { rule_of result ≡ flag name.entry.now }
     ensures local { result.global ≡ false }
 {
     Arg::new(alloc, name).long(name).action(ArgAction::SetTrue)

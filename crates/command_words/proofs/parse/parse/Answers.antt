@@ -1,5 +1,5 @@
-use Rattle.std.proofs.Common.{ap, arith, ◌∙◌, ◌≡◌, true, false, List, [], ◌∷◌, inl, inr, map, string_bytes}
-use Rattle.clap.specs.Words.{Kinds, HasKind, IsAmong, Text, app_of, fault_of, is_simple, kind_of}
+use Rattle.std.proofs.Common.{ap, arith, ◌∙◌, ◌≡◌, false, List, [], ◌∷◌, inl, inr, map, string_bytes}
+use Rattle.clap.specs.Words.{Kinds, HasKind, Text, app_of, fault_of, is_simple, kind_of}
 use Rattle.clap.specs.Walk.{is_empty}
 use Rattle.clap.specs.declared.error.Error.{Error}
 use Rattle.clap.specs.declared.error.kind.ErrorKind.{ErrorKind}

@@ -1,13 +1,12 @@
 use Rattle.std.proofs.Common.{refl}
 use Rattle.std.specs.Fmt.{digits}
-use Rattle.clap.proofs.OnLiterals.{clap_on_literals}
 use Rattle.command_words.specs.Numbers.{number_in}
-use Rattle.command_words.specs.Parse.{are_taken, rows_on}
-use Rattle.command_words.specs.Lines.{command_of}
+use Rattle.command_words.specs.Given.{given_behind}
+use Rattle.command_words.specs.Lines.{command_of, replay_of, serve_of}
 use Rattle.command_words.proofs.rows.lines_call_commands.Goals as goal
 
 pub returns-clause-first_words : goal.returns-clause-first_words
-unfolding clap_on_literals digits number_in are_taken rows_on command_of
+unfolding digits number_in given_behind replay_of serve_of command_of
 returns-clause-first_words c = record {
   none = refl;
   one = refl;
@@ -26,7 +25,7 @@ returns-clause-first_words c = record {
 }
 
 pub returns-clause-replays : goal.returns-clause-replays
-unfolding clap_on_literals digits number_in are_taken rows_on command_of
+unfolding digits number_in given_behind replay_of serve_of command_of
 returns-clause-replays c = record {
   bare = refl;
   workers = refl;
@@ -71,7 +70,7 @@ returns-clause-replays c = record {
 }
 
 pub returns-clause-serves : goal.returns-clause-serves
-unfolding clap_on_literals digits number_in are_taken rows_on command_of
+unfolding digits number_in given_behind replay_of serve_of command_of
 returns-clause-serves c = record {
   bare = refl;
   port = refl;
@@ -87,7 +86,7 @@ returns-clause-serves c = record {
 }
 
 pub returns-clause-generations : goal.returns-clause-generations
-unfolding clap_on_literals digits number_in are_taken rows_on command_of
+unfolding digits number_in given_behind replay_of serve_of command_of
 returns-clause-generations c = record {
   numbers = refl;
   least = refl;
