@@ -1,7 +1,8 @@
 //! The commands of the program.
-ghost use Rattle.std.specs.Prelude.{◌≡◌, false, map, IfOk};
+ghost use Rattle.std.specs.Prelude.{◌≡◌, false, map, IfOk, IfSome};
 ghost use Rattle.std.specs.String.{string_bytes};
 ghost use Rattle.command_words.specs.Lines.{alone, command_named, command_of, generate_of, has_dashes, replay_by, replay_of, serve_by, serve_of};
+ghost use Rattle.command_words.specs.Ranges.{IsInRange};
 ghost use Rattle.command_words.specs.Parse.{text_in};
 
 use crate::Options;
@@ -47,7 +48,8 @@ impl Command {
     /// decimal digits without a sign and without a leading zero. The word `--` is refused everywhere.
     #[tactic(auto, unfolding(crate::specs::Lines::command_of))]
     pub fn of(alloc: Global, words: &[String]) -> Result<Option<Command>, NoMemory>
-        ensures { IfOk result (λ command. command ≡ command_of (map string_bytes words.now)) }
+        ensures command { IfOk result (λ command. command ≡ command_of (map string_bytes words.now)) }
+        ensures ranges { IfOk result (λ command. IfSome command IsInRange) }
     {
         if has_dashes(words) {
             return Ok(None);
@@ -74,7 +76,8 @@ fn has_dashes(words: &[String]) -> bool
 // The command of this name, with the words behind it.
 fn named(alloc: Global, name: &str, words: &[String]) -> Result<Option<Command>, NoMemory>
     requires { has_dashes (map string_bytes words.now) ≡ false }
-    ensures { IfOk result (λ command. command ≡ command_named name.now (map string_bytes words.now)) }
+    ensures command { IfOk result (λ command. command ≡ command_named name.now (map string_bytes words.now)) }
+    ensures ranges { IfOk result (λ command. IfSome command IsInRange) }
 {
     match name {
         "one" => Ok(alone(Command::One, words)),
@@ -89,7 +92,9 @@ fn named(alloc: Global, name: &str, words: &[String]) -> Result<Option<Command>,
 
 // A command that takes no words.
 fn alone(command: Command, words: &[String]) -> Option<Command>
-    ensures { result ≡ alone command (map string_bytes words.now) }
+    requires { IsInRange command }
+    ensures command { result ≡ alone command (map string_bytes words.now) }
+    ensures ranges { IfSome result IsInRange }
 {
     if words.is_empty() {
         Some(command)
@@ -100,7 +105,8 @@ fn alone(command: Command, words: &[String]) -> Option<Command>
 
 fn replay(alloc: Global, words: &[String]) -> Result<Option<Command>, NoMemory>
     requires { has_dashes (map string_bytes words.now) ≡ false }
-    ensures { IfOk result (λ command. command ≡ replay_of (map string_bytes words.now)) }
+    ensures command { IfOk result (λ command. command ≡ replay_of (map string_bytes words.now)) }
+    ensures ranges { IfOk result (λ command. IfSome command IsInRange) }
 {
     match parse_replay(alloc, words)? {
         Some(matches) => Ok(replay_by(&matches)),
@@ -109,7 +115,8 @@ fn replay(alloc: Global, words: &[String]) -> Result<Option<Command>, NoMemory>
 }
 
 fn replay_by(matches: &ArgMatches) -> Option<Command>
-    ensures { result ≡ replay_by (text_in matches.now) }
+    ensures command { result ≡ replay_by (text_in matches.now) }
+    ensures ranges { IfSome result IsInRange }
 {
     let form = read_form(matches)?;
     let options = read_options(matches, form)?;
@@ -118,7 +125,8 @@ fn replay_by(matches: &ArgMatches) -> Option<Command>
 
 fn serve(alloc: Global, words: &[String]) -> Result<Option<Command>, NoMemory>
     requires { has_dashes (map string_bytes words.now) ≡ false }
-    ensures { IfOk result (λ command. command ≡ serve_of (map string_bytes words.now)) }
+    ensures command { IfOk result (λ command. command ≡ serve_of (map string_bytes words.now)) }
+    ensures ranges { IfOk result (λ command. IfSome command IsInRange) }
 {
     match parse_serve(alloc, words)? {
         Some(matches) => Ok(serve_by(&matches)),
@@ -127,7 +135,8 @@ fn serve(alloc: Global, words: &[String]) -> Result<Option<Command>, NoMemory>
 }
 
 fn serve_by(matches: &ArgMatches) -> Option<Command>
-    ensures { result ≡ serve_by (text_in matches.now) }
+    ensures command { result ≡ serve_by (text_in matches.now) }
+    ensures ranges { IfSome result IsInRange }
 {
     let port = read_number(text_of(matches, "port")?, 1, 65_535)?;
     let options = read_options(matches, Form::Plain)?;
@@ -138,7 +147,8 @@ fn serve_by(matches: &ArgMatches) -> Option<Command>
 }
 
 fn generate(words: &[String]) -> Option<Command>
-    ensures { result ≡ generate_of (map string_bytes words.now) }
+    ensures command { result ≡ generate_of (map string_bytes words.now) }
+    ensures ranges { IfSome result IsInRange }
 {
     match words {
         [connections, seed] => {

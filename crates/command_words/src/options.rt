@@ -1,9 +1,10 @@
 //! The options of `replay` and `serve`.
-ghost use Rattle.std.specs.Prelude.{◌≡◌, option_map, codes};
+ghost use Rattle.std.specs.Prelude.{◌≡◌, ◌≤◌, IfSome, option_map, codes};
 ghost use Rattle.command_words.specs.Numbers.{number_in};
 ghost use Rattle.command_words.specs.Given.{has_flag};
 ghost use Rattle.command_words.specs.Options.{form_of, timers_named, value_if, value_or};
 ghost use Rattle.command_words.specs.Lines.{shared};
+ghost use Rattle.command_words.specs.Ranges.{AreInRange, IsWithin};
 ghost use Rattle.command_words.specs.Parse.{text_in};
 
 use crate::number::{GREATEST_U32, read_number};
@@ -50,7 +51,8 @@ pub struct Options {
 
 /// The options that the parse found, for output of this form.
 pub(crate) fn read_options(matches: &ArgMatches, form: Form) -> Option<Options>
-    ensures { result ≡ shared (text_in matches.now) form }
+    ensures value { result ≡ shared (text_in matches.now) form }
+    ensures ranges { IfSome result AreInRange }
 {
     let workers = read_or(matches, "workers", 64, 1)?;
     let most = read_or(matches, "most", 4_096, 1_000)?;
@@ -88,7 +90,10 @@ pub(crate) fn text_of<'a>(matches: &ArgMatches<'a>, name: &str) -> Option<&'a st
 
 // The number from 1 to `most` that an option gives, or this where it is not given.
 fn read_or(matches: &ArgMatches, name: &str, most: u64, default: u64) -> Option<u64>
-    ensures { result ≡ value_or default (number_in 1 most) (text_in matches.now name.now) }
+    requires least { 1 ≤ default }
+    requires greatest { default ≤ most }
+    ensures value { result ≡ value_or default (number_in 1 most) (text_in matches.now name.now) }
+    ensures within { IfSome result (IsWithin 1 most) }
 {
     match text_of(matches, name) {
         Some(word) => read_number(word, 1, most),
@@ -98,7 +103,8 @@ fn read_or(matches: &ArgMatches, name: &str, most: u64, default: u64) -> Option<
 
 // The number from 1 to `most` that an option gives, if it is given.
 fn read_if(matches: &ArgMatches, name: &str, most: u64) -> Option<Option<u64>>
-    ensures { result ≡ value_if (number_in 1 most) (text_in matches.now name.now) }
+    ensures value { result ≡ value_if (number_in 1 most) (text_in matches.now name.now) }
+    ensures within { IfSome result (λ number. IfSome number (IsWithin 1 most)) }
 {
     match text_of(matches, name) {
         Some(word) => read_number(word, 1, most).map(Some),

@@ -6,13 +6,13 @@ use Rattle.command_words.proofs.Letters.{are_words}
 use Rattle.command_words.proofs.Parsed.{replay_app, replay_refused, replay_taken}
 use Rattle.command_words.proofs.command.replay.Goals as goal
 
-pub returns-in-Some : goal.returns-in-Some
-returns-in-Some c =
+pub returns-in-Some-clause-command : goal.returns-in-Some-clause-command
+returns-in-Some-clause-command c =
     let words : List Text = map string_bytes c.args.words.now in
     let parses = subst (λ (p : Option ArgMatches). Parses replay_app words p) c.in-Some.is c.in_ok-matches.ensures in
-    c.replay_by.ensures ∙ replay_taken words (rows_of (found_of c.in-Some.matches)) (are_words c.args.words.now c.requires) parses.0 parses.1
+    c.replay_by.ensures.command ∙ replay_taken words (rows_of (found_of c.in-Some.matches)) (are_words c.args.words.now c.requires) parses.0 parses.1
 
-pub returns-in-None : goal.returns-in-None
-returns-in-None c =
+pub returns-in-None-clause-command : goal.returns-in-None-clause-command
+returns-in-None-clause-command c =
     let words : List Text = map string_bytes c.args.words.now in
     replay_refused words (are_words c.args.words.now c.requires) (subst (λ (p : Option ArgMatches). Parses replay_app words p) c.in-None.is c.in_ok-matches.ensures)
