@@ -1,0 +1,9 @@
+pub mod Spelled
+pub mod Rules
+pub mod Hyphens
+pub mod Steps
+pub mod Turns
+pub mod Readings
+pub mod Letters
+pub mod Texts
+pub mod Parsed

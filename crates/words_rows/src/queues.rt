@@ -1,0 +1,52 @@
+//! A timer queue of each kind.
+ghost use Rattle.std.specs.Prelude.{◌≡◌, []};
+
+use chosen_timers::ChosenTimers;
+use command_words::Timers;
+use ev_types::Handle;
+use std::process::Abort;
+use std::test::Fail;
+use timer_queue::{Timer, TimerQueue};
+
+#[test]
+fn each_kind_of_queue_gives_the_same(rt: HostRuntime) -> Result<(), Fail> {
+    for kind in [Timers::List, Timers::Heap, Timers::Wheel] {
+        let mut queue = ChosenTimers::new(rt.alloc(), kind)?;
+        leave_in_order(&rt, &mut queue)?;
+    }
+    Ok(())
+}
+
+// The calls are made through the bound.
+fn leave_in_order<Q: TimerQueue>(rt: &impl Abort, queue: &mut Q) -> Result<(), Fail>
+    requires { Q.timers queue.old ≡ [] }
+{
+    queue.reserve(5)?;
+    queue.schedule(timer(500, 0, 7));
+    queue.schedule(timer(30, 1, 8));
+    queue.schedule(timer(500, 2, 7));
+    queue.schedule(timer(26_000, 3, 9));
+    queue.schedule(timer(40, 4, 8));
+    assert!(rt; queue.cancel(4));
+    assert!(rt; !queue.cancel(4));
+    queue.cancel_all(Handle(9));
+    assert_eq!(rt; queue.pop_due(499), Some(timer(30, 1, 8)));
+    assert_eq!(rt; queue.pop_due(499), None);
+    assert_eq!(rt; queue.earliest(), Some(500));
+    assert_eq!(rt; queue.pop_due(500), Some(timer(500, 0, 7)));
+    assert_eq!(rt; queue.pop_due(500), Some(timer(500, 2, 7)));
+    assert_eq!(rt; queue.pop_due(500), None);
+    assert_eq!(rt; queue.earliest(), None);
+    Ok(())
+}
+
+fn timer(deadline: u64, timer: u64, handle: u64) -> Timer
+    ensures { result.timer ≡ timer }
+{
+    Timer {
+        deadline,
+        timer,
+        handle: Handle(handle),
+        every: 0,
+    }
+}
