@@ -1,0 +1,4 @@
+pub mod Records
+pub mod Scripts
+pub mod Texts
+pub mod Laws

@@ -1,0 +1,1 @@
+//! Laws of the generated scripts. Each function has an empty body: what it says is its contract.
