@@ -15,7 +15,7 @@ message_length seed r c =
     length-append (map (letter r c) (range_with_len 0 (letter_count seed r c))) (0 ∷ []) ∙ ap (λ (n : ℕ). n + 1) (length-map-range_with_len (letter r c) 0 (letter_count seed r c))
 
 -- the fields of the record behind the padding
-abbrev fields : Order → ℕ → ℕ → ℕ → List ℕ
+abbrev pub fields : Order → ℕ → ℕ → ℕ → List ℕ
 fields order seed r c =
     number_bytes order 4 (20 + length (message seed r c)) ++ (number_bytes order 4 (2 ^ ((r + c) % 11)) ++ (number_bytes order 4 (1000 + c) ++ (number_bytes order 4 r
     ++ (number_bytes order 4 (seed % 1000000) ++ (number_bytes order 4 (length (message seed r c)) ++ message seed r c)))))
@@ -25,7 +25,7 @@ unfolding spelling record_of order_by seconds_size seconds_width
 spelt_by Big seed r c = refl
 spelt_by Little seed r c = refl
 
-bytes_are : (seed r c : ℕ) → bytes_of seed r c ≡ octet_1 (order_of r c) ∷ padding r c ∷ padding r c ∷ padding r c ∷ fields (order_of r c) seed r c
+pub bytes_are : (seed r c : ℕ) → bytes_of seed r c ≡ octet_1 (order_of r c) ∷ padding r c ∷ padding r c ∷ padding r c ∷ fields (order_of r c) seed r c
 unfolding bytes_of
 bytes_are seed r c = rw (spelt_by (order_of r c) seed r c) refl
 
