@@ -6,3 +6,5 @@ pub mod Written
 pub mod Standing
 pub mod Blocks
 pub mod Whole
+pub mod Spelled
+pub mod Connections
