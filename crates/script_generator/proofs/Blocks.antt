@@ -1,16 +1,15 @@
 -- The lines of the generated script stand block by block: the connections come, each round, and the connections are shut.
-use Rattle.std.proofs.Common.{◌≡◌, ◌∙◌, ℕ, zero, suc, ◌+◌, ◌*◌, ◌^◌, ◌<◌, ◌≤◌, ◌==◌, nat_lt, nat_le, Bool, true, false, not, ◌&&◌, ◌||◌, cond, List, [], ◌∷◌, ◌++◌, length, reverse, take, drop, Option, Some, None, refl, sym, ap, ap₂, subst, append_assoc, append-nil, arith}
+use Rattle.std.proofs.Common.{◌≡◌, ◌∙◌, ℕ, zero, suc, ◌+◌, ◌*◌, ◌<◌, ◌≤◌, ◌==◌, nat_lt, true, false, not, ◌&&◌, List, [], ◌∷◌, ◌++◌, length, take, drop, refl, sym, ap, subst, append_assoc, append-nil, arith}
 use Rattle.std.specs.Prelude.{map, flat_map}
-use Rattle.std.specs.List.{list_any, range_with_len}
+use Rattle.std.specs.List.{range_with_len}
 use Rattle.std.proofs.Math.Nat.{suc-mul}
 use Rattle.std.proofs.lemmas.Bool.Decides.{nat_tests}
 use Rattle.std.proofs.lemmas.List.{map-append, length-append, length-drop, length-take-le}
 use Rattle.std.proofs.lemmas.List.FromFn.{length-map-range_with_len}
-use Rattle.event_script.specs.Script.{ScriptStep, Opens, Brings, Shuts, ScriptGroup, steps_of, opened, is_done, may_follow, most_connections}
-use Rattle.event_script.specs.Grammar.{Line, At, Stepping, steps_in, last_moment, line_of}
+use Rattle.event_script.specs.Script.{ScriptStep, Opens, Brings, Shuts, ScriptGroup, opened, is_done, may_follow, most_connections}
+use Rattle.event_script.specs.Grammar.{Line, At, Stepping, steps_in}
 use Rattle.script_generator.specs.Records.{bytes_of}
-use Rattle.script_generator.specs.Scripts.{openings, shuttings, front_piece, rest_piece, pieces, round_lines, round_group}
-use Rattle.script_generator.specs.Texts.{line_words}
+use Rattle.script_generator.specs.Scripts.{front_piece, rest_piece, pieces, round_lines, round_group}
 use Rattle.script_generator.proofs.Spelling.{record_least}
 use Rattle.script_generator.proofs.Words.{AreBytes}
 use Rattle.script_generator.proofs.Bytes.{front_bytes, rest_bytes}
@@ -145,4 +144,4 @@ more_rounds n seed least many (suc j) r count past groups s few within =
     let all = append_assoc groups (round_group n seed r ∷ []) (map (round_group n seed) (range_with_len (r + 1) j)) in
     subst (λ (ls : List Line). Stands ls (r + suc j) (count + suc j * (n + n)) n 0 (groups ++ map (round_group n seed) (range_with_len r (suc j))) (pieces n seed (r + suc j))) lines
     (same_moment _ (r + 1 + j) (r + suc j) (count + suc j * (n + n)) n seed _ (omega arith)
-      (same_standing _ (r + 1 + j) (count + (n + n) + j * (n + n)) (count + suc j * (n + n)) n n 0 0 _ _ _ _ (omega (arith, sum)) refl refl all refl rest))
+    (same_standing _ (r + 1 + j) (count + (n + n) + j * (n + n)) (count + suc j * (n + n)) n n 0 0 _ _ _ _ (omega (arith, sum)) refl refl all refl rest))

@@ -1,5 +1,5 @@
 -- What each connection of the generated script brings.
-use Rattle.std.proofs.Common.{◌≡◌, ◌∙◌, ℕ, zero, suc, ◌+◌, ◌*◌, ◌^◌, ◌<◌, ◌≤◌, ◌==◌, Bool, true, false, ◌||◌, cond, List, [], ◌∷◌, ◌++◌, length, reverse, take, drop, refl, sym, ap, ap₂, subst, append_assoc, append-nil, add-one, arith}
+use Rattle.std.proofs.Common.{◌≡◌, ◌∙◌, ℕ, zero, suc, ◌+◌, ◌*◌, ◌<◌, ◌≤◌, ◌==◌, Bool, true, false, ◌||◌, cond, List, [], ◌∷◌, ◌++◌, length, reverse, take, drop, refl, sym, ap, ap₂, append_assoc, append-nil, arith}
 use Rattle.std.specs.Prelude.{map, flat_map}
 use Rattle.std.specs.List.{list_any, range_with_len, sum_by}
 use Rattle.std.proofs.lemmas.Bool.Decides.{nat_tests}
@@ -16,7 +16,7 @@ use Rattle.script_generator.specs.Scripts.{last_round, openings, shuttings, fron
 use Rattle.script_generator.specs.Laws.{rounds, connection_bytes, HasSteps, BringsRecords, all_bytes, bytes_of_records}
 use Rattle.script_generator.proofs.Growing.{flat_more}
 use Rattle.script_generator.proofs.Spelling.{record_length}
-use Rattle.script_generator.proofs.Standing.{Stands, onto}
+use Rattle.script_generator.proofs.Standing.{onto}
 use Rattle.script_generator.proofs.Whole.{all_stand}
 use Rattle.script_generator.proofs.Spelled.{connection_decodes, records_many}
 
@@ -36,7 +36,7 @@ steps_are n seed =
     ∙ append_assoc (openings n) (flat_map (pieces n seed) (range_with_len 0 last_round)) last
     ∙ ap (λ (steps : List ScriptStep). openings n ++ steps)
     (sym (append_assoc (flat_map (pieces n seed) (range_with_len 0 last_round)) (pieces n seed last_round) (shuttings n))
-      ∙ ap (λ (steps : List ScriptStep). steps ++ shuttings n) (sym (flat_more (pieces n seed) last_round)))
+    ∙ ap (λ (steps : List ScriptStep). steps ++ shuttings n) (sym (flat_more (pieces n seed) last_round)))
 
 -- ---- how many they are, and that they may stand
 

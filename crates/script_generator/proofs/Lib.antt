@@ -8,3 +8,4 @@ pub mod Blocks
 pub mod Whole
 pub mod Spelled
 pub mod Connections
+pub mod Rows

@@ -1,5 +1,5 @@
 -- The bytes of each record spell it, and those of a connection are decoded to its records.
-use Rattle.std.proofs.Common.{◌≡◌, ◌∙◌, ℕ, zero, suc, ◌+◌, ◌*◌, ◌%◌, ◌^◌, ◌<◌, ◌≤◌, List, [], ◌∷◌, ◌++◌, length, drop, refl, sym, ap, subst, append_assoc, append-nil, arith}
+use Rattle.std.proofs.Common.{◌≡◌, ◌∙◌, ℕ, zero, suc, ◌+◌, ◌%◌, ◌<◌, ◌≤◌, List, [], ◌∷◌, ◌++◌, length, drop, refl, sym, ap, subst, append-nil, arith}
 use Rattle.std.specs.Prelude.{map, flat_map}
 use Rattle.std.specs.List.{range_with_len}
 use Rattle.std.specs.Int.{w32}
@@ -13,7 +13,7 @@ use Rattle.cdr_record.specs.declared.record.LogRecord.{LogRecord}
 use Rattle.cdr_record.specs.declared.grammar.First.{First}
 use Rattle.cdr_record.specs.declared.grammar.First.TheVariants.{More, Bad, One}
 use Rattle.cdr_record.specs.Grammar.{Spells, first_of, record_in, seconds_size, seconds_width}
-use Rattle.cdr_record.specs.Decoding.{Stop, Clean, Partial, Malformed, Decoded, decode, records_of, left_of, taken_of, stop_at, unfinished}
+use Rattle.cdr_record.specs.Decoding.{Clean, Decoded, decode, records_of, left_of, taken_of, stop_at, unfinished}
 use Rattle.cdr_record.specs.Feeding.{joined}
 use Rattle.cdr_record.specs.Spelling.{octet_1, spelling, canon}
 use Rattle.cdr_record.specs.Laws.{HasNumbersOf32Bits, SpellsEach, IsCutInto, one_record}

@@ -1,12 +1,10 @@
 -- Lines one behind another, each of which may stand there, and the groups that they make.
-use Rattle.std.proofs.Common.{◌≡◌, ◌∙◌, ℕ, zero, suc, ◌+◌, ◌*◌, ◌^◌, ◌<◌, ◌≤◌, ◌==◌, nat_lt, nat_le, Bool, true, false, not, ◌&&◌, ◌||◌, cond, List, [], ◌∷◌, ◌++◌, length, reverse, Option, Some, None, refl, sym, ap, ap₂, subst, append_assoc, append-nil, arith}
-use Rattle.std.specs.Prelude.{map, flat_map}
-use Rattle.std.specs.List.{list_any, range_with_len}
+use Rattle.std.proofs.Common.{◌≡◌, ◌∙◌, ℕ, ◌+◌, ◌<◌, ◌≤◌, nat_lt, nat_le, Bool, true, false, ◌&&◌, cond, List, [], ◌∷◌, ◌++◌, length, reverse, Some, refl, sym, ap, append_assoc, append-nil, arith}
+use Rattle.std.specs.Prelude.{map}
 use Rattle.std.proofs.lemmas.Bool.Decides.{nat_tests}
-use Rattle.std.proofs.lemmas.List.{map-append}
 use Rattle.std.proofs.lemmas.Grind.{reverse_onto, flat_map-append}
-use Rattle.event_script.specs.Script.{ScriptStep, Opens, Brings, Shuts, Fails, ListenerFails, ScriptGroup, steps_of, opened, is_done, may_follow, are_steps, most_steps}
-use Rattle.event_script.specs.Grammar.{Line, At, Quiet, Stepping, moment_of, steps_in, may_stand, last_moment, is_step, with_step, groups_of, line_of, Spells}
+use Rattle.event_script.specs.Script.{ScriptStep, ScriptGroup, steps_of, opened, is_done, may_follow, are_steps, most_steps}
+use Rattle.event_script.specs.Grammar.{Line, At, Stepping, moment_of, steps_in, last_moment, is_step, with_step, groups_of, line_of, Spells}
 use Rattle.script_generator.specs.Texts.{line_words}
 
 -- lines, the latest first, behind others

@@ -1,18 +1,18 @@
 -- The whole script: its text is that of its groups.
-use Rattle.std.proofs.Common.{◌≡◌, ◌∙◌, ℕ, zero, suc, ◌+◌, ◌*◌, ◌^◌, ◌<◌, ◌≤◌, List, [], ◌∷◌, ◌++◌, length, reverse, true, refl, sym, ap, subst, append_assoc, append-nil, add-one, arith}
+use Rattle.std.proofs.Common.{◌≡◌, ◌∙◌, ℕ, zero, suc, ◌+◌, ◌*◌, ◌<◌, ◌≤◌, List, [], ◌∷◌, ◌++◌, length, reverse, refl, sym, ap, subst, add-one, arith}
 use Rattle.std.specs.Prelude.{map, flat_map}
 use Rattle.std.specs.List.{AllByRecursion, range_with_len}
 use Rattle.std.proofs.lemmas.List.{length-append}
 use Rattle.std.proofs.lemmas.List.FromFn.{length-map-range_with_len}
 use Rattle.std.proofs.lemmas.Grind.{reverse_onto}
 use Rattle.std.proofs.lemmas.List.{map-append}
-use Rattle.event_script.specs.Script.{ScriptStep, Opens, Brings, Shuts, ScriptGroup, steps_of, are_steps, opened}
-use Rattle.event_script.specs.Grammar.{Line, At, Stepping, steps_in, raw_lines, groups_of, Spells, IsScriptText}
+use Rattle.event_script.specs.Script.{ScriptStep, Opens, Shuts, ScriptGroup}
+use Rattle.event_script.specs.Grammar.{Line, Stepping, raw_lines, Spells, IsScriptText}
 use Rattle.script_generator.specs.Scripts.{last_round, openings, shuttings, front_piece, rest_piece, pieces, round_lines, lines, round_group, generated}
-use Rattle.script_generator.specs.Texts.{line_words, line_text, text_of, script_text}
+use Rattle.script_generator.specs.Texts.{line_words, text_of, script_text}
 use Rattle.script_generator.proofs.Bytes.{front_bytes, rest_bytes}
 use Rattle.script_generator.proofs.Written.{IsWritten, at_written, open_written, shut_written, data_written, raw_are}
-use Rattle.script_generator.proofs.Standing.{onto, onto_both, onto_all, last_group, some, Stands, stands_at_first, same_standing}
+use Rattle.script_generator.proofs.Standing.{onto, onto_both, onto_all, last_group, Stands, stands_at_first, same_standing}
 use Rattle.script_generator.proofs.Blocks.{all_come, all_are_shut, one_round, more_rounds, some_pieces, group_of}
 
 pub last_round_is : last_round ≡ 124
@@ -33,8 +33,8 @@ round_written : (n seed r : ℕ) → n ≤ 1000 → r < 1000 → AllByRecursion 
 round_written n seed r many within = (
   at_written r (omega arith),
   subst (AllByRecursion IsWritten) (sym (map-append Stepping (map (front_piece seed r) (range_with_len 0 n)) (map (rest_piece seed r) (range_with_len 0 n))))
-  (all_append _ _ (all_map (front_piece seed r) n (λ c lt. data_written c _ (omega arith) (front_bytes seed r c)) n 0 (omega arith))
-    (all_map (rest_piece seed r) n (λ c lt. data_written c _ (omega arith) (rest_bytes seed r c)) n 0 (omega arith))),
+      (all_append _ _ (all_map (front_piece seed r) n (λ c lt. data_written c _ (omega arith) (front_bytes seed r c)) n 0 (omega arith))
+      (all_map (rest_piece seed r) n (λ c lt. data_written c _ (omega arith) (rest_bytes seed r c)) n 0 (omega arith))),
 )
 
 rounds_written : (n seed : ℕ) → n ≤ 1000 → (j r : ℕ) → r + j ≤ 1000 → AllByRecursion IsWritten (flat_map (round_lines n seed) (range_with_len r j))
@@ -44,7 +44,7 @@ rounds_written n seed many (suc j) r le = all_append (round_lines n seed r) _ (r
 all_written : (n seed : ℕ) → n ≤ 1000 → AllByRecursion IsWritten (lines n seed)
 all_written n seed many =
     all_append _ _ (all_append _ _ (all_map Opens n (λ c lt. open_written c (omega arith)) n 0 (omega arith))
-      (rounds_written n seed many (last_round + 1) 0 (omega (arith, last_round_is))))
+    (rounds_written n seed many (last_round + 1) 0 (omega (arith, last_round_is))))
     (all_map Shuts n (λ c lt. shut_written c (omega arith)) n 0 (omega arith))
 
 -- ---- they stand
@@ -76,7 +76,7 @@ all_stand n seed least many =
     let all : onto (map Stepping (shuttings n)) (onto (flat_map (round_lines n seed) (range_with_len 1 last_round)) (onto (round_lines n seed 0) (onto front []))) ≡ onto (lines n seed) [] =
     ap (onto (map Stepping (shuttings n)))
     (sym (onto_both (round_lines n seed 0) (flat_map (round_lines n seed) (range_with_len 1 last_round)) (onto front []))
-      ∙ ap (λ (ls : List Line). onto ls (onto front [])) (sym rounds) ∙ sym (onto_both front (flat_map (round_lines n seed) (range_with_len 0 (last_round + 1))) []))
+    ∙ ap (λ (ls : List Line). onto ls (onto front [])) (sym rounds) ∙ sym (onto_both front (flat_map (round_lines n seed) (range_with_len 0 (last_round + 1))) []))
     ∙ sym (onto_both (front ++ flat_map (round_lines n seed) (range_with_len 0 (last_round + 1))) (map Stepping (shuttings n)) []) in
     subst (λ (ls : List Line). Stands ls last_round (252 * n) n n (groups_before n seed) (pieces n seed last_round ++ shuttings n)) all
     (same_standing _ last_round _ (252 * n) n n (0 + n) n _ _ _ _ count refl (omega arith) refl refl shut)

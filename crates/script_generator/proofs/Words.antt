@@ -1,10 +1,10 @@
 -- The words of lines: which bytes they have, and how they are cut and read.
-use Rattle.std.proofs.Common.{◌≡◌, ◌∙◌, ℕ, zero, suc, ◌+◌, ◌-◌, ◌*◌, ◌/◌, ◌%◌, ◌^◌, ◌<◌, ◌≤◌, ◌==◌, nat_lt, nat_le, ◌&&◌, Bool, true, false, cond, List, [], ◌∷◌, ◌++◌, length, get_or, codes, decimal, Option, Some, None, refl, sym, ap, subst, append_assoc, arith}
-use Rattle.std.specs.Prelude.{option_and_then, option_map}
+use Rattle.std.proofs.Common.{◌≡◌, ◌∙◌, ℕ, zero, suc, ◌+◌, ◌-◌, ◌*◌, ◌/◌, ◌%◌, ◌^◌, ◌<◌, ◌≤◌, ◌==◌, nat_le, Bool, true, false, cond, List, [], ◌∷◌, ◌++◌, length, get_or, decimal, Option, Some, None, refl, sym, ap, arith}
+use Rattle.std.specs.Prelude.{option_and_then}
 use Rattle.std.specs.List.{AllByRecursion, onto_first}
 use Rattle.std.proofs.lemmas.Bool.Decides.{nat_tests}
 use Rattle.std.proofs.lemmas.Fmt.{decimal_by_steps, decimal_digit, decimal_nonempty, first_decimal}
-use Rattle.hex.specs.Hex.{IsBytes, encode_lower, encode_with, lower_digits, hex_digit_value, decode_of}
+use Rattle.hex.specs.Hex.{IsBytes, encode_lower, encode_with, lower_digits, hex_digit_value}
 use Rattle.hex.proofs.HexLemmas.{IsDigits-lower_digits, decode_of-encode_lower}
 use Rattle.std.specs.Prelude.{slice_index}
 use Rattle.event_script.specs.Grammar.{parts, digit, digits_from, number, hex_bytes, value_of, raw_lines, without_last_empty}
@@ -106,8 +106,10 @@ hex_above (b ∷ bytes) a =
     let high : b / 16 < 16 = omega arith in
     let low : b % 16 < 16 = omega arith in (
       digit_above (slice_index lower_digits (b / 16)) (b / 16) (IsDigits-lower_digits (b / 16) high),
-      (digit_above (slice_index lower_digits (b % 16)) (b % 16) (IsDigits-lower_digits (b % 16) low),
-      hex_above bytes a.1)
+      (
+        digit_above (slice_index lower_digits (b % 16)) (b % 16) (IsDigits-lower_digits (b % 16) low),
+        hex_above bytes a.1,
+      ),
     )
 
 pub hex_of_bytes : (bytes : List ℕ) → AreBytes bytes → hex_bytes (encode_lower bytes) ≡ Some bytes

@@ -1,11 +1,11 @@
 -- Lines are read as they were written.
-use Rattle.std.proofs.Common.{◌≡◌, ◌∙◌, ℕ, ◌^◌, ◌<◌, List, [], ◌∷◌, ◌++◌, codes, decimal, Option, Some, refl, sym, ap, ap₂, subst, append_assoc, arith}
+use Rattle.std.proofs.Common.{◌≡◌, ◌∙◌, ℕ, ◌^◌, ◌<◌, List, [], ◌∷◌, ◌++◌, decimal, Some, refl, ap, append_assoc, arith}
 use Rattle.std.specs.Prelude.{option_and_then, option_map, map}
 use Rattle.std.specs.List.{AllByRecursion, onto_first}
 use Rattle.hex.specs.Hex.{encode_lower}
 use Rattle.event_script.specs.Script.{Opens, Brings, Shuts}
-use Rattle.event_script.specs.Grammar.{Line, At, Quiet, Stepping, parts, words, line_of, line_of_words, number, hex_bytes, raw_lines}
-use Rattle.script_generator.specs.Texts.{line_words, line_text, text_of}
+use Rattle.event_script.specs.Grammar.{Line, At, Stepping, parts, line_of, line_of_words, hex_bytes, raw_lines}
+use Rattle.script_generator.specs.Texts.{line_words, text_of}
 use Rattle.script_generator.proofs.Words.{Above, AreBytes, above_lower, above_append, parts_alone, parts_first, number_of_decimal, decimal_above, hex_above, hex_of_bytes, line_before}
 
 -- a line is read back, and has no line feed in it
@@ -50,9 +50,23 @@ data_written conn bytes small are =
       reads = ap (λ (ps : List (List ℕ)). line_of_words (onto_first 100 (onto_first 97 (onto_first 116 (onto_first 97 ([] ∷ ps)))))) cut
           ∙ ap (option_and_then (λ c. option_map (λ bs. Stepping (Brings c bs)) (hex_bytes digits))) (number_of_decimal conn small)
           ∙ ap (option_map (λ bs. Stepping (Brings conn bs))) (hex_of_bytes bytes are);
-      above = (omega arith, (omega arith, (omega arith, (omega arith, (omega arith,
-        above_append 10 (decimal conn ++ 32 ∷ []) digits (above_append 10 (decimal conn) (32 ∷ []) (number_above conn small) (omega arith, tt))
-        (above_lower 10 32 digits (omega arith) (hex_above bytes are)))))));
+      above = (
+        omega arith,
+        (
+          omega arith,
+          (
+            omega arith,
+            (
+              omega arith,
+              (
+                omega arith,
+                above_append 10 (decimal conn ++ 32 ∷ []) digits (above_append 10 (decimal conn) (32 ∷ []) (number_above conn small) (omega arith, tt))
+                    (above_lower 10 32 digits (omega arith) (hex_above bytes are)),
+              ),
+            ),
+          ),
+        ),
+      );
     }
 
 -- the lines of a written text

@@ -1,9 +1,9 @@
 -- The laws of the generated scripts, over their definitions.
-use Rattle.std.specs.Prelude.{◌≡◌, ◌≤◌, ◌<◌, ℕ, ◌+◌, ◌*◌, Bool, true, false, List, [], ◌∷◌, ◌++◌, length, map, flat_map, reverse}
+use Rattle.std.specs.Prelude.{◌≡◌, ◌≤◌, ◌<◌, ℕ, ◌+◌, ◌*◌, true, false, List, length, map, flat_map, reverse}
 use Rattle.std.specs.List.{range_with_len, sum_by}
 use Rattle.cdr_record.specs.declared.record.LogRecord.{LogRecord}
 use Rattle.cdr_record.specs.Grammar.{Spells}
-use Rattle.cdr_record.specs.Decoding.{Clean, Decoded, decode}
+use Rattle.cdr_record.specs.Decoding.{Clean, decode}
 use Rattle.event_script.specs.Script.{ScriptStep, steps_of, opened, are_steps}
 use Rattle.event_script.specs.Stories.{bytes_of as bytes_brought, was_shut, has_failed}
 use Rattle.event_script.specs.Grammar.{IsScriptText}

@@ -2,3 +2,4 @@ pub mod Records
 pub mod Scripts
 pub mod Texts
 pub mod Laws
+pub mod Rows

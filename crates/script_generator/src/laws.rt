@@ -1,5 +1,6 @@
 //! Laws of the generated scripts. Each function has an empty body: what it says is its contract.
 ghost use Rattle.script_generator.specs.Laws as L;
+ghost use Rattle.script_generator.specs.Rows.{HasRows};
 
 /// The generated text is that of the generated script: so a reader of scripts takes it.
 pub fn texts_are_scripts()
@@ -24,4 +25,9 @@ pub fn connections_bring_records()
 /// All connections bring 29 bytes for each record, and its letters.
 pub fn bytes_are_those_of_records()
     ensures { L.BytesAreThoseOfRecords }
+{}
+
+/// Worked rows: the first lines of one connection and seed 0, and how many bytes some scripts bring.
+pub fn rows()
+    ensures { HasRows }
 {}

@@ -1,4 +1,3 @@
-use Rattle.script_generator.specs.Scripts.{openings, shuttings, round_lines}
 use Rattle.script_generator.proofs.Growing.{whole_text}
 use Rattle.script_generator.proofs.generator.gen_script.Goals as goal
 

@@ -1,5 +1,3 @@
-use Rattle.std.proofs.Common.{arith}
-use Rattle.std.specs.Prelude.{map}
 use Rattle.script_generator.specs.Records.{letter}
 use Rattle.script_generator.proofs.Growing.{map_grows}
 use Rattle.script_generator.proofs.record.push_letters.Goals as goal
