@@ -3,3 +3,4 @@ pub mod Stories
 pub mod Numbers
 pub mod Handlers
 pub mod Totals
+pub mod Grouped

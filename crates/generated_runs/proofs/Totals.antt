@@ -33,7 +33,7 @@ use Rattle.event_script.specs.Script.{ScriptStep, ScriptGroup, steps_of, opened 
 use Rattle.event_script.specs.Stories.{bytes_of, has_failed}
 use Rattle.script_turns.specs.Laws.{pauses_had, steps_on}
 use Rattle.script_runs.specs.Connections.{AreLeft, Leaves, TalksThrough, HadMemory, entry_lacks, accepts, accepted}
-use Rattle.script_runs.specs.Runs.{is_refusal}
+use Rattle.script_runs.specs.Runs.{is_refusal, is_fault}
 use Rattle.script_runs.specs.Steps.{EachStep}
 use Rattle.script_runs.specs.Laws.{RunsOver}
 use Rattle.script_runs.proofs.Glue as glue
@@ -41,6 +41,7 @@ use Rattle.script_runs.proofs.Glue.{no_close}
 use Rattle.script_runs.proofs.Handles.{IsBegun, origin_first}
 use Rattle.script_runs.proofs.Living as living
 use Rattle.script_runs.proofs.Notes.{Listens, is_listening, course_listens}
+use Rattle.script_runs.proofs.Refusing.{none_refused}
 use Rattle.script_runs.proofs.Scripts.{orderly}
 use Rattle.script_runs.proofs.Settling.{each_front, opened_later}
 use Rattle.script_runs.proofs.Standing.{OpenedFor}
@@ -351,3 +352,10 @@ module _ {H E : Type 0} (means : Handling H E ServerNote) (t : Terms) (n seed : 
         bytes = omega (arith, s.bytes, bytes, small);
         lines = omega (arith, s.lines, lines);
       }
+
+-- with room for all connections none is refused
+pub sums_up_with_room : {H E : Type 0} (means : Handling H E ServerNote) (t : Terms) (n seed : ℕ) (journal : List (Entry ServerNote)) (summary : Summary) → 1 ≤ n → n ≤ 1000
+    → (r : RunsOver means t None (generated n seed) journal) → n < t.most → list_any is_fault journal ≡ false → HadMemory journal → Summarizes summary journal → SumsUp n seed summary
+sums_up_with_room means t n seed journal summary least many r room no_fault memory s =
+    let fits : connections_of (steps_of (generated n seed)) < t.most = omega (arith, (has_steps n seed least many).come, room) in
+    sums_up means t n seed journal least many r (none_refused means t None (generated n seed) journal r fits no_fault) memory summary s

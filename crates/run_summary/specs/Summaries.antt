@@ -63,11 +63,13 @@ pub record Tells (summary : Summary) (c r b l : ℕ) : Type 0 where
 abbrev pub Summarizes : Summary → List (Entry ServerNote) → Type 0
 Summarizes summary entries = Tells summary (connections_in entries) (records_in entries) (bytes_in entries) (lines_in entries)
 
--- a line of a word and a number, and the four lines
+-- a line of a word and a number, and the four lines of these numbers
 abbrev pub line_of : List ℕ → ℕ → List ℕ
 line_of word number = word ++ decimal number ++ codes "\n"
 
+abbrev pub four_lines : ℕ → ℕ → ℕ → ℕ → List ℕ
+four_lines c r b l = line_of (codes "connections ") c ++ line_of (codes "records ") r ++ line_of (codes "bytes ") b ++ line_of (codes "lines ") l
+
+-- the lines of a summary
 abbrev pub summary_text : Summary → List ℕ
-summary_text summary =
-    line_of (codes "connections ") summary.connections ++ line_of (codes "records ") summary.records ++ line_of (codes "bytes ") summary.bytes
-    ++ line_of (codes "lines ") summary.lines
+summary_text summary = four_lines summary.connections summary.records summary.bytes summary.lines

@@ -13,6 +13,7 @@ use Rattle.script_generator.specs.Texts.{line_text, text_of, script_text}
 use Rattle.script_generator.specs.Laws.{bytes_of_records}
 use Rattle.script_generator.specs.Rows.{first_lines, HasRows}
 use Rattle.script_generator.proofs.Spelling.{bytes_are}
+use Rattle.script_generator.proofs.Connections.{bytes_are as all_bytes_are}
 
 one : bytes_of_records 1 0 ≡ 6035
 unfolding last_round
@@ -57,4 +58,9 @@ unfolding script_text
 begins = ap text_of lines_are ∙ three (Stepping (Opens 0)) (At 0) (Stepping (front_piece 0 0 0)) behind ∙ ap (λ (text : List ℕ). text ++ text_of behind) first_are
 
 pub has_rows : HasRows
-has_rows = record { begins = (text_of behind, begins); bytes_of_one = one; bytes_of_forty = forty; bytes_of_eighty = eighty }
+has_rows = record {
+  begins = (text_of behind, begins);
+  bytes_of_one = all_bytes_are 1 0 (omega arith) (omega arith) ∙ one;
+  bytes_of_forty = all_bytes_are 40 7 (omega arith) (omega arith) ∙ forty;
+  bytes_of_eighty = all_bytes_are 80 7 (omega arith) (omega arith) ∙ eighty;
+}
