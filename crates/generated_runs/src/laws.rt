@@ -1,0 +1,17 @@
+//! Laws of runs over generated scripts. Each function has an empty body: what it says is its contract.
+ghost use Rattle.generated_runs.specs.Runs.{SummariesAreKnown, FullRunsAreKnown, GroupedTextsAreKnown};
+
+use log_handler::ServerNote;
+use reactor_model::EventHandler;
+
+/// A run over a generated script took all its connections, records and bytes, and its lines are those of its records and of the
+/// closings of its connections.
+pub fn summaries_are_known<H: EventHandler<Note = ServerNote>>()
+    ensures unrefused { SummariesAreKnown H.means }
+    ensures with_room { FullRunsAreKnown H.means }
+{}
+
+/// The grouped text of a generated script has the lines of all its records, and each connection's closing word is `end`.
+pub fn grouped_texts_are_known()
+    ensures { GroupedTextsAreKnown }
+{}

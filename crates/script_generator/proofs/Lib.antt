@@ -1,0 +1,11 @@
+pub mod Growing
+pub mod Spelling
+pub mod Words
+pub mod Bytes
+pub mod Written
+pub mod Standing
+pub mod Blocks
+pub mod Whole
+pub mod Spelled
+pub mod Connections
+pub mod Rows

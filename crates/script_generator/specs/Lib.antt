@@ -1,0 +1,5 @@
+pub mod Records
+pub mod Scripts
+pub mod Texts
+pub mod Laws
+pub mod Rows
