@@ -33,7 +33,7 @@ deadline_left : (past : List (Entry ServerNote)) (moment now : ℕ) (armed : Lis
 deadline_left past moment now [] h = refl
 deadline_left past moment now (a ∷ rest) h = ap (λ (m : ℕ). Some (a.0 - m)) h
 
-same_time : (most : ℕ) (past : List (Entry ServerNote)) → is_legal most past ≡ true → C.time_left (summary past) ≡ time_left past
+pub same_time : (most : ℕ) (past : List (Entry ServerNote)) → is_legal most past ≡ true → C.time_left (summary past) ≡ time_left past
 same_time most past legal =
     let t = summary_told.told most past legal in
     ap (λ (ts : List ArmedTimer). option_map (λ (d : ℕ). d - (summary past).moment) (C.first_deadline ts)) t.armed
