@@ -4,7 +4,6 @@ use Rattle.std.proofs.Common.{ℕ, zero, suc, ◌≡◌, ◌∙◌, ◌+◌, ◌
 use Rattle.std.specs.Prelude.{nat_lt}
 use Rattle.std.specs.List.{list_any, AllByRecursion}
 use Rattle.std.proofs.lemmas.Bool.{false≢true, and_parts, and_from, both_ways, ne_eqb, ltb-true}
-use Rattle.std.proofs.lemmas.List.{reverse-append, reverse-reverse, length-reverse}
 use Rattle.ev_types.specs.declared.upcall.Answer.{Answer}
 use Rattle.ev_types.specs.declared.upcall.Answer.TheVariants.{Again}
 use Rattle.ev_types.specs.declared.upcall.Handle.{Handle}
@@ -15,7 +14,7 @@ use Rattle.ev_base.specs.Terms.{Terms}
 use Rattle.reactor_journal.specs.Event.{Item}
 use Rattle.reactor_journal.specs.declared.entry.Entry.{Entry}
 use Rattle.reactor_journal.specs.declared.entry.Entry.TheVariants.{Opened, Scheduled, Cancelled, Posted, Stale, Returned, Masked, Suspended, Resumed, Refused, Closed, Ended}
-use Rattle.reactor_journal.specs.Past.{had, now, live, opened, ended, is_ended}
+use Rattle.reactor_journal.specs.Past.{past_of, had, now, live, opened, ended, is_ended}
 use Rattle.reactor_journal.specs.Follow.{is_legal, may_follow, most_handles}
 use Rattle.reactor_journal.proofs.Alive.{dead_was_removed}
 use Rattle.reactor_journal.proofs.Basics.{may_fits}
@@ -29,7 +28,10 @@ use Rattle.dispatch_turns.specs.ByTurns.{GoesByTurn, MayHere, TimerBehind, IsReg
 use Rattle.event_script.specs.Script.{ScriptGroup, steps_of}
 use Rattle.log_handler.specs.declared.note.ServerNote.{ServerNote}
 use Rattle.log_handler.specs.declared.note.ServerNote.TheVariants as note
-use Rattle.script_runs.specs.Laws.{RunsOver}
+use Rattle.serial_rounds.specs.Alone.{RunsAlone}
+use Rattle.reactor_core.specs.Stands.{Meaning}
+use Rattle.reactor_desk.specs.declared.terms.DeskTerms.{DeskTerms}
+use Rattle.tp_reactor.specs.declared.working.Ran.{Ran}
 use Rattle.script_runs.specs.Runs.{first_handle, note_settled, is_accepted, is_fault, is_notice}
 use Rattle.script_runs.specs.Steps.{EachStep}
 use Rattle.script_runs.proofs.Handles.{IsBegun}
@@ -38,7 +40,7 @@ use Rattle.script_runs.proofs.Numbering.{IsNumbered}
 use Rattle.script_runs.proofs.Settling as settling
 use Rattle.script_runs.proofs.Settling.{each_front}
 use Rattle.script_runs.proofs.Turns as turns
-use Rattle.script_runs.proofs.Whole as whole
+use Rattle.serial_rounds.proofs.Ends as ends
 use Rattle.script_runs.proofs.Winding as winding
 use Rattle.script_serial.specs.Serial.{IsSettledAtOnce, OnlyClosesUp, InstallsOnly, IsInstalled, IsTimedBy, is_installing, is_foreign, has_room}
 use Rattle.script_serial.proofs.Quiet.{EndsLast, ends_last}
@@ -128,54 +130,50 @@ no_room false false true o h x y = absurd (false≢true (sym x))
 no_room false false false true h x y = absurd (false≢true (sym y))
 no_room false false false false h x y = absurd (false≢true h)
 
-module _ {H E : Type 0} (means : Handling H E ServerNote) (t : Terms) (idle : Option ℕ) (groups : List ScriptGroup) (journal : List (Entry ServerNote)) (r : RunsOver means t idle groups journal)
-    (no_fault : list_any is_fault journal ≡ false) where
+module _ {H M Q W V E : Type 0} (m : Meaning H M Q W V ServerNote E) (q : DeskTerms) (ran : Ran) (idle : Option ℕ) (groups : List ScriptGroup) (journal : List (Entry ServerNote)) (r : RunsAlone m q ran idle groups journal) where
+  abbrev t : Terms
+  t = q.run
+
+  abbrev means : Handling H E ServerNote
+  means = m.means
+
   abbrev run : List (Entry ServerNote)
-  run = whole.run means t idle groups journal r
+  run = past_of r.run
 
   abbrev all : List (Entry ServerNote)
-  all = whole.all means t idle groups journal r
+  all = ends.all m q ran idle groups journal r
 
   -- ---- an entry of the run, by its place
 
   legal_at : (later : List (Entry ServerNote)) (e : Entry ServerNote) (past : List (Entry ServerNote)) → run ≡ later ++ e ∷ past → is_legal t.most (e ∷ past) ≡ true
-  legal_at later e past is = is_legal-front t.most later (e ∷ past) (sym (ap (is_legal t.most) is) ∙ whole.legal_run means t idle groups journal r)
+  legal_at later e past is = is_legal-front t.most later (e ∷ past) (sym (ap (is_legal t.most) is) ∙ ends.legal_run m q ran idle groups journal r)
 
   may_at : (later : List (Entry ServerNote)) (e : Entry ServerNote) (past : List (Entry ServerNote)) → run ≡ later ++ e ∷ past → may_follow t.most past e ≡ true
   may_at later e past is = (and_parts (may_follow t.most past e) (is_legal t.most past) (legal_at later e past is)).0
 
   pub going_at : (later past : List (Entry ServerNote)) → run ≡ later ++ past → ended past ≡ false
-  going_at later past is = winding.any_right is_ended later past (sym (ap (list_any is_ended) is) ∙ whole.going means t idle groups journal r)
+  going_at later past is = winding.any_right is_ended later past (sym (ap (list_any is_ended) is) ∙ ends.going m q ran idle groups journal r)
 
   numbered_at : (later : List (Entry ServerNote)) (e : Entry ServerNote) (past : List (Entry ServerNote)) → run ≡ later ++ e ∷ past → IsNumbered past e
-  numbered_at later e past is = (each_front IsNumbered later (e ∷ past) (subst (EachStep IsNumbered) is (whole.numbered means t idle groups journal r))).0
+  numbered_at later e past is = (each_front IsNumbered later (e ∷ past) (subst (EachStep IsNumbered) is (ends.numbered m q ran idle groups journal r))).0
 
   begun_at : (later : List (Entry ServerNote)) (e : Entry ServerNote) (past : List (Entry ServerNote)) → run ≡ later ++ e ∷ past → IsBegun past e
-  begun_at later e past is = (each_front IsBegun later (e ∷ past) (subst (EachStep IsBegun) is (whole.begun_run means t idle groups journal r))).0
+  begun_at later e past is = (each_front IsBegun later (e ∷ past) (subst (EachStep IsBegun) is (ends.begun_run m q ran idle groups journal r))).0
 
-  in_all : (later past : List (Entry ServerNote)) → run ≡ later ++ past → all ≡ ((whole.wound means t idle groups journal r ++ Ended ∷ []) ++ later) ++ past
+  in_all : (later past : List (Entry ServerNote)) → run ≡ later ++ past → all ≡ ((ends.wound m q ran idle groups journal r ++ Ended ∷ []) ++ later) ++ past
   in_all later past is =
-      whole.whole_run means t idle groups journal r ∙ ap (λ (l : List (Entry ServerNote)). (whole.wound means t idle groups journal r ++ Ended ∷ []) ++ l) is
-      ∙ sym (append_assoc (whole.wound means t idle groups journal r ++ Ended ∷ []) later past)
+      ends.whole_run m q ran idle groups journal r ∙ ap (λ (l : List (Entry ServerNote)). (ends.wound m q ran idle groups journal r ++ Ended ∷ []) ++ l) is
+      ∙ sym (append_assoc (ends.wound m q ran idle groups journal r ++ Ended ∷ []) later past)
 
-  -- it goes by turns, before those behind it
+  -- it goes by turns, before those behind it, and so does the entry before it
   goes : (later : List (Entry ServerNote)) (e : Entry ServerNote) (past : List (Entry ServerNote)) → run ≡ later ++ e ∷ past → 1 ≤ length past → GoesByTurn means t 1 past e (reverse later)
-  goes later e past is long =
-      subst (λ (p : List (Entry ServerNote)). GoesByTurn means t 1 p e (reverse later)) (reverse-reverse past)
-      (r.turned (reverse past) e (reverse later) there (subst (λ (n : ℕ). 1 ≤ n) (sym (length-reverse past)) long))
-    where
-      there : r.ends.run ≡ reverse past ++ e ∷ reverse later
-      there =
-          sym (reverse-reverse r.ends.run) ∙ ap reverse is ∙ reverse-append later (e ∷ past) ∙ ap (λ (l : List (Entry ServerNote)). l ++ reverse later) (reverse-append (e ∷ []) past)
-          ∙ append_assoc (reverse past) (e ∷ []) (reverse later)
+  goes later e past is long = ends.goes means t r.run (ends.turned m q ran idle groups journal r) later e past is long
+
+  goes_before : (later : List (Entry ServerNote)) (e d : Entry ServerNote) (past : List (Entry ServerNote)) → run ≡ later ++ e ∷ (d ∷ past) → 1 ≤ length past → GoesByTurn means t 1 past d (e ∷ reverse later)
+  goes_before later e d past is long = ends.goes_before means t r.run (ends.turned m q ran idle groups journal r) later e d past is long
 
   shift : (later : List (Entry ServerNote)) (e : Entry ServerNote) (past : List (Entry ServerNote)) → run ≡ later ++ e ∷ past → run ≡ (later ++ e ∷ []) ++ past
   shift later e past is = is ∙ sym (append_assoc later (e ∷ []) past)
-
-  -- the same of the entry before it
-  goes_before : (later : List (Entry ServerNote)) (e d : Entry ServerNote) (past : List (Entry ServerNote)) → run ≡ later ++ e ∷ (d ∷ past) → 1 ≤ length past → GoesByTurn means t 1 past d (e ∷ reverse later)
-  goes_before later e d past is long =
-      subst (λ (l : List (Entry ServerNote)). GoesByTurn means t 1 past d l) (reverse-append later (e ∷ [])) (goes (later ++ e ∷ []) d past (shift later e (d ∷ past) is) long)
 
   asks : (past : List (Entry ServerNote)) (deed : Deed) (may : MayHere means t past deed) → ServerMay t may.event.upcall deed
   asks past deed may = r.acts.asks may.event.upcall deed may.may
@@ -188,29 +186,29 @@ module _ {H E : Type 0} (means : Handling H E ServerNote) (t : Terms) (idle : Op
       most : ℕ
       most = t.most
 
-      there : all ≡ ((whole.wound means t idle groups journal r ++ Ended ∷ []) ++ later) ++ Returned event answer (note.Accepted conn) ∷ past
+      there : all ≡ ((ends.wound m q ran idle groups journal r ++ Ended ∷ []) ++ later) ++ Returned event answer (note.Accepted conn) ∷ past
       there = in_all later (Returned event answer (note.Accepted conn) ∷ past) is
 
-      turn : settling.TurnOf t.most all (whole.legal means t idle groups journal r) event answer (note.Accepted conn) past
-      turn = settling.turn_of t.most all (whole.legal means t idle groups journal r) ((whole.wound means t idle groups journal r ++ Ended ∷ []) ++ later) past event answer (note.Accepted conn) there
+      turn : settling.TurnOf t.most all (ends.legal m q ran idle groups journal r) event answer (note.Accepted conn) past
+      turn = settling.turn_of t.most all (ends.legal m q ran idle groups journal r) ((ends.wound m q ran idle groups journal r ++ Ended ∷ []) ++ later) past event answer (note.Accepted conn) there
 
-      at_first : settling.Turn t.most all (whole.legal means t idle groups journal r) event answer (note.Accepted conn) past 0 → answer ≡ Again
+      at_first : settling.Turn t.most all (ends.legal m q ran idle groups journal r) event answer (note.Accepted conn) past 0 → answer ≡ Again
       at_first u =
-          let listens = turns.acceptor t.most (steps_of groups) idle all (whole.legal means t idle groups journal r) (whole.begun means t idle groups journal r) (whole.left means t idle groups journal r) (whole.closed means t idle groups journal r) (whole.first means t idle groups journal r) in
+          let listens = turns.acceptor t.most (steps_of groups) idle all (ends.legal m q ran idle groups journal r) (ends.begun m q ran idle groups journal r) (ends.left m q ran idle groups journal r) (ends.closed m q ran idle groups journal r) (ends.first m q ran idle groups journal r) in
           sym u.answers
           ∙ all_last AsksAgain (had past 0) u.item u.more (subst (AllByRecursion AsksAgain) u.among (course_again _ listens.now (had all 0) listens.course)) (ap says_accepted u.notes)
 
-      at_other : (c : ℕ) → settling.Turn t.most all (whole.legal means t idle groups journal r) event answer (note.Accepted conn) past (suc c) → answer ≡ Again
+      at_other : (c : ℕ) → settling.Turn t.most all (ends.legal m q ran idle groups journal r) event answer (note.Accepted conn) past (suc c) → answer ≡ Again
       at_other c u =
-          let o = turns.opened_all t.most (steps_of groups) idle all (whole.legal means t idle groups journal r) (whole.begun means t idle groups journal r) (whole.left means t idle groups journal r) (whole.closed means t idle groups journal r)
-          ((whole.wound means t idle groups journal r ++ Ended ∷ []) ++ later) past (Returned event answer (note.Accepted conn)) (suc c) there u.opened_now in
-          let piece = turns.conn_note t.most (steps_of groups) idle all (whole.legal means t idle groups journal r) (whole.begun means t idle groups journal r) (whole.left means t idle groups journal r) (whole.closed means t idle groups journal r)
-          c event answer (note.Accepted conn) ((whole.wound means t idle groups journal r ++ Ended ∷ []) ++ later) past there u o in
+          let o = turns.opened_all t.most (steps_of groups) idle all (ends.legal m q ran idle groups journal r) (ends.begun m q ran idle groups journal r) (ends.left m q ran idle groups journal r) (ends.closed m q ran idle groups journal r)
+          ((ends.wound m q ran idle groups journal r ++ Ended ∷ []) ++ later) past (Returned event answer (note.Accepted conn)) (suc c) there u.opened_now in
+          let piece = turns.conn_note t.most (steps_of groups) idle all (ends.legal m q ran idle groups journal r) (ends.begun m q ran idle groups journal r) (ends.left m q ran idle groups journal r) (ends.closed m q ran idle groups journal r)
+          c event answer (note.Accepted conn) ((ends.wound m q ran idle groups journal r ++ Ended ∷ []) ++ later) past there u o in
           absurd (false≢true (sym (ap says_accepted piece.2) ∙ ap says_accepted u.notes))
 
       by_handle : (x : ℕ) → turn.x ≡ x → answer ≡ Again
-      by_handle zero e = at_first (subst (settling.Turn t.most all (whole.legal means t idle groups journal r) event answer (note.Accepted conn) past) e turn.turn)
-      by_handle (suc c) e = at_other c (subst (settling.Turn t.most all (whole.legal means t idle groups journal r) event answer (note.Accepted conn) past) e turn.turn)
+      by_handle zero e = at_first (subst (settling.Turn t.most all (ends.legal m q ran idle groups journal r) event answer (note.Accepted conn) past) e turn.turn)
+      by_handle (suc c) e = at_other c (subst (settling.Turn t.most all (ends.legal m q ran idle groups journal r) event answer (note.Accepted conn) past) e turn.turn)
 
   module _ (settles : EachStep IsSettledAtOnce run) (closes : EachStep OnlyClosesUp run) where
     -- it closes nothing
@@ -232,8 +230,8 @@ module _ {H E : Type 0} (means : Handling H E ServerNote) (t : Terms) (idle : Op
 
     refused : (later past : List (Entry ServerNote)) (number : ℕ) (fault : Bool) (said : ServerNote) → run ≡ later ++ Refused number fault said ∷ past → (has_room t.most past ≡ false) × (fault ≡ false)
     refused later past number fault said is =
-        let none : fault ≡ false = winding.none_at is_fault ((whole.wound means t idle groups journal r ++ Ended ∷ []) ++ later) (Refused number fault said) past
-        (sym (ap (list_any is_fault) (whole.all_is means t idle groups journal r ∙ in_all later (Refused number fault said ∷ past) is)) ∙ winding.any_reverse is_fault journal no_fault) in
+        let none : fault ≡ false = winding.none_at is_fault ((ends.wound m q ran idle groups journal r ++ Ended ∷ []) ++ later) (Refused number fault said) past
+        (sym (ap (list_any is_fault) (ends.all_is m q ran idle groups journal r ∙ in_all later (Refused number fault said ∷ past) is)) ∙ winding.any_reverse is_fault journal r.no_fault) in
         let fits = (and_parts _ _ (may_fits t.most past (Refused number fault said) (may_at later (Refused number fault said) past is))).1 in
         (no_room (live past == t.most) (opened past == most_handles) fault (ended past) fits none (going_at (later ++ Refused number fault said ∷ []) past (shift later (Refused number fault said) past is)), none)
 
@@ -326,8 +324,8 @@ module _ {H E : Type 0} (means : Handling H E ServerNote) (t : Terms) (idle : Op
 
   quiet_at : (later : List (Entry ServerNote)) (e : Entry ServerNote) (past : List (Entry ServerNote)) → run ≡ later ++ e ∷ past → is_notice e ≡ false
   quiet_at later e past is =
-      winding.none_at is_notice ((whole.wound means t idle groups journal r ++ Ended ∷ []) ++ later) e past
-      (sym (ap (list_any is_notice) (whole.all_is means t idle groups journal r ∙ in_all later (e ∷ past) is)) ∙ winding.any_reverse is_notice journal r.no_notice)
+      winding.none_at is_notice ((ends.wound m q ran idle groups journal r ++ Ended ∷ []) ++ later) e past
+      (sym (ap (list_any is_notice) (ends.all_is m q ran idle groups journal r ∙ in_all later (e ∷ past) is)) ∙ winding.any_reverse is_notice journal r.no_notice)
 
   -- what the server never does
   pub familiar : (later : List (Entry ServerNote)) (e : Entry ServerNote) (past : List (Entry ServerNote)) → run ≡ later ++ e ∷ past → is_foreign e ≡ false

@@ -2,7 +2,8 @@ pub mod Pushing
 pub mod Stepping
 pub mod Answering
 pub mod Rounds
-pub mod Over
 pub mod Removing
+pub mod Noticing
+pub mod Ends
 pub mod Installing
 pub mod Whole

@@ -34,12 +34,16 @@ use Rattle.reactor_core.specs.declared.job.Done.{Done}
 use Rattle.reactor_core.specs.declared.job.Job.{Job}
 use Rattle.reactor_core.specs.declared.polling.Polled.{Polled as PolledAnswer}
 use Rattle.reactor_desk.specs.Desks.{DeskStands, core_of}
-use Rattle.reactor_desk.specs.Leading.{MayHaveWaited, WaitedFor, Dispatches, Idles, IsOver, IsNotOver}
+use Rattle.reactor_desk.specs.Leading.{Leaves, MayHaveWaited, WaitedFor, Dispatches, Idles, IsOver, IsNotOver}
 use Rattle.reactor_desk.specs.Notices as desk
 use Rattle.reactor_desk.specs.declared.terms.DeskTerms.{DeskTerms}
 use Rattle.reactor_desk.specs.declared.desk.Desk.{Desk}
+use Rattle.reactor_desk.specs.declared.leading.Led.{Led}
 use Rattle.reactor_desk.specs.declared.leading.Led.TheVariants as led
-use Rattle.tp_reactor.specs.Alone.{LeadsTo, ServesTo, RoundsTo}
+use Rattle.tp_reactor.specs.Alone.{LeadsTo, ServesTo, RoundsTo, RunsTo}
+use Rattle.tp_reactor.specs.Working.{ran_of}
+use Rattle.tp_reactor.specs.declared.working.Ran.{Ran}
+use Rattle.tp_reactor.specs.declared.working.Ran.TheVariants as ran
 use Rattle.event_script.specs.Script.{ScriptGroup, groups_told, steps_of}
 use Rattle.event_script.specs.Stories.{offers}
 use Rattle.log_handler.specs.declared.note.ServerNote.{ServerNote}
@@ -256,9 +260,9 @@ module _ {H M Q W V E : Type 0} (m : Meaning H M Q W V ServerNote E) (q : DeskTe
   DispatchesTo F h before job new list = (d : Dispatches m q F h None before job new) × (list ≡ (h ++ d.waited) ++ Started (job_event job) ∷ [])
 
   -- the entries before the start
-  record Ready (list : List (Entry ServerNote)) : Type 0 where
-    each : EachStep (Steps groups) (past_of list)
-    free : is_free (past_of list) ≡ true
+  pub record Ready (list : List (Entry ServerNote)) : Type 0 where
+    pub each : EachStep (Steps groups) (past_of list)
+    pub free : is_free (past_of list) ≡ true
 
   ready : (first : ℕ) (h waited : List (Entry ServerNote)) (found new : Desk H M Q W V ServerNote E) (before : NetFacts E) → DeskStands m q first found h → m.keeps q.run (net_of (core_of new))
       → Reserves (m.facts (net_of (core_of found))) before → MayHaveWaited None h before waited (m.facts (net_of (core_of new))) → Between groups (past_of h) → Ready (h ++ waited)
@@ -351,3 +355,94 @@ module _ {H M Q W V E : Type 0} (m : Meaning H M Q W V ServerNote E) (q : DeskTe
   rounds zero list r f = subst (λ (l : List (Entry ServerNote)). Between groups (past_of l)) (sym r) at_start
   rounds (suc n) list r f =
       ⊎_elim (λ (l : LeadsTo m q None r.0 led.Quiet list). lead_quiet r.0 list l f (rounds n r.0 r.1)) (λ (v : ServesTo m q None r.0 list). serves r.0 list v f (rounds n r.0 r.1)) r.2
+
+  -- ---- the last lead, whatever it gave
+
+  between_ready : (list : List (Entry ServerNote)) → Between groups (past_of list) → Ready list
+  between_ready list b = record { each = b.each; free = b.free }
+
+  lead_over : (h list : List (Entry ServerNote)) → LeadsTo m q None h led.Over list → Front most groups list → (Front most groups h → Between groups (past_of h)) → Idle IsOver list
+  lead_over h list l f before =
+      let g = l.gives.1 in
+      let there : Front most groups (h ++ g.notices) = front_before most groups (h ++ g.notices) g.gives.entries (subst (Front most groups) l.leaves f) in
+      let same = none_drained most groups h g.notices there.quiet g.are in
+      idles l.first g.first h l.found l.left g.net IsOver list l.stood g.reserves
+      (subst (λ (x : List (Entry ServerNote)). IdlesTo g.first x g.net IsOver l.left list) same (g.gives, l.leaves))
+      (before (front_before most groups h g.notices there))
+
+  abbrev LeavesTo : ℕ → List (Entry ServerNote) → NetFacts E → Desk H M Q W V ServerNote E → List (Entry ServerNote) → Type 0
+  LeavesTo F h before new list = (l : Leaves m q F h None before new) × (list ≡ h ++ l.entries)
+
+  lead_lost : (h list : List (Entry ServerNote)) → LeadsTo m q None h led.NoMemory list → Front most groups list → (Front most groups h → Between groups (past_of h)) → Ready list
+  lead_lost h list l f before =
+      let g = l.gives.1 in
+      let there : Front most groups (h ++ g.notices) = front_before most groups (h ++ g.notices) g.gives.entries (subst (Front most groups) l.leaves f) in
+      let same = none_drained most groups h g.notices there.quiet g.are in
+      let d : LeavesTo g.first h g.net l.left list = subst (λ (x : List (Entry ServerNote)). LeavesTo g.first x g.net l.left list) same (g.gives, l.leaves) in
+      subst Ready (sym d.1) (ready l.first h d.0.entries l.found l.left g.net l.stood d.0.stands.core.tracks.keeps g.reserves d.0.may (before (front_before most groups h g.notices there)))
+
+  lead_failed : (h list : List (Entry ServerNote)) → LeadsTo m q None h led.NetFault list → Front most groups list → (Front most groups h → Between groups (past_of h)) → Ready list
+  lead_failed h list l f before =
+      let g = l.gives.1 in
+      let there : Front most groups (h ++ g.notices) = subst (Front most groups) l.leaves f in
+      let same = none_drained most groups h g.notices there.quiet g.are in
+      subst Ready (sym (l.leaves ∙ same)) (between_ready h (before (front_before most groups h g.notices there)))
+
+  lead_same : (h list : List (Entry ServerNote)) → list ≡ h → Front most groups list → (Front most groups h → Between groups (past_of h)) → Ready list
+  lead_same h list is f before = subst Ready (sym is) (between_ready h (before (subst (Front most groups) is f)))
+
+  lead_last : (h list : List (Entry ServerNote)) (l : Led H ServerNote E) (answer : Ran) → ran_of l ≡ Some answer → LeadsTo m q None h l list → Front most groups list → (Front most groups h → Between groups (past_of h)) → Ready list
+  lead_last h list (led.Job job) answer is l f before = absurd (none is)
+    where
+      none : ◌≡◌ {A = Option Ran} None (Some answer) → ⊥
+      none q = cc
+  lead_last h list led.Quiet answer is l f before = absurd (none is)
+    where
+      none : ◌≡◌ {A = Option Ran} None (Some answer) → ⊥
+      none q = cc
+  lead_last h list led.Over answer is l f before = let i = lead_over h list l f before in record { each = i.waited.each; free = i.waited.free }
+  lead_last h list led.NoMemory answer is l f before = lead_lost h list l f before
+  lead_last h list led.NetFault answer is l f before = lead_failed h list l f before
+  lead_last h list led.Stopped answer is l f before = lead_same h list l.leaves f before
+  lead_last h list led.Broken answer is l f before = lead_same h list l.leaves f before
+  lead_last h list led.VolumeFault answer is l f before = lead_same h list l.leaves f before
+
+  -- a lead that ended the loop with Over
+  over_lead : (h list : List (Entry ServerNote)) (l : Led H ServerNote E) → ran_of l ≡ Some ran.Over → LeadsTo m q None h l list → LeadsTo m q None h led.Over list
+  over_lead h list led.Over is x = x
+  over_lead h list (led.Job job) is x = absurd (none is)
+    where
+      none : ◌≡◌ {A = Option Ran} None (Some ran.Over) → ⊥
+      none q = cc
+  over_lead h list led.Quiet is x = absurd (none is)
+    where
+      none : ◌≡◌ {A = Option Ran} None (Some ran.Over) → ⊥
+      none q = cc
+  over_lead h list led.Stopped is x = absurd (other is)
+    where
+      other : ◌≡◌ {A = Option Ran} (Some ran.Stopped) (Some ran.Over) → ⊥
+      other q = cc
+  over_lead h list led.Broken is x = absurd (other is)
+    where
+      other : ◌≡◌ {A = Option Ran} (Some ran.Broken) (Some ran.Over) → ⊥
+      other q = cc
+  over_lead h list led.VolumeFault is x = absurd (other is)
+    where
+      other : ◌≡◌ {A = Option Ran} (Some ran.VolumeFault) (Some ran.Over) → ⊥
+      other q = cc
+  over_lead h list led.NetFault is x = absurd (other is)
+    where
+      other : ◌≡◌ {A = Option Ran} (Some ran.NetFault) (Some ran.Over) → ⊥
+      other q = cc
+  over_lead h list led.NoMemory is x = absurd (other is)
+    where
+      other : ◌≡◌ {A = Option Ran} (Some ran.NoMemory) (Some ran.Over) → ⊥
+      other q = cc
+
+  -- ---- the whole loop
+
+  pub loop_ready : (answer : Ran) (list : List (Entry ServerNote)) → RunsTo m q None at_first answer list → Front most groups list → Ready list
+  loop_ready answer list r f = lead_last r.last list r.led answer r.answers r.leads f (rounds r.rounds r.last r.were)
+
+  pub loop_over : (list : List (Entry ServerNote)) (r : RunsTo m q None at_first ran.Over list) → Front most groups list → Idle IsOver list
+  loop_over list r f = lead_over r.last list (over_lead r.last list r.led r.answers r.leads) f (rounds r.rounds r.last r.were)

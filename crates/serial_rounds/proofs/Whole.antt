@@ -1,5 +1,5 @@
 -- The run of one worker that ended with Over is the serial journal of its script.
-use Rattle.std.proofs.Common.{ℕ, ◌≡◌, ◌∙◌, Bool, true, false, List, [], ◌∷◌, ◌++◌, Option, refl, sym, subst, ap, append_assoc}
+use Rattle.std.proofs.Common.{ℕ, ◌≡◌, ◌∙◌, Bool, true, false, List, [], ◌∷◌, ◌++◌, Option, Some, refl, sym, subst, ap, append_assoc}
 use Rattle.std.specs.List.{list_any, list_all}
 use Rattle.std.proofs.lemmas.Bool.{false≢true, and_parts, both_ways, or_from}
 use Rattle.std.proofs.lemmas.List.{reverse-reverse}
@@ -12,20 +12,18 @@ use Rattle.reactor_desk.specs.declared.terms.DeskTerms.{DeskTerms}
 use Rattle.tp_reactor.specs.declared.working.Ran.TheVariants as ran
 use Rattle.event_script.specs.Script.{ScriptGroup}
 use Rattle.log_handler.specs.declared.note.ServerNote.{ServerNote}
-use Rattle.script_runs.specs.Laws.{RunsOver}
 use Rattle.script_runs.specs.Runs.{is_closing}
 use Rattle.script_runs.specs.Steps.{EachStep}
-use Rattle.script_runs.proofs.Whole as whole
 use Rattle.script_runs.proofs.Winding as winding
-use Rattle.script_serial.specs.Serial.{Serial, IsSettledAtOnce, InstallsOnly, WaitsOnly, ClosesUp, OnlyClosesUp, is_foreign}
+use Rattle.script_serial.specs.Serial.{Serial, IsSettledAtOnce, InstallsOnly, WaitsOnly, ClosesUp, OnlyClosesUp, is_foreign, is_over_here}
 use Rattle.serial_rounds.specs.Alone.{RunsAlone}
 use Rattle.serial_rounds.proofs.Pushing.{pushed, past_pushed, EachPushed, each_pushed, each_map, each_place}
-use Rattle.serial_rounds.proofs.Stepping.{settles_free, Steps}
+use Rattle.serial_rounds.proofs.Stepping.{settles_free, Steps, over_here}
 use Rattle.serial_rounds.proofs.Removing.{Winds}
 use Rattle.serial_rounds.proofs.Installing as installing
 use Rattle.reactor_desk.specs.Leading.{IsOver}
-use Rattle.serial_rounds.proofs.Rounds.{Idle}
-use Rattle.serial_rounds.proofs.Over as over
+use Rattle.serial_rounds.proofs.Rounds.{Idle, is_over_named, loop_over}
+use Rattle.serial_rounds.proofs.Ends as ends
 
 -- what stands behind a wait that came to nothing
 ends_installing : (most : ℕ) (idle : Option ℕ) (past : List (Entry ServerNote)) → follows_ready past ≡ true → InstallsOnly most idle past Ended
@@ -70,22 +68,23 @@ module _ {H M Q W V E : Type 0} (m : Meaning H M Q W V ServerNote E) (q : DeskTe
   abbrev past : List (Entry ServerNote)
   past = past_of r.run
 
+  -- what the last lead left
   last : Idle m q groups r.limit r.offers_are r.names r.plays IsOver r.run
-  last = over.last m q idle groups journal r
+  last = loop_over m q groups r.limit r.offers_are r.names r.plays r.run r.alone (ends.front m q ran.Over idle groups journal r)
 
-  abbrev ro : RunsOver m.means q.run idle groups journal
-  ro = over.runs_over m q idle groups journal r
+  over : is_over_here groups past ≡ true
+  over = over_here groups past (Some last.answer) last.waited ∙ is_over_named last.answer last.found last.named last.is
 
   removes_at : (later : List (Entry ServerNote)) (e : Entry ServerNote) (before : List (Entry ServerNote)) → past ≡ later ++ e ∷ before → winding.removes e ≡ false
-  removes_at later e before is = winding.none_at winding.removes later e before (sym (ap (list_any winding.removes) is) ∙ whole.keeps m.means q.run idle groups journal ro)
+  removes_at later e before is = winding.none_at winding.removes later e before (sym (ap (list_any winding.removes) is) ∙ ends.keeps m q ran.Over idle groups journal r)
 
   removed_before : (later before : List (Entry ServerNote)) → past ≡ later ++ before → list_any winding.removes before ≡ false
-  removed_before later before is = winding.any_right winding.removes later before (sym (ap (list_any winding.removes) is) ∙ whole.keeps m.means q.run idle groups journal ro)
+  removed_before later before is = winding.any_right winding.removes later before (sym (ap (list_any winding.removes) is) ∙ ends.keeps m q ran.Over idle groups journal r)
 
   -- ---- the run
 
   settles : EachStep IsSettledAtOnce past
-  settles = over.settled m q idle groups journal r
+  settles = ends.settled m q ran.Over idle groups journal r
 
   removes : EachStep ClosesUp past
   removes = each_place ClosesUp past [] past refl (λ later e before is. removes_nothing before e (removes_at later e before is))
@@ -93,31 +92,31 @@ module _ {H M Q W V E : Type 0} (m : Meaning H M Q W V ServerNote E) (q : DeskTe
   closes : EachStep OnlyClosesUp past
   closes = each_place OnlyClosesUp past [] past refl (λ later e before is.
       let placed = is ∙ sym (append_assoc later (e ∷ []) before) in
-      closes_nothing before e (removed_before (later ++ e ∷ []) before placed) (installing.going_at m.means q.run idle groups journal ro r.no_fault (later ++ e ∷ []) before placed))
+      closes_nothing before e (removed_before (later ++ e ∷ []) before placed) (installing.going_at m q ran.Over idle groups journal r (later ++ e ∷ []) before placed))
 
   waits : EachStep (WaitsOnly groups) past
   waits = each_map (Steps groups) (WaitsOnly groups) (λ before e s. s.waits) past last.waited.each
 
   installs : EachStep (InstallsOnly most idle) past
-  installs = installing.installs m.means q.run idle groups journal ro r.no_fault settles closes
+  installs = installing.installs m q ran.Over idle groups journal r settles closes
 
   -- ---- its winding up
 
-  past_is : past_of journal ≡ pushed past (Ended ∷ over.removals m q idle groups journal r)
-  past_is = ap past_of (over.journal_is m q idle groups journal r) ∙ past_pushed r.run (Ended ∷ over.removals m q idle groups journal r)
+  past_is : past_of journal ≡ pushed past (Ended ∷ ends.removals m q ran.Over idle groups journal r)
+  past_is = ap past_of (ends.journal_is m q ran.Over idle groups journal r) ∙ past_pushed r.run (Ended ∷ ends.removals m q ran.Over idle groups journal r)
 
   -- an entry behind the end is so in each way
   both : (P : List (Entry ServerNote) → Entry ServerNote → Type 0) → EachStep P past → P past Ended → ((before : List (Entry ServerNote)) (e : Entry ServerNote) → Winds most idle groups before e → P before e) → EachStep P (past_of journal)
   both P run end wound =
       subst (EachStep P) (sym past_is)
-      (each_pushed P past (Ended ∷ over.removals m q idle groups journal r) run (end, pushed_map (Winds most idle groups) P wound (Ended ∷ past) (over.removals m q idle groups journal r) (over.winds m q idle groups journal r).each))
+      (each_pushed P past (Ended ∷ ends.removals m q ran.Over idle groups journal r) run (end, pushed_map (Winds most idle groups) P wound (Ended ∷ past) (ends.removals m q ran.Over idle groups journal r) (ends.winds m q ran.Over idle groups journal r).each))
 
   kinds : list_any is_foreign journal ≡ false
   kinds =
-      ap (list_any is_foreign) (over.journal_is m q idle groups journal r)
-      ∙ winding.any_append is_foreign r.run (Ended ∷ over.removals m q idle groups journal r)
-      (ap (list_any is_foreign) (sym (reverse-reverse r.run)) ∙ winding.any_reverse is_foreign past (none_placed is_foreign past [] past refl (installing.familiar m.means q.run idle groups journal ro r.no_fault)))
-      (familiar_all (over.removals m q idle groups journal r) (over.winds m q idle groups journal r).closing)
+      ap (list_any is_foreign) (ends.journal_is m q ran.Over idle groups journal r)
+      ∙ winding.any_append is_foreign r.run (Ended ∷ ends.removals m q ran.Over idle groups journal r)
+      (ap (list_any is_foreign) (sym (reverse-reverse r.run)) ∙ winding.any_reverse is_foreign past (none_placed is_foreign past [] past refl (installing.familiar m q ran.Over idle groups journal r)))
+      (familiar_all (ends.removals m q ran.Over idle groups journal r) (ends.winds m q ran.Over idle groups journal r).closing)
 
   pub serial : Serial most idle groups journal
   serial = record {
@@ -127,9 +126,9 @@ module _ {H M Q W V E : Type 0} (m : Meaning H M Q W V ServerNote E) (q : DeskTe
     kinds = kinds;
     settles = both IsSettledAtOnce settles (settles_free past Ended last.waited.free) (λ before e w. w.settles);
     installs = both (InstallsOnly most idle) installs (ends_installing most idle past last.waited.ready) (λ before e w. w.installs);
-    waits = both (WaitsOnly groups) waits (last.spent, over.over m q idle groups journal r) (λ before e w. w.waits);
+    waits = both (WaitsOnly groups) waits (last.spent, over) (λ before e w. w.waits);
     removes = both ClosesUp removes tt (λ before e w. w.removes);
-    closes = both OnlyClosesUp closes (closes_nothing past Ended (whole.keeps m.means q.run idle groups journal ro) (over.going m q idle groups journal r)) (λ before e w. w.closes);
+    closes = both OnlyClosesUp closes (closes_nothing past Ended (ends.keeps m q ran.Over idle groups journal r) (ends.going m q ran.Over idle groups journal r)) (λ before e w. w.closes);
     closed = r.whole.closed;
     turns = r.turns;
   }
