@@ -13,7 +13,7 @@ use Rattle.ev_types.specs.declared.upcall.Upcall.TheVariants.{Input, Output, Exc
 use Rattle.ev_base.specs.Terms.{Terms}
 use Rattle.reactor_journal.specs.Event.{Item}
 use Rattle.reactor_journal.specs.declared.entry.Entry.{Entry}
-use Rattle.reactor_journal.specs.declared.entry.Entry.TheVariants.{Opened, Scheduled, Cancelled, Posted, Stale, Returned, Masked, Suspended, Resumed, Refused, Closed, Ended}
+use Rattle.reactor_journal.specs.declared.entry.Entry.TheVariants.{Opened, Scheduled, Cancelled, Posted, Stale, Returned, Masked, Suspended, Resumed, Refused, Closed, Ended, Removed}
 use Rattle.reactor_journal.specs.Past.{past_of, had, now, live, opened, ended, is_ended}
 use Rattle.reactor_journal.specs.Follow.{is_legal, may_follow, most_handles}
 use Rattle.reactor_journal.proofs.Alive.{dead_was_removed}
@@ -130,6 +130,12 @@ no_room false false true o h x y = absurd (false≢true (sym x))
 no_room false false false true h x y = absurd (false≢true (sym y))
 no_room false false false false h x y = absurd (false≢true h)
 
+-- no handler was removed before, and the reactor was not stopped
+pub closes_nothing : (past : List (Entry ServerNote)) (e : Entry ServerNote) → list_any winding.removes past ≡ false → ended past ≡ false → OnlyClosesUp past e
+closes_nothing [] e none going = λ over. absurd (both_ways (ended {N = ServerNote} []) going over)
+closes_nothing (Removed handle ∷ past) e none going = absurd (false≢true (sym none))
+closes_nothing (d ∷ past) e none going = λ over. absurd (both_ways _ going over)
+
 module _ {H M Q W V E : Type 0} (m : Meaning H M Q W V ServerNote E) (q : DeskTerms) (ran : Ran) (idle : Option ℕ) (groups : List ScriptGroup) (journal : List (Entry ServerNote)) (r : RunsAlone m q ran idle groups journal) where
   abbrev t : Terms
   t = q.run
@@ -210,115 +216,129 @@ module _ {H M Q W V E : Type 0} (m : Meaning H M Q W V ServerNote E) (q : DeskTe
       by_handle zero e = at_first (subst (settling.Turn t.most all (ends.legal m q ran idle groups journal r) event answer (note.Accepted conn) past) e turn.turn)
       by_handle (suc c) e = at_other c (subst (settling.Turn t.most all (ends.legal m q ran idle groups journal r) event answer (note.Accepted conn) past) e turn.turn)
 
-  module _ (settles : EachStep IsSettledAtOnce run) (closes : EachStep OnlyClosesUp run) where
-    -- it closes nothing
-    not_closed : (later past : List (Entry ServerNote)) (handle : Handle) (said : ServerNote) (event : ℕ) (answer : Answer) (conn : ℕ) → run ≡ later ++ Closed handle said ∷ (Returned event answer (note.Accepted conn) ∷ past) → ⊥
-    not_closed later past handle said event answer conn is =
-        let before : List (Entry ServerNote) = Returned event answer (note.Accepted conn) ∷ past in
-        let w = closing before handle.0 (may_fits t.most before (Closed handle said) (may_at later (Closed handle said) before is)) in
-        let placed = shift later (Closed handle said) before is in
-        let ends = ends_last before handle.0 (each_front IsSettledAtOnce (later ++ Closed handle said ∷ []) before (subst (EachStep IsSettledAtOnce) placed settles))
-        (each_front OnlyClosesUp (later ++ Closed handle said ∷ []) before (subst (EachStep OnlyClosesUp) placed closes)) (dead_was_removed before handle.0 w.0 w.1) w.3 in
-        subst (λ (a : Answer). EndsLast (Returned event a (note.Accepted conn) ∷ past) handle.0) (accept_again (later ++ Closed handle said ∷ []) past event answer conn placed) ends
+  pub removes_at : (later : List (Entry ServerNote)) (e : Entry ServerNote) (before : List (Entry ServerNote)) → run ≡ later ++ e ∷ before → winding.removes e ≡ false
+  removes_at later e before is = winding.none_at winding.removes later e before (sym (ap (list_any winding.removes) is) ∙ ends.keeps m q ran idle groups journal r)
 
-    -- ---- behind it
+  removed_before : (later before : List (Entry ServerNote)) → run ≡ later ++ before → list_any winding.removes before ≡ false
+  removed_before later before is = winding.any_right winding.removes later before (sym (ap (list_any winding.removes) is) ∙ ends.keeps m q ran idle groups journal r)
 
-    room_opened : (later past : List (Entry ServerNote)) (handle : Handle) (mask : Mask) → run ≡ later ++ Opened handle mask ∷ past → has_room t.most past ≡ true
-    room_opened later past handle mask is =
-        let fits = and_parts (nat_lt (live past) t.most) (nat_lt (opened past) most_handles) (and_parts _ _ (may_fits t.most past (Opened handle mask) (may_at later (Opened handle mask) past is))).1 in
-        and_from _ _ (ap not (lt_ne (live past) t.most fits.0)) (ap not (lt_ne (opened past) most_handles fits.1))
+  settles : EachStep IsSettledAtOnce run
+  settles = ends.settled m q ran idle groups journal r
 
-    refused : (later past : List (Entry ServerNote)) (number : ℕ) (fault : Bool) (said : ServerNote) → run ≡ later ++ Refused number fault said ∷ past → (has_room t.most past ≡ false) × (fault ≡ false)
-    refused later past number fault said is =
-        let none : fault ≡ false = winding.none_at is_fault ((ends.wound m q ran idle groups journal r ++ Ended ∷ []) ++ later) (Refused number fault said) past
-        (sym (ap (list_any is_fault) (ends.all_is m q ran idle groups journal r ∙ in_all later (Refused number fault said ∷ past) is)) ∙ winding.any_reverse is_fault journal r.no_fault) in
-        let fits = (and_parts _ _ (may_fits t.most past (Refused number fault said) (may_at later (Refused number fault said) past is))).1 in
-        (no_room (live past == t.most) (opened past == most_handles) fault (ended past) fits none (going_at (later ++ Refused number fault said ∷ []) past (shift later (Refused number fault said) past is)), none)
+  -- only the winding up closes behind a removal
+  pub closes : EachStep OnlyClosesUp run
+  closes = each_place OnlyClosesUp run [] run refl (λ later e before is.
+      let placed = is ∙ sym (append_assoc later (e ∷ []) before) in
+      closes_nothing before e (removed_before (later ++ e ∷ []) before placed) (going_at (later ++ e ∷ []) before placed))
 
-    -- the entry behind it registers or refuses its handler
-    installed : (later : List (Entry ServerNote)) (e : Entry ServerNote) (past : List (Entry ServerNote)) (event : ℕ) (answer : Answer) (conn : ℕ) → run ≡ later ++ e ∷ (Returned event answer (note.Accepted conn) ∷ past)
-        → OffersBehind (e ∷ reverse later) → IsInstalled t.most (Returned event answer (note.Accepted conn) ∷ past) e
-    installed later (Opened handle mask) past event answer conn is offers =
-        (room_opened later (Returned event answer (note.Accepted conn) ∷ past) handle mask is, (numbered_at later (Opened handle mask) (Returned event answer (note.Accepted conn) ∷ past) is).1)
-    installed later (Refused number fault said) past event answer conn is offers = refused later (Returned event answer (note.Accepted conn) ∷ past) number fault said is
-    installed later (Closed handle said) past event answer conn is offers = absurd (not_closed later past handle said event answer conn is)
-    installed later _ past event answer conn is offers = absurd offers
+  -- it closes nothing
+  not_closed : (later past : List (Entry ServerNote)) (handle : Handle) (said : ServerNote) (event : ℕ) (answer : Answer) (conn : ℕ) → run ≡ later ++ Closed handle said ∷ (Returned event answer (note.Accepted conn) ∷ past) → ⊥
+  not_closed later past handle said event answer conn is =
+      let before : List (Entry ServerNote) = Returned event answer (note.Accepted conn) ∷ past in
+      let w = closing before handle.0 (may_fits t.most before (Closed handle said) (may_at later (Closed handle said) before is)) in
+      let placed = shift later (Closed handle said) before is in
+      let ends = ends_last before handle.0 (each_front IsSettledAtOnce (later ++ Closed handle said ∷ []) before (subst (EachStep IsSettledAtOnce) placed settles))
+      (each_front OnlyClosesUp (later ++ Closed handle said ∷ []) before (subst (EachStep OnlyClosesUp) placed closes)) (dead_was_removed before handle.0 w.0 w.1) w.3 in
+      subst (λ (a : Answer). EndsLast (Returned event a (note.Accepted conn) ∷ past) handle.0) (accept_again (later ++ Closed handle said ∷ []) past event answer conn placed) ends
 
-    -- it is not the first entry
-    behind_some : (later past : List (Entry ServerNote)) (event : ℕ) (answer : Answer) (said : ServerNote) → run ≡ later ++ Returned event answer said ∷ past → 1 ≤ length past
-    behind_some later [] event answer said is = absurd (other (begun_at later (Returned event answer said) [] is))
-      where
-        other : Returned event answer said ≡ Opened first_handle read_alone → ⊥
-        other q = cc
-    behind_some later (d ∷ past) event answer said is = omega arith
+  -- ---- behind it
 
-    accepted : (later : List (Entry ServerNote)) (e : Entry ServerNote) (past : List (Entry ServerNote)) (event : ℕ) (answer : Answer) (conn : ℕ) → run ≡ later ++ e ∷ (Returned event answer (note.Accepted conn) ∷ past)
-        → IsInstalled t.most (Returned event answer (note.Accepted conn) ∷ past) e
-    accepted later e past event answer conn is =
-        let before = behind_some (later ++ e ∷ []) past event answer (note.Accepted conn) (shift later e (Returned event answer (note.Accepted conn) ∷ past) is) in
-        installed later e past event answer conn is (goes_before later e (Returned event answer (note.Accepted conn)) past is before (r.acts.installs (note.Accepted conn)))
+  room_opened : (later past : List (Entry ServerNote)) (handle : Handle) (mask : Mask) → run ≡ later ++ Opened handle mask ∷ past → has_room t.most past ≡ true
+  room_opened later past handle mask is =
+      let fits = and_parts (nat_lt (live past) t.most) (nat_lt (opened past) most_handles) (and_parts _ _ (may_fits t.most past (Opened handle mask) (may_at later (Opened handle mask) past is))).1 in
+      and_from _ _ (ap not (lt_ne (live past) t.most fits.0)) (ap not (lt_ne (opened past) most_handles fits.1))
 
-    -- ---- elsewhere nothing is registered, refused or timed
+  refused : (later past : List (Entry ServerNote)) (number : ℕ) (fault : Bool) (said : ServerNote) → run ≡ later ++ Refused number fault said ∷ past → (has_room t.most past ≡ false) × (fault ≡ false)
+  refused later past number fault said is =
+      let none : fault ≡ false = winding.none_at is_fault ((ends.wound m q ran idle groups journal r ++ Ended ∷ []) ++ later) (Refused number fault said) past
+      (sym (ap (list_any is_fault) (ends.all_is m q ran idle groups journal r ∙ in_all later (Refused number fault said ∷ past) is)) ∙ winding.any_reverse is_fault journal r.no_fault) in
+      let fits = (and_parts _ _ (may_fits t.most past (Refused number fault said) (may_at later (Refused number fault said) past is))).1 in
+      (no_room (live past == t.most) (opened past == most_handles) fault (ended past) fits none (going_at (later ++ Refused number fault said ∷ []) past (shift later (Refused number fault said) past is)), none)
 
-    none_accepted : (later : List (Entry ServerNote)) (e d : Entry ServerNote) (past : List (Entry ServerNote)) → run ≡ later ++ e ∷ (d ∷ past) → is_accepted (note_settled (d ∷ past)) ≡ false
-        → ((handle : Handle) → IsRegisteredHere 1 handle (d ∷ past) → ⊥) → is_installing e ≡ false
-    none_accepted later (Opened handle mask) d past is none timed = absurd (both_ways _ none (numbered_at later (Opened handle mask) (d ∷ past) is).0)
-    none_accepted later (Refused number fault said) d past is none timed = absurd (both_ways _ none (numbered_at later (Refused number fault said) (d ∷ past) is))
-    none_accepted later (Scheduled timer handle first every) d past is none timed = absurd (timed handle (goes later (Scheduled timer handle first every) (d ∷ past) is (omega arith)))
-    none_accepted later _ d past is none timed = refl
+  -- the entry behind it registers or refuses its handler
+  installed : (later : List (Entry ServerNote)) (e : Entry ServerNote) (past : List (Entry ServerNote)) (event : ℕ) (answer : Answer) (conn : ℕ) → run ≡ later ++ e ∷ (Returned event answer (note.Accepted conn) ∷ past)
+      → OffersBehind (e ∷ reverse later) → IsInstalled t.most (Returned event answer (note.Accepted conn) ∷ past) e
+  installed later (Opened handle mask) past event answer conn is offers =
+      (room_opened later (Returned event answer (note.Accepted conn) ∷ past) handle mask is, (numbered_at later (Opened handle mask) (Returned event answer (note.Accepted conn) ∷ past) is).1)
+  installed later (Refused number fault said) past event answer conn is offers = refused later (Returned event answer (note.Accepted conn) ∷ past) number fault said is
+  installed later (Closed handle said) past event answer conn is offers = absurd (not_closed later past handle said event answer conn is)
+  installed later _ past event answer conn is offers = absurd offers
 
-    -- behind a closing neither
-    closed_quiet : (later : List (Entry ServerNote)) (handle : Handle) (said : ServerNote) (past : List (Entry ServerNote)) → run ≡ later ++ Closed handle said ∷ past → is_accepted (note_settled (Closed handle said ∷ past)) ≡ false
-    closed_quiet later handle said [] is = refl
-    closed_quiet later handle said (Returned event answer (note.Accepted conn) ∷ past) is = absurd (not_closed later past handle said event answer conn is)
-    closed_quiet later handle said (_ ∷ past) is = refl
+  -- it is not the first entry
+  behind_some : (later past : List (Entry ServerNote)) (event : ℕ) (answer : Answer) (said : ServerNote) → run ≡ later ++ Returned event answer said ∷ past → 1 ≤ length past
+  behind_some later [] event answer said is = absurd (other (begun_at later (Returned event answer said) [] is))
+    where
+      other : Returned event answer said ≡ Opened first_handle read_alone → ⊥
+      other q = cc
+  behind_some later (d ∷ past) event answer said is = omega arith
 
-    -- ---- behind a registration
+  accepted : (later : List (Entry ServerNote)) (e : Entry ServerNote) (past : List (Entry ServerNote)) (event : ℕ) (answer : Answer) (conn : ℕ) → run ≡ later ++ e ∷ (Returned event answer (note.Accepted conn) ∷ past)
+      → IsInstalled t.most (Returned event answer (note.Accepted conn) ∷ past) e
+  accepted later e past event answer conn is =
+      let before = behind_some (later ++ e ∷ []) past event answer (note.Accepted conn) (shift later e (Returned event answer (note.Accepted conn) ∷ past) is) in
+      installed later e past event answer conn is (goes_before later e (Returned event answer (note.Accepted conn)) past is before (r.acts.installs (note.Accepted conn)))
 
-    timed : (later : List (Entry ServerNote)) (e : Entry ServerNote) (handle : Handle) (mask : Mask) (d : Entry ServerNote) (past : List (Entry ServerNote)) (asked : Option ℕ) → run ≡ later ++ e ∷ (Opened handle mask ∷ (d ∷ past)) → asked ≡ idle
-        → IsTimedBy asked handle.0 (d ∷ past) e
-    timed later e handle mask d past asked is same = by_idle asked same
-      where
-        behind : GoesByTurn means t 1 (d ∷ past) (Opened handle mask) (e ∷ reverse later)
-        behind = goes_before later e (Opened handle mask) (d ∷ past) is (omega arith)
+  -- ---- elsewhere nothing is registered, refused or timed
 
-        timer_is : behind.0 ≡ idle_timer idle
-        timer_is = may_install t behind.2.event.upcall mask behind.0 idle r.idle_is (asks (d ∷ past) (Installing mask behind.0) behind.2)
+  none_accepted : (later : List (Entry ServerNote)) (e d : Entry ServerNote) (past : List (Entry ServerNote)) → run ≡ later ++ e ∷ (d ∷ past) → is_accepted (note_settled (d ∷ past)) ≡ false
+      → ((handle : Handle) → IsRegisteredHere 1 handle (d ∷ past) → ⊥) → is_installing e ≡ false
+  none_accepted later (Opened handle mask) d past is none timed = absurd (both_ways _ none (numbered_at later (Opened handle mask) (d ∷ past) is).0)
+  none_accepted later (Refused number fault said) d past is none timed = absurd (both_ways _ none (numbered_at later (Refused number fault said) (d ∷ past) is))
+  none_accepted later (Scheduled timer handle first every) d past is none timed = absurd (timed handle (goes later (Scheduled timer handle first every) (d ∷ past) is (omega arith)))
+  none_accepted later _ d past is none timed = refl
 
-        -- without an idle time there is no timer
-        untimed : (e : Entry ServerNote) → run ≡ later ++ e ∷ (Opened handle mask ∷ (d ∷ past)) → (timer : Option (ℕ × ℕ)) → timer ≡ None → TimerBehind (now (d ∷ past)) (e ∷ reverse later) timer → is_installing e ≡ false
-        untimed (Scheduled n other first every) is timer none b = absurd (none_some (b.0, every) (sym none ∙ b.2))
-        untimed (Opened other wanted) is timer none b = absurd (false≢true (numbered_at later (Opened other wanted) (Opened handle mask ∷ (d ∷ past)) is).0)
-        untimed (Refused number fault said) is timer none b = absurd (false≢true (numbered_at later (Refused number fault said) (Opened handle mask ∷ (d ∷ past)) is))
-        untimed _ is timer none b = refl
+  -- behind a closing neither
+  closed_quiet : (later : List (Entry ServerNote)) (handle : Handle) (said : ServerNote) (past : List (Entry ServerNote)) → run ≡ later ++ Closed handle said ∷ past → is_accepted (note_settled (Closed handle said ∷ past)) ≡ false
+  closed_quiet later handle said [] is = refl
+  closed_quiet later handle said (Returned event answer (note.Accepted conn) ∷ past) is = absurd (not_closed later past handle said event answer conn is)
+  closed_quiet later handle said (_ ∷ past) is = refl
 
-        of_it : (n : ℕ) (other : Handle) (first every : ℕ) → e ≡ Scheduled n other first every → other.0 ≡ handle.0
-        of_it n other first every q =
-            let here : GoesByTurn means t 1 (Opened handle mask ∷ (d ∷ past)) (Scheduled n other first every) (reverse later) = goes later (Scheduled n other first every) (Opened handle mask ∷ (d ∷ past)) (is ∙ ap (λ (x : Entry ServerNote). later ++ x ∷ (Opened handle mask ∷ (d ∷ past))) q) (omega arith) in
-            ap (λ (h : Handle). h.0) (sym here.0)
+  -- ---- behind a registration
 
-        by_idle : (asked : Option ℕ) → asked ≡ idle → IsTimedBy asked handle.0 (d ∷ past) e
-        by_idle None same = untimed e is behind.0 (timer_is ∙ ap idle_timer (sym same)) behind.1
-        by_idle (Some i) same = timed_by i handle.0 (d ∷ past) e (reverse later) behind.0 (timer_is ∙ ap idle_timer (sym same)) behind.1 of_it
+  timed : (later : List (Entry ServerNote)) (e : Entry ServerNote) (handle : Handle) (mask : Mask) (d : Entry ServerNote) (past : List (Entry ServerNote)) (asked : Option ℕ) → run ≡ later ++ e ∷ (Opened handle mask ∷ (d ∷ past)) → asked ≡ idle
+      → IsTimedBy asked handle.0 (d ∷ past) e
+  timed later e handle mask d past asked is same = by_idle asked same
+    where
+      behind : GoesByTurn means t 1 (d ∷ past) (Opened handle mask) (e ∷ reverse later)
+      behind = goes_before later e (Opened handle mask) (d ∷ past) is (omega arith)
 
-    -- ---- each entry
+      timer_is : behind.0 ≡ idle_timer idle
+      timer_is = may_install t behind.2.event.upcall mask behind.0 idle r.idle_is (asks (d ∷ past) (Installing mask behind.0) behind.2)
 
-    not_behind_first : (handle other : Handle) (mask : Mask) → IsRegisteredHere {N = ServerNote} 1 other (Opened handle mask ∷ []) → ⊥
-    not_behind_first handle other mask h = below h.1
-      where
-        below : 1 ≤ 0 → ⊥
-        below l = omega arith
+      -- without an idle time there is no timer
+      untimed : (e : Entry ServerNote) → run ≡ later ++ e ∷ (Opened handle mask ∷ (d ∷ past)) → (timer : Option (ℕ × ℕ)) → timer ≡ None → TimerBehind (now (d ∷ past)) (e ∷ reverse later) timer → is_installing e ≡ false
+      untimed (Scheduled n other first every) is timer none b = absurd (none_some (b.0, every) (sym none ∙ b.2))
+      untimed (Opened other wanted) is timer none b = absurd (false≢true (numbered_at later (Opened other wanted) (Opened handle mask ∷ (d ∷ past)) is).0)
+      untimed (Refused number fault said) is timer none b = absurd (false≢true (numbered_at later (Refused number fault said) (Opened handle mask ∷ (d ∷ past)) is))
+      untimed _ is timer none b = refl
 
-    install_at : (later : List (Entry ServerNote)) (e : Entry ServerNote) (past : List (Entry ServerNote)) → run ≡ later ++ e ∷ past → InstallsOnly t.most idle past e
-    install_at later e [] is = begun_at later e [] is
-    install_at later e (Returned event answer (note.Accepted conn) ∷ past) is = accepted later e past event answer conn is
-    install_at later e (Opened handle mask ∷ []) is = none_accepted later e (Opened handle mask) [] is refl (λ other h. not_behind_first handle other mask h)
-    install_at later e (Opened handle mask ∷ (d ∷ past)) is = timed later e handle mask d past idle is refl
-    install_at later e (Closed handle said ∷ past) is = none_accepted later e (Closed handle said) past is (closed_quiet (later ++ e ∷ []) handle said past (shift later e (Closed handle said ∷ past) is)) (λ other h. h)
-    install_at later e (d ∷ past) is = none_accepted later e d past is refl (λ other h. h)
+      of_it : (n : ℕ) (other : Handle) (first every : ℕ) → e ≡ Scheduled n other first every → other.0 ≡ handle.0
+      of_it n other first every q =
+          let here : GoesByTurn means t 1 (Opened handle mask ∷ (d ∷ past)) (Scheduled n other first every) (reverse later) = goes later (Scheduled n other first every) (Opened handle mask ∷ (d ∷ past)) (is ∙ ap (λ (x : Entry ServerNote). later ++ x ∷ (Opened handle mask ∷ (d ∷ past))) q) (omega arith) in
+          ap (λ (h : Handle). h.0) (sym here.0)
 
-    pub installs : EachStep (InstallsOnly t.most idle) run
-    installs = each_place (InstallsOnly t.most idle) run [] run refl install_at
+      by_idle : (asked : Option ℕ) → asked ≡ idle → IsTimedBy asked handle.0 (d ∷ past) e
+      by_idle None same = untimed e is behind.0 (timer_is ∙ ap idle_timer (sym same)) behind.1
+      by_idle (Some i) same = timed_by i handle.0 (d ∷ past) e (reverse later) behind.0 (timer_is ∙ ap idle_timer (sym same)) behind.1 of_it
+
+  -- ---- each entry
+
+  not_behind_first : (handle other : Handle) (mask : Mask) → IsRegisteredHere {N = ServerNote} 1 other (Opened handle mask ∷ []) → ⊥
+  not_behind_first handle other mask h = below h.1
+    where
+      below : 1 ≤ 0 → ⊥
+      below l = omega arith
+
+  install_at : (later : List (Entry ServerNote)) (e : Entry ServerNote) (past : List (Entry ServerNote)) → run ≡ later ++ e ∷ past → InstallsOnly t.most idle past e
+  install_at later e [] is = begun_at later e [] is
+  install_at later e (Returned event answer (note.Accepted conn) ∷ past) is = accepted later e past event answer conn is
+  install_at later e (Opened handle mask ∷ []) is = none_accepted later e (Opened handle mask) [] is refl (λ other h. not_behind_first handle other mask h)
+  install_at later e (Opened handle mask ∷ (d ∷ past)) is = timed later e handle mask d past idle is refl
+  install_at later e (Closed handle said ∷ past) is = none_accepted later e (Closed handle said) past is (closed_quiet (later ++ e ∷ []) handle said past (shift later e (Closed handle said ∷ past) is)) (λ other h. h)
+  install_at later e (d ∷ past) is = none_accepted later e d past is refl (λ other h. h)
+
+  pub installs : EachStep (InstallsOnly t.most idle) run
+  installs = each_place (InstallsOnly t.most idle) run [] run refl install_at
 
   -- ---- kinds
 

@@ -1,7 +1,7 @@
 -- Entries that a call appends, one by one, to the past.
 use Rattle.std.proofs.Common.{ℕ, ◌≡◌, ◌∙◌, Bool, true, false, ◌||◌, List, [], ◌∷◌, ◌++◌, refl, sym, ap, append-nil, append_assoc}
 use Rattle.std.specs.List.{list_any, list_all}
-use Rattle.std.proofs.lemmas.Bool.{and_parts, or_parts, both_ways}
+use Rattle.std.proofs.lemmas.Bool.{or_from, and_parts, or_parts, both_ways}
 use Rattle.std.proofs.lemmas.List.{reverse-append}
 use Rattle.reactor_journal.specs.declared.entry.Entry.{Entry}
 use Rattle.reactor_journal.specs.Past.{past_of}
@@ -63,3 +63,9 @@ none_pushed p past (e ∷ es) h =
 pub none_at_all : {A : Type 0} (p q : A → Bool) → ((a : A) → p a ≡ true → q a ≡ true) → (xs : List A) → list_all p xs ≡ true → list_any q xs ≡ false → xs ≡ []
 none_at_all p q same [] all none = refl
 none_at_all p q same (x ∷ xs) all none = absurd (both_ways (q x) (or_parts (q x) (list_any q xs) none).0 (same x (and_parts (p x) (list_all p xs) all).0))
+
+-- a test that no entry of the past passes, by its place
+pub none_placed : {N : Type 0} (p : Entry N → Bool) (whole later past : List (Entry N)) → whole ≡ later ++ past → ((later : List (Entry N)) (e : Entry N) (before : List (Entry N)) → whole ≡ later ++ e ∷ before → p e ≡ false)
+    → list_any p past ≡ false
+none_placed p whole later [] is at = refl
+none_placed p whole later (e ∷ past) is at = or_from _ _ (at later e past is) (none_placed p whole (later ++ e ∷ []) past (is ∙ sym (append_assoc later (e ∷ []) past)) at)

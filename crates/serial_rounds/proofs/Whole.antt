@@ -1,11 +1,11 @@
 -- The run of one worker that ended with Over is the serial journal of its script.
-use Rattle.std.proofs.Common.{ℕ, ◌≡◌, ◌∙◌, Bool, true, false, List, [], ◌∷◌, ◌++◌, Option, Some, refl, sym, subst, ap, append_assoc}
+use Rattle.std.proofs.Common.{ℕ, ◌≡◌, ◌∙◌, true, false, List, [], ◌∷◌, Option, Some, refl, sym, subst, ap}
 use Rattle.std.specs.List.{list_any, list_all}
-use Rattle.std.proofs.lemmas.Bool.{false≢true, and_parts, both_ways, or_from}
+use Rattle.std.proofs.lemmas.Bool.{false≢true, and_parts, or_from}
 use Rattle.std.proofs.lemmas.List.{reverse-reverse}
 use Rattle.reactor_journal.specs.declared.entry.Entry.{Entry}
 use Rattle.reactor_journal.specs.declared.entry.Entry.TheVariants.{Polled, Due, Ready, Removed, Closed, Ended}
-use Rattle.reactor_journal.specs.Past.{past_of, ended}
+use Rattle.reactor_journal.specs.Past.{past_of}
 use Rattle.reactor_journal.specs.Follow.{follows_ready}
 use Rattle.reactor_core.specs.Stands.{Meaning}
 use Rattle.reactor_desk.specs.declared.terms.DeskTerms.{DeskTerms}
@@ -17,7 +17,7 @@ use Rattle.script_runs.specs.Steps.{EachStep}
 use Rattle.script_runs.proofs.Winding as winding
 use Rattle.script_serial.specs.Serial.{Serial, IsSettledAtOnce, InstallsOnly, WaitsOnly, ClosesUp, OnlyClosesUp, is_foreign, is_over_here}
 use Rattle.serial_rounds.specs.Alone.{RunsAlone}
-use Rattle.serial_rounds.proofs.Pushing.{pushed, past_pushed, EachPushed, each_pushed, each_map, each_place}
+use Rattle.serial_rounds.proofs.Pushing.{pushed, past_pushed, EachPushed, each_pushed, each_map, each_place, none_placed}
 use Rattle.serial_rounds.proofs.Stepping.{settles_free, Steps, over_here}
 use Rattle.serial_rounds.proofs.Removing.{Winds}
 use Rattle.serial_rounds.proofs.Installing as installing
@@ -33,12 +33,7 @@ ends_installing most idle (Due timer ∷ past) ready = refl
 ends_installing most idle (Ready handle kind ∷ past) ready = refl
 ends_installing most idle (_ ∷ past) ready = absurd (false≢true ready)
 
--- no handler was removed before, and the reactor was not stopped
-closes_nothing : (past : List (Entry ServerNote)) (e : Entry ServerNote) → list_any winding.removes past ≡ false → ended past ≡ false → OnlyClosesUp past e
-closes_nothing [] e none going = λ over. absurd (both_ways (ended {N = ServerNote} []) going over)
-closes_nothing (Removed handle ∷ past) e none going = absurd (false≢true (sym none))
-closes_nothing (d ∷ past) e none going = λ over. absurd (both_ways _ going over)
-
+-- it removes no handler
 removes_nothing : (past : List (Entry ServerNote)) (e : Entry ServerNote) → winding.removes e ≡ false → ClosesUp past e
 removes_nothing past (Removed handle) none = absurd (false≢true (sym none))
 removes_nothing past _ none = tt
@@ -56,11 +51,6 @@ pushed_map : (P Q : List (Entry ServerNote) → Entry ServerNote → Type 0) →
 pushed_map P Q f past [] each = tt
 pushed_map P Q f past (e ∷ es) each = (f past e each.0, pushed_map P Q f (e ∷ past) es each.1)
 
-none_placed : (p : Entry ServerNote → Bool) (whole later past : List (Entry ServerNote)) → whole ≡ later ++ past → ((later : List (Entry ServerNote)) (e : Entry ServerNote) (before : List (Entry ServerNote)) → whole ≡ later ++ e ∷ before → p e ≡ false)
-    → list_any p past ≡ false
-none_placed p whole later [] is at = refl
-none_placed p whole later (e ∷ past) is at = or_from _ _ (at later e past is) (none_placed p whole (later ++ e ∷ []) past (is ∙ sym (append_assoc later (e ∷ []) past)) at)
-
 module _ {H M Q W V E : Type 0} (m : Meaning H M Q W V ServerNote E) (q : DeskTerms) (idle : Option ℕ) (groups : List ScriptGroup) (journal : List (Entry ServerNote)) (r : RunsAlone m q ran.Over idle groups journal) where
   abbrev most : ℕ
   most = q.run.most
@@ -75,30 +65,22 @@ module _ {H M Q W V E : Type 0} (m : Meaning H M Q W V ServerNote E) (q : DeskTe
   over : is_over_here groups past ≡ true
   over = over_here groups past (Some last.answer) last.waited ∙ is_over_named last.answer last.found last.named last.is
 
-  removes_at : (later : List (Entry ServerNote)) (e : Entry ServerNote) (before : List (Entry ServerNote)) → past ≡ later ++ e ∷ before → winding.removes e ≡ false
-  removes_at later e before is = winding.none_at winding.removes later e before (sym (ap (list_any winding.removes) is) ∙ ends.keeps m q ran.Over idle groups journal r)
-
-  removed_before : (later before : List (Entry ServerNote)) → past ≡ later ++ before → list_any winding.removes before ≡ false
-  removed_before later before is = winding.any_right winding.removes later before (sym (ap (list_any winding.removes) is) ∙ ends.keeps m q ran.Over idle groups journal r)
-
   -- ---- the run
 
   settles : EachStep IsSettledAtOnce past
   settles = ends.settled m q ran.Over idle groups journal r
 
   removes : EachStep ClosesUp past
-  removes = each_place ClosesUp past [] past refl (λ later e before is. removes_nothing before e (removes_at later e before is))
+  removes = each_place ClosesUp past [] past refl (λ later e before is. removes_nothing before e (installing.removes_at m q ran.Over idle groups journal r later e before is))
 
   closes : EachStep OnlyClosesUp past
-  closes = each_place OnlyClosesUp past [] past refl (λ later e before is.
-      let placed = is ∙ sym (append_assoc later (e ∷ []) before) in
-      closes_nothing before e (removed_before (later ++ e ∷ []) before placed) (installing.going_at m q ran.Over idle groups journal r (later ++ e ∷ []) before placed))
+  closes = installing.closes m q ran.Over idle groups journal r
 
   waits : EachStep (WaitsOnly groups) past
   waits = each_map (Steps groups) (WaitsOnly groups) (λ before e s. s.waits) past last.waited.each
 
   installs : EachStep (InstallsOnly most idle) past
-  installs = installing.installs m q ran.Over idle groups journal r settles closes
+  installs = installing.installs m q ran.Over idle groups journal r
 
   -- ---- its winding up
 
@@ -128,7 +110,7 @@ module _ {H M Q W V E : Type 0} (m : Meaning H M Q W V ServerNote E) (q : DeskTe
     installs = both (InstallsOnly most idle) installs (ends_installing most idle past last.waited.ready) (λ before e w. w.installs);
     waits = both (WaitsOnly groups) waits (last.spent, over) (λ before e w. w.waits);
     removes = both ClosesUp removes tt (λ before e w. w.removes);
-    closes = both OnlyClosesUp closes (closes_nothing past Ended (ends.keeps m q ran.Over idle groups journal r) (ends.going m q ran.Over idle groups journal r)) (λ before e w. w.closes);
+    closes = both OnlyClosesUp closes (installing.closes_nothing past Ended (ends.keeps m q ran.Over idle groups journal r) (ends.going m q ran.Over idle groups journal r)) (λ before e w. w.closes);
     closed = r.whole.closed;
     turns = r.turns;
   }
