@@ -7,3 +7,4 @@ pub mod Noticing
 pub mod Ends
 pub mod Installing
 pub mod Whole
+pub mod Meeting
