@@ -1,5 +1,5 @@
 -- A whole run of one worker over a script: its loop, entry by entry, and its winding up.
-use Rattle.std.specs.Prelude.{◌≡◌, ℕ, true, false, List, [], ◌∷◌, ◌++◌, reverse, Option, Some, None}
+use Rattle.std.specs.Prelude.{◌≡◌, ℕ, false, List, [], ◌∷◌, ◌++◌, Option, Some, None}
 use Rattle.std.specs.List.{list_any}
 use Rattle.ev_base.specs.Net.{Call}
 use Rattle.ev_base.specs.Playing.{Plays}
@@ -14,7 +14,7 @@ use Rattle.reactor_desk.specs.declared.terms.DeskTerms.{DeskTerms}
 use Rattle.tp_reactor.specs.Alone.{RunsTo}
 use Rattle.tp_reactor.specs.declared.working.Ran.{Ran}
 use Rattle.acceptor.specs.Servers.{read_alone}
-use Rattle.event_script.specs.Script.{ScriptGroup, steps_of, groups_told, are_steps}
+use Rattle.event_script.specs.Script.{ScriptGroup, steps_of, groups_told}
 use Rattle.event_script.specs.Stories.{offers}
 use Rattle.log_handler.specs.declared.note.ServerNote.{ServerNote}
 use Rattle.script_told.specs.Told.{Follows}
@@ -39,8 +39,6 @@ at_first = Opened first_handle read_alone ∷ []
 -- A worker that was alone with its reactor ran it from the registration of the acceptor on, without a limit of its own, until a lead gave
 -- this answer; and the reactor was stopped. Beside each part stands where a caller has it from.
 pub record RunsAlone {H M Q W V E : Type 0} (m : Meaning H M Q W V ServerNote E) (q : DeskTerms) (answer : Ran) (idle : Option ℕ) (groups : List ScriptGroup) (journal : List (Entry ServerNote)) : Type 0 where
-  -- the script: of the reader of scripts
-  pub script : are_steps (reverse (steps_of groups)) ≡ true
   -- the handlers: of the type of handlers, for every terms
   pub acts : ActsAsServer m.means q.run
   pub names : NamesAsServer m.means q.run
