@@ -1,0 +1,10 @@
+pub mod Pushing
+pub mod Stepping
+pub mod Answering
+pub mod Rounds
+pub mod Removing
+pub mod Noticing
+pub mod Ends
+pub mod Installing
+pub mod Whole
+pub mod Meeting

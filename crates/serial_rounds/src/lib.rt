@@ -1,0 +1,4 @@
+//! A run of one worker over a script has the serial journal of that script.
+#![tactic(auto)]
+
+pub mod laws;
