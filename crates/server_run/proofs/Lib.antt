@@ -1,0 +1,9 @@
+pub mod Cutting
+pub mod Notices
+pub mod Merged
+pub mod Winding
+pub mod Posts
+pub mod Resting
+pub mod Cuts
+pub mod Leaving
+pub mod Leading
