@@ -7,3 +7,4 @@ pub mod Resting
 pub mod Cuts
 pub mod Leaving
 pub mod Leading
+pub mod Registering

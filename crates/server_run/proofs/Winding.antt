@@ -5,6 +5,7 @@ use Rattle.std.proofs.lemmas.List.{append-nil, append_assoc}
 use Rattle.std.specs.Option.{option_to_list}
 use Rattle.ev_types.specs.declared.upcall.Handle.{Handle}
 use Rattle.ev_base.specs.Terms.{Terms}
+use Rattle.timer_queue.specs.declared.timer.Timer.{Timer}
 use Rattle.reactor_journal.specs.declared.entry.Entry.{Entry}
 use Rattle.reactor_journal.specs.declared.entry.Entry.TheVariants.{Removed, Closed, Ended}
 use Rattle.reactor_journal.specs.Follow.{Legal}
@@ -15,14 +16,21 @@ use Rattle.reactor_summary.specs.Tells.{listed, live_handle}
 use Rattle.reactor_summary.specs.declared.parts.LiveHandle.{LiveHandle}
 use Rattle.reactor_summary.proofs.Told.{told}
 use Rattle.reactor_core.specs.Acting.{StopAppends}
-use Rattle.reactor_core.specs.Beginning.{IsOver}
+use Rattle.reactor_core.specs.Beginning.{IsOver, PartsStand}
+use Rattle.reactor_core.specs.Ends.{WhereTold}
+use Rattle.reactor_core.specs.Marks.{IsOverAt, answers}
+use Rattle.reactor_core.specs.Rest.{LeavesRest}
 use Rattle.reactor_core.specs.Removing.{AreRemovals, StopsOnce}
 use Rattle.reactor_core.specs.Settling.{IsClosing}
 use Rattle.reactor_core.specs.Stands.{Meaning, Stands}
+use Rattle.reactor_core.specs.Views.{marks_of, net_of, over_of, volumes_of, watch_of}
+use Rattle.reactor_core.specs.declared.marks.WaitMarks.{WaitMarks}
 use Rattle.reactor_core.specs.declared.reactor.Core.{Core}
+use Rattle.reactor_core.specs.declared.reactor.Parts.{Parts}
+use Rattle.reactor_core.proofs.WaitNumbers.{marks_over}
 use Rattle.reactor_core.proofs.Over.{none_live}
 use Rattle.script_runs.specs.Runs.{IsWhole}
-use Rattle.server_run.specs.Finishing.{NoneOpen}
+use Rattle.server_run.specs.Finishing.{Finishes, KeepsCounts, NoneOpen}
 use Rattle.server_run.specs.Journals.{WindsUp}
 
 abbrev pub sum : {N : Type 0} → List (Entry N) → Summary
@@ -90,6 +98,30 @@ stopped {N = N} m t F h new false none q st =
       stands = st.stands;
       over = over_of_stands m t new F (g ++ st.entries) st.stands (k.opens ∙ (ap (λ (s : Summary). s.opens) e ∙ none)) (k.ended (ap (λ (s : Summary). s.ended) e));
     }
+
+-- what is left of a reactor that was stopped
+pub finished : {H M Q W V N E : Type 0} (m : Meaning H M Q W V N E) (armed : Q → List Timer) (t : Terms) (first : ℕ) (list : List (Entry N)) (core new : Core H M Q W V N E) (taken parts : Parts N M Q W V) (s : Stopped m t first list new)
+    → marks_of new ≡ marks_of core → PartsStand m armed t first s.journal taken → taken.net ≡ net_of new → parts ≡ taken → Finishes m armed t first list core parts
+finished {M = M} {Q = Q} {W = W} {V = V} {N = N} m armed t first list core new taken parts s marks stand net same = record {
+  journal = s.journal;
+  winds = s.winds;
+  legal = s.stands.tracks.legal;
+  over = s.over;
+  stand = subst (PartsStand m armed t first s.journal) (sym same) stand;
+  marked = λ some.
+  let told : WhereTold (λ calls. IsOverAt (over_of new) (answers calls)) (m.facts (net_of new)).calls = marks_over (marks_of new) (past_of s.journal) (m.facts (net_of new)).calls (omega (arith, some, ap (λ (marks : WaitMarks). marks.over) marks)) s.stands.tracks.marks in
+  subst (λ (n : M). WhereTold (λ calls. IsOverAt (over_of core) (answers calls)) (m.facts n).calls) (sym net ∙ sym (ap (λ (p : Parts N M Q W V). p.net) same))
+  (subst (λ (k : ℕ). WhereTold (λ calls. IsOverAt k (answers calls)) (m.facts (net_of new)).calls) (ap (λ (marks : WaitMarks). marks.over) marks) told);
+}
+
+-- what it counts
+pub keeps_counts : {H M Q W V N E : Type 0} (m : Meaning H M Q W V N E) (core new : Core H M Q W V N E) (taken parts : Parts N M Q W V) → LeavesRest m core new → taken.net ≡ net_of new → taken.watch ≡ watch_of new → taken.volumes ≡ volumes_of new → parts ≡ taken → KeepsCounts m core parts
+keeps_counts {M = M} {W = W} {N = N} m core new taken parts rest net watch volumes same = record {
+  waits = ap (λ p. (m.facts p.net).failed_waits) same ∙ (ap (λ (n : M). (m.facts n).failed_waits) net ∙ rest.wait_faults);
+  attaches = ap (λ p. (m.facts p.net).failed_attaches) same ∙ (ap (λ (n : M). (m.facts n).failed_attaches) net ∙ rest.attach_faults);
+  volumes = ap (λ p. p.volumes) same ∙ (volumes ∙ rest.volumes);
+  watch = omega (arith, rest.watch.later, ap (λ (w : W). m.faults w) watch, ap (λ p. m.faults p.watch) same);
+}
 
 -- ---- a journal that is over is whole
 

@@ -6,9 +6,13 @@ use Rattle.log_handler.specs.declared.note.ServerNote.{ServerNote}
 use Rattle.reactor_core.specs.Stands.{Meaning, Stands}
 use Rattle.reactor_core.specs.Views.{net_of, volumes_of}
 use Rattle.reactor_core.specs.declared.reactor.Core.{Core}
+use Rattle.reactor_core.specs.declared.registering.RegisterRefused.{RegisterRefused}
+use Rattle.reactor_core.specs.declared.registering.RegisterRefused.TheVariants as refused
 use Rattle.server_run.specs.Journals.{first_entry}
 use Rattle.server_run.specs.Served.{HasCauses, LeavesRun}
 use Rattle.server_run.specs.declared.asked.Asked.{Asked}
+use Rattle.server_run.specs.declared.ending.Ending.{Ending}
+use Rattle.server_run.specs.declared.ending.Ending.TheVariants as ending
 use Rattle.server_run.specs.declared.ending.Served.{Served}
 
 -- under these terms the reactor has no handler and a place for one, and the listener and its idle time keep the terms
@@ -17,6 +21,19 @@ pub record CanRegister {H M Q W V N E : Type 0} (m : Meaning H M Q W V N E) (lis
   pub place : 1 ≤ t.most
   pub listener_keeps_terms : listener_keeps t listener
   pub idle : t.idle ≡ Some asked.idle
+
+-- it may refuse the acceptor for these causes alone; and how a run ended whose acceptor was refused
+abbrev pub MayRefuse : RegisterRefused → Type 0
+MayRefuse refused.NetFailed = Unit {0}
+MayRefuse refused.NoMemory = Unit {0}
+MayRefuse refused.Stopped = ⊥
+MayRefuse (refused.Full live opened) = ⊥
+
+abbrev pub refusal_of : RegisterRefused → Ending
+refusal_of refused.NetFailed = ending.NotAttached
+refusal_of refused.NoMemory = ending.NoMemory
+refusal_of refused.Stopped = ending.NoMemory
+refusal_of (refused.Full live opened) = ending.NoMemory
 
 -- the acceptor was registered, or the run has ended
 abbrev pub OpensSo : {H M Q W V E : Type 0} → Meaning H M Q W V ServerNote E → (Q → List Timer) → Terms → Asked → Result (Core H M Q W V ServerNote E) (Served M Q W V) → Type 0

@@ -43,7 +43,7 @@ pub(crate) fn leave<M, Q, W: Watch<ServerNote>, V>(
     ending: Ending,
 ) -> Served<M, Q, W, V>
     ensures parts { result.parts ≡ parts }
-    ensures named { result.ending ≡ named ending (W.is_broken parts.watch) }
+    ensures named { result.ending ≡ named ending (W.is_broken result.parts.watch) }
 {
     let ending = if parts.watch.broken() {
         Ending::Broken

@@ -6,7 +6,7 @@ ghost use Rattle.ev_base.specs.Story.{NumbersFrom};
 ghost use Rattle.ev_base.specs.Terms.{Terms};
 ghost use Rattle.acceptor.specs.Idle.{IsIdleTime};
 ghost use Rattle.reactor_core.specs.Views.{net_of, volumes_of};
-ghost use Rattle.server_run.specs.Opening.{CanRegister, OpenCounts, OpensSo};
+ghost use Rattle.server_run.specs.Opening.{CanRegister, MayRefuse, OpenCounts, OpensSo, refusal_of};
 ghost use Rattle.server_run.specs.Starting.{CanStart, IsFine};
 
 use crate::finishing::{ServerCore, finish, leave};
@@ -101,14 +101,21 @@ fn register<
         Ok(_) => Ok(core),
         Err((back, refused)) => {
             back.handle_close(Why::Refused);
-            let ending = match refused {
-                RegisterRefused::NetFailed => Ending::NotAttached,
-                RegisterRefused::NoMemory => Ending::NoMemory,
-                RegisterRefused::Stopped | RegisterRefused::Full { .. } => {
-                    unreachable!("the reactor has no handler, and was not stopped")
-                }
-            };
-            Err(finish(core, ending))
+            Err(finish(core, refusal(refused)))
+        }
+    }
+}
+
+/// How a run ended whose acceptor was refused by a reactor that has no handler and was not stopped.
+fn refusal(refused: RegisterRefused) -> Ending
+    requires { MayRefuse refused }
+    ensures { result ≡ refusal_of refused }
+{
+    match refused {
+        RegisterRefused::NetFailed => Ending::NotAttached,
+        RegisterRefused::NoMemory => Ending::NoMemory,
+        RegisterRefused::Stopped | RegisterRefused::Full { .. } => {
+            unreachable!("it has a place for one handler")
         }
     }
 }
