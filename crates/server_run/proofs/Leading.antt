@@ -39,7 +39,7 @@ use Rattle.reactor_desk.specs.Desks.{capped, core_marks}
 use Rattle.reactor_desk.specs.Notices.{AreRecorded, Records, is_notice as is_drained}
 use Rattle.reactor_desk.specs.declared.terms.DeskTerms.{DeskTerms}
 use Rattle.tp_reactor.specs.Alone.{RunsTo}
-use Rattle.tp_reactor.specs.Ends.{IsClosed, IsRoot}
+use Rattle.tp_reactor.specs.Ends.{IsClosed, IsRoot, MayShare}
 use Rattle.tp_reactor.specs.Led.{over_mark, volumes_mark, waits_mark, watch_mark}
 use Rattle.tp_reactor.specs.Pool.{EndsWithOver, HasClosed, HiresNone, RanTells, RunsPool, known_postings}
 use Rattle.tp_reactor.specs.Words.{SameKin}
@@ -47,7 +47,7 @@ use Rattle.tp_reactor.specs.Working.{Runs}
 use Rattle.tp_reactor.specs.declared.working.Ran.{Ran}
 use Rattle.tp_reactor.specs.declared.working.Ran.TheVariants as ran
 use Rattle.script_runs.specs.Runs.{IsIdle, first_handle, is_notice}
-use Rattle.server_run.specs.Finishing.{Finishes, KeepsCounts, NoneOpen, named}
+use Rattle.server_run.specs.Finishing.{Finishes, IsAtRest, KeepsCounts, NoneOpen, named}
 use Rattle.server_run.specs.Journals.{EndsSo, first_entry, notice_for}
 use Rattle.server_run.specs.Served.{FaultRose, HasCauses, HasLed, LeavesRun, ending_of}
 use Rattle.server_run.specs.declared.asked.Asked.{Asked}
@@ -55,10 +55,11 @@ use Rattle.server_run.specs.declared.ending.Ending.{Ending}
 use Rattle.server_run.specs.declared.ending.Ending.TheVariants as ending
 use Rattle.server_run.specs.declared.ending.Served.{Served}
 use Rattle.server_run.proofs.Cuts.{Cut, begins_cut, ends_by_notice, is_right}
-use Rattle.server_run.proofs.Leaving.{Breaks, broken_told, leaves}
+use Rattle.server_run.proofs.Leaving.{broken_told, leaves}
 use Rattle.server_run.proofs.Merged.{AllPosted, all_drained}
 use Rattle.server_run.proofs.Notices.{all_of_filter, none_of_all}
 use Rattle.server_run.proofs.Posts.{Says, all_says, is_for}
+use Rattle.server_run.proofs.Registering.{turn_told}
 use Rattle.server_run.proofs.Resting.{IsOverThere, none_open, over_there}
 use Rattle.server_run.proofs.Winding.{sum}
 
@@ -126,6 +127,12 @@ module _ {H M Q W V E : Type 0} (m : Meaning H M Q W V ServerNote E) (t : Terms)
     pub tells : RanTells v answer w
     pub posts : known_postings p < known_postings s → HasClosed until w.seen
     pub closed : IsClosed m w s core
+
+  pub was_led : (marks : List ℕ) (until : Option (ℕ × Handle)) → IsRoot t (first_entry ∷ []) marks v → p ≡ root_poster → until ≡ notice_for asked.until → 1 ≤ asked.workers → (asked.workers ≡ 1 → Runs m asked.limit until v p answer w s)
+      → (1 < asked.workers → HiresNone v p (record { ran = answer; known = w; posted = s }) ⊎ RunsPool m asked.limit until (asked.workers - 1) v p (record { ran = answer; known = w; posted = s })) → (asked.workers ≡ 1 → v.children ≡ 0 → RunsTo m v.terms asked.limit v.seen answer w.seen)
+      → SameKin v w → w.mine ≡ None → Begins v.seen w.seen → (answer ≡ ran.Over → EndsWithOver m asked.limit v w) → RanTells v answer w → (known_postings p < known_postings s → HasClosed until w.seen) → IsClosed m w s core → WasLed marks until
+  was_led marks until root poster until_is many one several alone kin idle seen over tells posts closed =
+      record { root = root; poster = poster; until_is = until_is; many = many; one = one; several = several; alone = alone; kin = kin; idle = idle; seen = seen; over = over; tells = tells; posts = posts; closed = closed }
 
   module _ (marks : List ℕ) (until : Option (ℕ × Handle)) (d : WasLed marks until) where
     run_is : w.terms.run ≡ t
@@ -220,12 +227,12 @@ module _ {H M Q W V E : Type 0} (m : Meaning H M Q W V ServerNote E) (t : Terms)
     named_so now true is = inl is
     named_so now false is = inr is
 
-    pub leaves_led : (armed : Q → List Timer) (served : Served M Q W V) → Breaks m → served.ending ≡ named (ending_of answer) (m.is_broken served.parts.watch)
+    pub leaves_led : (armed : Q → List Timer) (served : Served M Q W V) → served.ending ≡ named (ending_of answer) (m.is_broken served.parts.watch)
         → ((first : ℕ) → Stands m t core first w.seen → NoneOpen w.seen → Finishes m armed t first w.seen core served.parts) → KeepsCounts m core served.parts
         → ((up : Upcall) → m.means.may t up Stopping → (kind : Kind) × (up ≡ Notice kind)) → t.by_turn ≡ Some 1 → LeavesRun m armed t asked served
-    leaves_led armed served broke is finishes counts stops by_turn =
+    leaves_led armed served is finishes counts stops by_turn =
         let fin : Finishes m armed t d.closed.first w.seen core served.parts = finishes d.closed.first stands at_rest in
-        leaves m armed t asked (ending_of answer) served broke is d.closed.first w.seen core fin (inr begins) (turned by_turn) right
+        leaves m armed t asked (ending_of answer) served is d.closed.first w.seen core fin (inr begins) (turned by_turn) right
         (λ c. ends_by armed served fin stops by_turn c answer refl)
         (inr (record {
           answer = answer;
@@ -267,3 +274,17 @@ module _ {H M Q W V E : Type 0} (m : Meaning H M Q W V ServerNote E) (t : Terms)
 
       pub causes_led : served.ending ≡ named (ending_of answer) (m.is_broken served.parts.watch) → HasCauses m (net_of old) (volumes_of old) served
       causes_led is = record { rose = rose_named served.ending (m.is_broken served.parts.watch) is; told = broken_told (ending_of answer) served.ending (m.is_broken served.parts.watch) is }
+
+-- ---- the beginning and the end of a pool
+
+module _ {H M Q W V E : Type 0} (m : Meaning H M Q W V ServerNote E) (t : Terms) (core : Core H M Q W V ServerNote E) where
+  pub may_share : Stands m t core 0 (first_entry ∷ []) → t.by_turn ≡ Some 1 → MayShare m t (first_entry ∷ []) core
+  may_share stands by_turn = record { first = 0; stands = stands; closed = refl; unposted = refl; by_turn = λ b is. (turn_told t.by_turn 1 by_turn b is, refl) }
+
+  pub closed_at_rest : (v : View (Entry ServerNote) DeskTerms) (s : RingView) → IsClosed m v s core → v.mine ≡ None → IsAtRest m core
+  closed_at_rest v s closed idle =
+      let none : (e : ℕ) → times e (opens_of v.seen) ≡ 0 = λ e. closed.events e ∙ ap (is_event e) idle in
+      (v.terms.run, closed.first, v.seen, closed.stands.core, none_open v.terms.run.most v.seen closed.stands.core.tracks.legal none)
+
+  pub stands_still : (now : Core H M Q W V ServerNote E) (first : ℕ) (list : List (Entry ServerNote)) → now ≡ core → Stands m t core first list → Stands m t now first list
+  stands_still now first list same stands = subst (λ (c : Core H M Q W V ServerNote E). Stands m t c first list) (sym same) stands

@@ -30,13 +30,9 @@ use Rattle.server_run.specs.declared.ending.Ending.{Ending}
 use Rattle.server_run.specs.declared.ending.Ending.TheVariants as ending
 use Rattle.server_run.specs.declared.ending.Served.{Served}
 use Rattle.server_run.proofs.Cuts.{Cut, begins_cut, cut, is_right, notices_of, right_cut, turned_cut}
-use Rattle.server_run.proofs.Winding.{sum, whole_of_over}
+use Rattle.server_run.proofs.Winding.{Breaks, sum, whole_of_over}
 
 -- ---- a watch that failed
-
--- the law of watches: one that stands for a list and is broken has counted more faults than the output had at the start
-abbrev pub Breaks : {H M Q W V N E : Type 0} → Meaning H M Q W V N E → Type 0
-Breaks {W = W} {N = N} m = (t : Terms) (watch : W) (h : List (Entry N)) (before : ℕ) → m.watched t watch h → m.is_broken watch ≡ true → t.output_faults ≡ Some before → Rose before (m.faults watch)
 
 pub broken_told : (how now : Ending) (b : Bool) → now ≡ named how b → b ≡ true → now ≡ ending.Broken
 broken_told how now true is q = is
@@ -60,11 +56,11 @@ begins_of list journal c (inl none) = ⊎_elim
 begins_of list journal c (inr some) = inr (begins_cut list journal some.0 c some.1)
 
 module _ {H M Q W V E : Type 0} (m : Meaning H M Q W V ServerNote E) (armed : Q → List Timer) (t : Terms) (asked : Asked) (how : Ending) (served : Served M Q W V)
-    (broke : Breaks m) (is : served.ending ≡ named how (m.is_broken served.parts.watch)) where
-  broken_rose : (h : List (Entry ServerNote)) → m.watched t served.parts.watch h → ((before : ℕ) → how ≡ ending.Broken → t.output_faults ≡ Some before → Rose before (m.faults served.parts.watch))
+    (is : served.ending ≡ named how (m.is_broken served.parts.watch)) where
+  broken_rose : ((before : ℕ) → m.is_broken served.parts.watch ≡ true → t.output_faults ≡ Some before → Rose before (m.faults served.parts.watch)) → ((before : ℕ) → how ≡ ending.Broken → t.output_faults ≡ Some before → Rose before (m.faults served.parts.watch))
       → (before : ℕ) → served.ending ≡ ending.Broken → t.output_faults ≡ Some before → Rose before (m.faults served.parts.watch)
-  broken_rose h watch caused before broken told =
-      broken_why (Rose before (m.faults served.parts.watch)) how served.ending (m.is_broken served.parts.watch) is broken (λ b. broke t served.parts.watch h before watch b told) (λ b. caused before b told)
+  broken_rose failed caused before broken told =
+      broken_why (Rose before (m.faults served.parts.watch)) how served.ending (m.is_broken served.parts.watch) is broken (λ b. failed before b told) (λ b. caused before b told)
 
   pub leaves : (first : ℕ) (list : List (Entry ServerNote)) (core : Core H M Q W V ServerNote E) (fin : Finishes m armed t first list core served.parts) → BeginsSo list → DispatchedByTurns m.means t 1 list → list_all (is_right asked.until) list ≡ true
       → ((c : Cut list fin.journal) → EndsSo asked.until (m.facts served.parts.net) how c.run c.closing) → (HasNoLead served.ending fin.journal ⊎ HasLed m t asked served.ending fin.journal)
@@ -86,7 +82,7 @@ module _ {H M Q W V E : Type 0} (m : Meaning H M Q W V ServerNote E) (armed : Q 
           ends = ends_named asked.until (m.facts served.parts.net) how served.ending (m.is_broken served.parts.watch) c.run c.closing is (ends c);
         });
         led = led;
-        broken = broken_rose fin.journal fin.stand.watch caused;
+        broken = broken_rose fin.broken caused;
       }
 
   -- ---- no reactor was made
@@ -122,9 +118,9 @@ module _ {H M Q W V E : Type 0} (m : Meaning H M Q W V ServerNote E) (armed : Q 
   pub lacks : (journal : List (Entry ServerNote)) → MayLackLead how → (journal ≡ []) ⊎ (WindsUp [] journal ⊎ WindsUp (first_entry ∷ []) journal) → HasNoLead served.ending journal
   lacks journal may is_so = record { ending = subst MayLackLead (sym is) (unled (m.is_broken served.parts.watch) may); journal_is = is_so }
 
-  pub leaves_unmade : (most : ℕ) (net : M) (timers : Q) (watch : W) (volumes : V) → how ≡ ending.NoMemory → CanBegin (m.facts net) (m.keeps t net) (armed timers) (m.watched t watch []) (m.volumes volumes) t most
+  pub leaves_unmade : (most : ℕ) (net : M) (timers : Q) (watch : W) (volumes : V) → Breaks m → how ≡ ending.NoMemory → CanBegin (m.facts net) (m.keeps t net) (armed timers) (m.watched t watch []) (m.volumes volumes) t most
       → served.parts.journal.entries ≡ [] → served.parts.first ≡ 0 → served.parts.net ≡ net → served.parts.timers ≡ timers → served.parts.watch ≡ watch → served.parts.volumes ≡ volumes → LeavesRun m armed t asked served
-  leaves_unmade most net timers watch volumes memory begins entries first same_net same_timers same_watch same_volumes = record {
+  leaves_unmade most net timers watch volumes broke memory begins entries first same_net same_timers same_watch same_volumes = record {
     first = 0;
     journal = [];
     stand = record {
@@ -139,7 +135,7 @@ module _ {H M Q W V E : Type 0} (m : Meaning H M Q W V ServerNote E) (armed : Q 
     };
     run = inl (record { ending = subst MayBeUnmade (sym (is ∙ ap (λ h. named h (m.is_broken served.parts.watch)) memory)) (unmade (m.is_broken served.parts.watch)); none = refl });
     led = inl (lacks [] (subst MayLackLead (sym memory) tt) (inl refl));
-    broken = broken_rose [] seen (λ before b. absurd (let not : ending.NoMemory ≡ ending.Broken = sym memory ∙ b in cc));
+    broken = broken_rose (λ before b told. broke t served.parts.watch [] before seen b told) (λ before b. absurd (let not : ending.NoMemory ≡ ending.Broken = sym memory ∙ b in cc));
   }
     where
       seen : m.watched t served.parts.watch []

@@ -8,3 +8,4 @@ pub mod Cuts
 pub mod Leaving
 pub mod Leading
 pub mod Registering
+pub mod Living

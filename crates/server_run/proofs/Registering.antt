@@ -31,7 +31,7 @@ use Rattle.server_run.specs.declared.asked.Asked.{Asked}
 use Rattle.server_run.specs.declared.ending.Ending.{Ending}
 use Rattle.server_run.specs.declared.ending.Ending.TheVariants as ending
 use Rattle.server_run.specs.declared.ending.Served.{Served}
-use Rattle.server_run.proofs.Leaving.{Breaks, broken_told, leaves_unled}
+use Rattle.server_run.proofs.Leaving.{broken_told, leaves_unled}
 
 -- a turn of a server's handler stops the reactor at a notice alone
 pub may_stop : (t : Terms) (up : Upcall) → ServerMay t up Stopping → (kind : Kind) × (up ≡ Notice kind)
@@ -104,14 +104,14 @@ module _ {H M Q W V E : Type 0} (m : Meaning H M Q W V ServerNote E) where
   not_broken refused.NoMemory is = cc
   not_broken refused.NetFailed is = cc
 
-  pub refused_leaves : (armed : Q → List Timer) (t : Terms) (asked : Asked) (why : RegisterRefused) (core : Core H M Q W V ServerNote E) (served : Served M Q W V) → Breaks m → served.ending ≡ named (refusal_of why) (m.is_broken served.parts.watch)
+  pub refused_leaves : (armed : Q → List Timer) (t : Terms) (asked : Asked) (why : RegisterRefused) (core : Core H M Q W V ServerNote E) (served : Served M Q W V) → served.ending ≡ named (refusal_of why) (m.is_broken served.parts.watch)
       → Finishes m armed t 0 [] core served.parts → LeavesRun m armed t asked served
-  refused_leaves armed t asked why core served broke is fin = leaves_unled m armed t asked (refusal_of why) served broke is 0 [] core fin (inl refl) (may_lack why) (λ net. refl) (not_broken why)
+  refused_leaves armed t asked why core served is fin = leaves_unled m armed t asked (refusal_of why) served is 0 [] core fin (inl refl) (may_lack why) (λ net. refl) (not_broken why)
 
-  pub unshared_leaves : (armed : Q → List Timer) (t : Terms) (asked : Asked) (core : Core H M Q W V ServerNote E) (served : Served M Q W V) → Breaks m → served.ending ≡ named ending.NoMemory (m.is_broken served.parts.watch)
+  pub unshared_leaves : (armed : Q → List Timer) (t : Terms) (asked : Asked) (core : Core H M Q W V ServerNote E) (served : Served M Q W V) → served.ending ≡ named ending.NoMemory (m.is_broken served.parts.watch)
       → Finishes m armed t 0 (first_entry ∷ []) core served.parts → LeavesRun m armed t asked served
-  unshared_leaves armed t asked core served broke is fin =
-      leaves_unled m armed t asked ending.NoMemory served broke is 0 (first_entry ∷ []) core fin (inr refl) tt (λ net. absurd (let not : ending.NoMemory ≡ ending.NotAttached = net in cc)) (λ b. let not : ending.NoMemory ≡ ending.Broken = b in cc)
+  unshared_leaves armed t asked core served is fin =
+      leaves_unled m armed t asked ending.NoMemory served is 0 (first_entry ∷ []) core fin (inr refl) tt (λ net. absurd (let not : ending.NoMemory ≡ ending.NotAttached = net in cc)) (λ b. let not : ending.NoMemory ≡ ending.Broken = b in cc)
 
 -- ---- counts
 
@@ -158,3 +158,4 @@ turn_told told n is b q = same b n (sym q ∙ is)
 pub room_for : {A : Type 0} (until : Option A) (n : ℕ) → n ≡ 0 → IfSome until (λ asked. n < 2 ^ 56)
 room_for None n is = tt
 room_for (Some asked) n is = omega (arith, is)
+

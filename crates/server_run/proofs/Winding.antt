@@ -4,6 +4,7 @@ use Rattle.std.proofs.lemmas.Bool.{and_from, and_parts}
 use Rattle.std.proofs.lemmas.List.{append-nil, append_assoc}
 use Rattle.std.specs.Option.{option_to_list}
 use Rattle.ev_types.specs.declared.upcall.Handle.{Handle}
+use Rattle.ev_base.specs.Counts.{Rose}
 use Rattle.ev_base.specs.Terms.{Terms}
 use Rattle.timer_queue.specs.declared.timer.Timer.{Timer}
 use Rattle.reactor_journal.specs.declared.entry.Entry.{Entry}
@@ -19,18 +20,17 @@ use Rattle.reactor_core.specs.Acting.{StopAppends}
 use Rattle.reactor_core.specs.Beginning.{IsOver, PartsStand}
 use Rattle.reactor_core.specs.Ends.{WhereTold}
 use Rattle.reactor_core.specs.Marks.{IsOverAt, answers}
-use Rattle.reactor_core.specs.Rest.{LeavesRest}
 use Rattle.reactor_core.specs.Removing.{AreRemovals, StopsOnce}
 use Rattle.reactor_core.specs.Settling.{IsClosing}
 use Rattle.reactor_core.specs.Stands.{Meaning, Stands}
-use Rattle.reactor_core.specs.Views.{marks_of, net_of, over_of, volumes_of, watch_of}
+use Rattle.reactor_core.specs.Views.{marks_of, net_of, over_of}
 use Rattle.reactor_core.specs.declared.marks.WaitMarks.{WaitMarks}
 use Rattle.reactor_core.specs.declared.reactor.Core.{Core}
 use Rattle.reactor_core.specs.declared.reactor.Parts.{Parts}
 use Rattle.reactor_core.proofs.WaitNumbers.{marks_over}
 use Rattle.reactor_core.proofs.Over.{none_live}
 use Rattle.script_runs.specs.Runs.{IsWhole}
-use Rattle.server_run.specs.Finishing.{Finishes, KeepsCounts, NoneOpen}
+use Rattle.server_run.specs.Finishing.{Finishes, NoneOpen}
 use Rattle.server_run.specs.Journals.{WindsUp}
 
 abbrev pub sum : {N : Type 0} → List (Entry N) → Summary
@@ -99,10 +99,14 @@ stopped {N = N} m t F h new false none q st =
       over = over_of_stands m t new F (g ++ st.entries) st.stands (k.opens ∙ (ap (λ (s : Summary). s.opens) e ∙ none)) (k.ended (ap (λ (s : Summary). s.ended) e));
     }
 
+-- the law of watches: one that stands for a list and is broken has counted more faults than the output had at the start
+abbrev pub Breaks : {H M Q W V N E : Type 0} → Meaning H M Q W V N E → Type 0
+Breaks {W = W} {N = N} m = (t : Terms) (watch : W) (h : List (Entry N)) (before : ℕ) → m.watched t watch h → m.is_broken watch ≡ true → t.output_faults ≡ Some before → Rose before (m.faults watch)
+
 -- what is left of a reactor that was stopped
 pub finished : {H M Q W V N E : Type 0} (m : Meaning H M Q W V N E) (armed : Q → List Timer) (t : Terms) (first : ℕ) (list : List (Entry N)) (core new : Core H M Q W V N E) (taken parts : Parts N M Q W V) (s : Stopped m t first list new)
-    → marks_of new ≡ marks_of core → PartsStand m armed t first s.journal taken → taken.net ≡ net_of new → parts ≡ taken → Finishes m armed t first list core parts
-finished {M = M} {Q = Q} {W = W} {V = V} {N = N} m armed t first list core new taken parts s marks stand net same = record {
+    → marks_of new ≡ marks_of core → PartsStand m armed t first s.journal taken → taken.net ≡ net_of new → parts ≡ taken → Breaks m → Finishes m armed t first list core parts
+finished {M = M} {Q = Q} {W = W} {V = V} {N = N} m armed t first list core new taken parts s marks stand net same broke = record {
   journal = s.journal;
   winds = s.winds;
   legal = s.stands.tracks.legal;
@@ -112,15 +116,7 @@ finished {M = M} {Q = Q} {W = W} {V = V} {N = N} m armed t first list core new t
   let told : WhereTold (λ calls. IsOverAt (over_of new) (answers calls)) (m.facts (net_of new)).calls = marks_over (marks_of new) (past_of s.journal) (m.facts (net_of new)).calls (omega (arith, some, ap (λ (marks : WaitMarks). marks.over) marks)) s.stands.tracks.marks in
   subst (λ (n : M). WhereTold (λ calls. IsOverAt (over_of core) (answers calls)) (m.facts n).calls) (sym net ∙ sym (ap (λ (p : Parts N M Q W V). p.net) same))
   (subst (λ (k : ℕ). WhereTold (λ calls. IsOverAt k (answers calls)) (m.facts (net_of new)).calls) (ap (λ (marks : WaitMarks). marks.over) marks) told);
-}
-
--- what it counts
-pub keeps_counts : {H M Q W V N E : Type 0} (m : Meaning H M Q W V N E) (core new : Core H M Q W V N E) (taken parts : Parts N M Q W V) → LeavesRest m core new → taken.net ≡ net_of new → taken.watch ≡ watch_of new → taken.volumes ≡ volumes_of new → parts ≡ taken → KeepsCounts m core parts
-keeps_counts {M = M} {W = W} {N = N} m core new taken parts rest net watch volumes same = record {
-  waits = ap (λ p. (m.facts p.net).failed_waits) same ∙ (ap (λ (n : M). (m.facts n).failed_waits) net ∙ rest.wait_faults);
-  attaches = ap (λ p. (m.facts p.net).failed_attaches) same ∙ (ap (λ (n : M). (m.facts n).failed_attaches) net ∙ rest.attach_faults);
-  volumes = ap (λ p. p.volumes) same ∙ (volumes ∙ rest.volumes);
-  watch = omega (arith, rest.watch.later, ap (λ (w : W). m.faults w) watch, ap (λ p. m.faults p.watch) same);
+  broken = λ before. broke t parts.watch s.journal before (subst (λ (p : Parts N M Q W V). m.watched t p.watch s.journal) (sym same) stand.watch);
 }
 
 -- ---- a journal that is over is whole

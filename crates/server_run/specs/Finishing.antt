@@ -1,5 +1,6 @@
 -- What the end of a run leaves of its reactor.
-use Rattle.std.specs.Prelude.{ℕ, ◌≡◌, ◌≤◌, Bool, true, false, List, []}
+use Rattle.std.specs.Prelude.{ℕ, ◌≡◌, ◌≤◌, Bool, true, false, List, [], Some}
+use Rattle.ev_base.specs.Counts.{Rose}
 use Rattle.ev_base.specs.Terms.{Terms}
 use Rattle.timer_queue.specs.declared.timer.Timer.{Timer}
 use Rattle.reactor_journal.specs.declared.entry.Entry.{Entry}
@@ -30,7 +31,8 @@ named how true = ending.Broken
 named how false = how
 
 -- The parts of a reactor that stood for this list and was stopped: they stand for a journal that is wound up, and legal. Where a wait was
--- marked as over, and the net tells its calls, the wait of that number was answered Over.
+-- marked as over, and the net tells its calls, the wait of that number was answered Over. Where the watch failed, its count of faults is above that of the
+-- output at the start, if the terms have it.
 pub record Finishes {H M Q W V N E : Type 0} (m : Meaning H M Q W V N E) (armed : Q → List Timer) (t : Terms) (first : ℕ) (list : List (Entry N)) (core : Core H M Q W V N E) (parts : Parts N M Q W V) : Type 0 where
   pub journal : List (Entry N)
   pub winds : WindsUp list journal
@@ -38,6 +40,7 @@ pub record Finishes {H M Q W V N E : Type 0} (m : Meaning H M Q W V N E) (armed 
   pub over : IsOver (summary (past_of journal))
   pub stand : PartsStand m armed t first journal parts
   pub marked : 1 ≤ over_of core → WhereTold (λ calls. IsOverAt (over_of core) (answers calls)) (m.facts parts.net).calls
+  pub broken : (before : ℕ) → m.is_broken parts.watch ≡ true → t.output_faults ≡ Some before → Rose before (m.faults parts.watch)
 
 -- its counts of faults are those of the reactor, but that of the watch, which has not fallen
 pub record KeepsCounts {H M Q W V N E : Type 0} (m : Meaning H M Q W V N E) (core : Core H M Q W V N E) (parts : Parts N M Q W V) : Type 0 where

@@ -21,8 +21,8 @@ returns-in-Ok-clause-counts g c =
 pub returns-in-Err-clause-opens : goal.returns-in-Err-clause-opens
 returns-in-Err-clause-opens g c t o =
     let same = c.leave.ensures.parts in
-    leaves_unmade _ g.Q.TimerQueue.timers t c.args.asked NoMemory c.leave.result g.met.W.Watch.broke c.leave.ensures.named _ _ _ _ _ refl o.begins
-    (ap (λ p. p.journal.entries) same ∙ ?)
+    leaves_unmade _ g.Q.TimerQueue.timers t c.args.asked NoMemory c.leave.result c.leave.ensures.named _ _ _ _ _ g.met.W.Watch.broke refl o.begins
+    (ap (λ p. p.journal.entries) same ∙ c.new-in-Err.ensures)
     (ap (λ p. p.first) same)
     (ap (λ p. p.net) same ∙ c.in-Err.ensures.err.0)
     (ap (λ p. p.timers) same ∙ c.in-Err.ensures.err.1)

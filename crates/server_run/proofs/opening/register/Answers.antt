@@ -31,7 +31,7 @@ pub returns-in-Err-clause-opens : goal.returns-in-Err-clause-opens
 returns-in-Err-clause-opens g c t o =
     let fits = c.new.ensures.fits t None o.listener_keeps_terms (λ offers told. refl) (idle_told t.idle _ o.idle) c.requires.numbered in
     let back = refused_for _ t read_alone c.args.core _ c.in-Err.refused c.register.new.self o.place (c.in-Err.ensures.stands t 0 [] o.stands fits) in
-    refused_leaves _ g.Q.TimerQueue.timers t c.args.asked c.in-Err.refused c.register.new.self c.finish.result g.met.W.Watch.broke (c.finish.ensures.named ∙ ap (λ how. named how (g.W.Watch.is_broken c.finish.result.parts.watch)) c.refusal.ensures) (c.finish.ensures.stands t 0 [] back.1 refl)
+    refused_leaves _ g.Q.TimerQueue.timers t c.args.asked c.in-Err.refused c.register.new.self c.finish.result (c.finish.ensures.named ∙ ap (λ how. named how (g.W.Watch.is_broken c.finish.result.parts.watch)) c.refusal.ensures) (c.finish.ensures.stands t 0 [] back.1 refl)
 
 pub returns-in-Err-clause-counts : goal.returns-in-Err-clause-counts
 returns-in-Err-clause-counts g c =
