@@ -20,7 +20,9 @@ use Rattle.reactor_summary.specs.declared.parts.LiveHandle.{LiveHandle}
 use Rattle.reactor_model.specs.Handling.{Handling, Stopping}
 use Rattle.dispatch_turns.specs.ByTurns.{DispatchedByTurns, MayHere}
 use Rattle.dispatch_turns.proofs.Cuts.{InFirst, InSecond, cut_at}
+use Rattle.reactor_journal.specs.Follow.{Legal}
 use Rattle.reactor_core.specs.Acting.{StopAppends}
+use Rattle.reactor_core.specs.Ends.{AreRetired}
 use Rattle.reactor_core.specs.Removing.{AreRemovals, alive_handles}
 use Rattle.reactor_core.specs.Settling.{IsClosing}
 use Rattle.script_runs.specs.Runs.{first_handle, is_notice, is_refusal}
@@ -28,6 +30,7 @@ use Rattle.tp_reactor.specs.Pool.{HasClosed}
 use Rattle.server_run.specs.Journals.{BeginsSo, EndsByNotice, HasNotices, WindsUp, first_entry, is_for_acceptor, notice_for}
 use Rattle.server_run.proofs.Cutting.{turned_before}
 use Rattle.server_run.proofs.Notices.{all_front, none_of_all, notice_there}
+use Rattle.server_run.proofs.Notified.{KeepsNotices, any_past, behind_notice}
 use Rattle.server_run.proofs.Posts.{ended_later}
 use Rattle.server_run.proofs.Winding.{sum, sum_more}
 
@@ -171,17 +174,6 @@ gone_more h (e ∷ es) = omega (arith, gone_more (h ++ e ∷ []) es, ap gone (ap
 
 -- ---- a run that ended by its notice
 
-notice_in : {N : Type 0} (run : List (Entry N)) → list_any is_notice (past_of run) ≡ true → list_any is_notice run ≡ true
-notice_in [] q = q
-notice_in (e ∷ es) q =
-    let parts : (list_any is_notice (past_of es) || (is_notice e || false)) ≡ true = sym (list_any-append is_notice (past_of es) (e ∷ [])) ∙ (ap (list_any is_notice) (sym (past_of-append (e ∷ []) es)) ∙ q) in
-    by (list_any is_notice (past_of es)) (is_notice e) (notice_in es) parts
-  where
-    by : (later first : Bool) → (later ≡ true → list_any is_notice es ≡ true) → (later || (first || false)) ≡ true → (first || list_any is_notice es) ≡ true
-    by true first before q = or_right first (list_any is_notice es) (before refl)
-    by false true before q = refl
-    by false false before q = absurd (false≢true q)
-
 same_pair : (a b : ℕ × Handle) → Some a ≡ Some b → a ≡ b
 same_pair a b q = cc
 
@@ -207,22 +199,27 @@ module _ {N : Type 0} (until : Option ℕ) (list journal : List (Entry N)) (c : 
           (λ (s : InSecond closed.front closed.begins.0 c.run Ended c.closing). omega (arith, gone_more closed.front s.rest, ap gone s.is))
           (cut_at closed.front closed.begins.0 c.run Ended c.closing parts)
 
-  pub ends_by_notice : {H E : Type 0} (means : Handling H E N) (t : Terms) → ((up : Upcall) → means.may t up Stopping → (kind : Kind) × (up ≡ Notice kind)) → DispatchedByTurns means t 1 list → 1 ≤ length c.run
-      → (list_any is_notice list ≡ true → HasClosed (notice_for until) list) → EndsByNotice until c.run
-  ends_by_notice means t stops turned some posted =
-      let here : MayHere means t (past_of c.run) Stopping = turned c.run Ended c.closing (sym same ∙ c.is) some in
+  pub ends_by_notice : {H E : Type 0} (means : Handling H E N) (t : Terms) (most : ℕ) (given : List (ℕ × E)) (rest : List (Entry N)) → ((up : Upcall) → means.may t up Stopping → (kind : Kind) × (up ≡ Notice kind)) → KeepsNotices means → Legal journal most → AreRetired means t (past_of journal) given
+      → DispatchedByTurns means t 1 list → list ≡ first_entry ∷ rest → (list_any is_notice list ≡ true → HasClosed (notice_for until) list) → EndsByNotice until c.run
+  ends_by_notice means t most given rest stops keeps legal retired turned first posted =
+      let begins = begins_cut list journal rest c first in
+      let here : MayHere means t (past_of c.run) Stopping = turned c.run Ended c.closing (sym same ∙ c.is) (omega (arith, ap length begins.1)) in
       let told = stops here.event.upcall here.may in
-      let noticed : list_any is_notice c.run ≡ true = notice_in c.run (notice_there (past_of c.run) here.number here.event told.0 here.is told.1) in
+      let noticed : list_any is_notice c.run ≡ true = any_past is_notice c.run (notice_there (past_of c.run) here.number here.event told.0 here.is told.1) in
       let there : list_any is_notice list ≡ true = ap (list_any is_notice) (sym same ∙ c.is) ∙ (list_any-append is_notice c.run (Ended ∷ c.closing) ∙ or_left (list_any is_notice c.run) _ noticed) in
       let e = enough (posted there) in
+      let b = behind_notice means t most journal c.run c.closing begins.0 given here told.0 keeps legal c.is begins.1 (turned_cut means t 1 list journal c turned) retired told.1 in
       record {
         wanted = e.0;
         asked = e.1;
         enough = omega (arith, e.2, closed_count (past_of c.run), refused_count (past_of c.run));
-        number = here.number;
-        event = here.event;
+        before = b.before;
+        number = b.number;
+        answer = b.answer;
+        note = b.note;
+        directly = b.directly;
+        event = b.event;
         kind = told.0;
-        returned = here.returned;
-        is = here.is;
-        notice = told.1;
+        is = b.is;
+        notice = b.notice;
       }

@@ -54,9 +54,10 @@ use Rattle.server_run.specs.declared.asked.Asked.{Asked}
 use Rattle.server_run.specs.declared.ending.Ending.{Ending}
 use Rattle.server_run.specs.declared.ending.Ending.TheVariants as ending
 use Rattle.server_run.specs.declared.ending.Served.{Served}
-use Rattle.server_run.proofs.Cuts.{Cut, begins_cut, ends_by_notice, is_right}
+use Rattle.server_run.proofs.Cuts.{Cut, ends_by_notice, is_right}
 use Rattle.server_run.proofs.Leaving.{broken_told, leaves}
 use Rattle.server_run.proofs.Merged.{AllPosted, all_drained}
+use Rattle.server_run.proofs.Notified.{KeepsNotices}
 use Rattle.server_run.proofs.Notices.{all_of_filter, none_of_all}
 use Rattle.server_run.proofs.Posts.{Says, all_says, is_for}
 use Rattle.server_run.proofs.Registering.{turn_told}
@@ -181,12 +182,9 @@ module _ {H M Q W V E : Type 0} (m : Meaning H M Q W V ServerNote E) (t : Terms)
         let above : over_mark w ≤ over_of core = d.closed.above 4 in
         omega (arith, told, above, stands.tracks.marks.within, stands.tracks.marks.made)
 
-    module _ (armed : Q → List Timer) (served : Served M Q W V) (fin : Finishes m armed t d.closed.first w.seen core served.parts) (stops : (up : Upcall) → m.means.may t up Stopping → (kind : Kind) × (up ≡ Notice kind)) (by_turn : t.by_turn ≡ Some 1) (c : Cut w.seen fin.journal) where
+    module _ (armed : Q → List Timer) (served : Served M Q W V) (fin : Finishes m armed t d.closed.first w.seen core served.parts) (stops : (up : Upcall) → m.means.may t up Stopping → (kind : Kind) × (up ≡ Notice kind)) (keeps : KeepsNotices m.means) (by_turn : t.by_turn ≡ Some 1) (c : Cut w.seen fin.journal) where
       not_stopped : (sum w.seen).ended ≡ false → answer ≡ ran.Stopped → ⊥
       not_stopped running is = true≢false (sym (says.stopped is) ∙ running)
-
-      some_run : 1 ≤ length c.run
-      some_run = let b = begins_cut w.seen fin.journal begins.0 c begins.1 in omega (arith, ap length b.1)
 
       ends_over : answer ≡ ran.Over → EndsSo asked.until (m.facts served.parts.net) ending.Over c.run c.closing
       ends_over is =
@@ -204,7 +202,7 @@ module _ {H M Q W V E : Type 0} (m : Meaning H M Q W V ServerNote E) (t : Terms)
       ends_notified : answer ≡ ran.Stopped → EndsSo asked.until (m.facts served.parts.net) ending.Notified c.run c.closing
       ends_notified is = ⊎_elim
           (λ first. absurd (not_stopped first.1 is))
-          (λ second. ends_by_notice asked.until w.seen fin.journal c second.0 m.means t stops (turned by_turn) some_run posted)
+          (λ second. ends_by_notice asked.until w.seen fin.journal c second.0 m.means t t.most fin.stand.net.retired.0 begins.0 stops keeps fin.legal fin.stand.net.retired.1 (turned by_turn) begins.1 posted)
           c.how
 
       ends_by : (r : Ran) → answer ≡ r → EndsSo asked.until (m.facts served.parts.net) (ending_of r) c.run c.closing
@@ -229,11 +227,11 @@ module _ {H M Q W V E : Type 0} (m : Meaning H M Q W V ServerNote E) (t : Terms)
 
     pub leaves_led : (armed : Q → List Timer) (served : Served M Q W V) → served.ending ≡ named (ending_of answer) (m.is_broken served.parts.watch)
         → ((first : ℕ) → Stands m t core first w.seen → NoneOpen w.seen → Finishes m armed t first w.seen core served.parts) → KeepsCounts m core served.parts
-        → ((up : Upcall) → m.means.may t up Stopping → (kind : Kind) × (up ≡ Notice kind)) → t.by_turn ≡ Some 1 → LeavesRun m armed t asked served
-    leaves_led armed served is finishes counts stops by_turn =
+        → ((up : Upcall) → m.means.may t up Stopping → (kind : Kind) × (up ≡ Notice kind)) → KeepsNotices m.means → t.by_turn ≡ Some 1 → LeavesRun m armed t asked served
+    leaves_led armed served is finishes counts stops keeps by_turn =
         let fin : Finishes m armed t d.closed.first w.seen core served.parts = finishes d.closed.first stands at_rest in
         leaves m armed t asked (ending_of answer) served is d.closed.first w.seen core fin (inr begins) (turned by_turn) right
-        (λ c. ends_by armed served fin stops by_turn c answer refl)
+        (λ c. ends_by armed served fin stops keeps by_turn c answer refl)
         (inr (record {
           answer = answer;
           named = named_so served.ending (m.is_broken served.parts.watch) is;

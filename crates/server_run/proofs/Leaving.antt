@@ -10,13 +10,14 @@ use Rattle.timer_queue.specs.declared.timer.Timer.{Timer}
 use Rattle.reactor_journal.specs.declared.entry.Entry.{Entry}
 use Rattle.reactor_journal.specs.declared.entry.Entry.TheVariants.{Ended}
 use Rattle.reactor_journal.specs.Past.{past_of}
+use Rattle.reactor_journal.proofs.Turning.{count-past}
 use Rattle.reactor_summary.specs.Summary.{is_busy, summary}
 use Rattle.reactor_model.specs.Handling.{Handling}
 use Rattle.dispatch_turns.specs.ByTurns.{DispatchedByTurns}
 use Rattle.log_handler.specs.declared.note.ServerNote.{ServerNote}
 use Rattle.reactor_core.specs.Beginning.{CanBegin, PartsStand}
 use Rattle.reactor_core.specs.Calls.{AreCalls}
-use Rattle.reactor_core.specs.Ends.{WhereTold}
+use Rattle.reactor_core.specs.Ends.{WhereTold, is_fault}
 use Rattle.reactor_core.specs.Removing.{AreRemovals, alive_handles}
 use Rattle.reactor_core.specs.Stands.{HasTaken, Meaning, NetStands}
 use Rattle.reactor_core.specs.declared.reactor.Core.{Core}
@@ -78,6 +79,7 @@ module _ {H M Q W V E : Type 0} (m : Meaning H M Q W V ServerNote E) (armed : Q 
           is = c.is;
           begins = begins_of list fin.journal c begins;
           turned = turned_cut m.means t 1 list fin.journal c turned;
+          faults = omega (arith, fin.stand.net.faults, count-past is_fault fin.journal);
           notices = notices_of asked.until fin.journal (right_cut asked.until list fin.journal c right);
           ends = ends_named asked.until (m.facts served.parts.net) how served.ending (m.is_broken served.parts.watch) c.run c.closing is (ends c);
         });

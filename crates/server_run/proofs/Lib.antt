@@ -4,6 +4,7 @@ pub mod Merged
 pub mod Winding
 pub mod Posts
 pub mod Resting
+pub mod Notified
 pub mod Cuts
 pub mod Leaving
 pub mod Leading

@@ -8,14 +8,20 @@ use Rattle.ev_types.specs.declared.upcall.Mask.{Mask}
 use Rattle.ev_types.specs.declared.upcall.Upcall.{Upcall}
 use Rattle.ev_types.specs.declared.upcall.Upcall.TheVariants.{Input, Output, Except, Timeout, Notice}
 use Rattle.ev_base.specs.Counts.{Rose}
+use Rattle.ev_base.specs.End.{EndFacts}
 use Rattle.ev_base.specs.Net.{NetFacts}
+use Rattle.ev_base.specs.declared.end.PeerEnd.{Ghosts}
+use Rattle.ev_types.specs.declared.upcall.Answer.TheVariants.{Keep}
+use Rattle.reactor_journal.specs.Event.{Item}
 use Rattle.ev_base.specs.Terms.{Terms}
 use Rattle.timer_queue.specs.declared.timer.Timer.{Timer}
 use Rattle.reactor_journal.specs.declared.entry.Entry.{Entry}
 use Rattle.reactor_journal.specs.declared.entry.Entry.TheVariants.{Opened}
 use Rattle.reactor_model.specs.Handling.{Stopping}
 use Rattle.reactor_model.specs.Volumes.{VolumesFacts}
-use Rattle.acceptor.specs.Servers.{ServerMay, read_alone}
+use Rattle.acceptor.specs.Accepting as accepting
+use Rattle.acceptor.specs.Servers.{ServerMay, read_alone, servers}
+use Rattle.log_handler.specs.Connection as talking
 use Rattle.log_handler.specs.declared.note.ServerNote.{ServerNote}
 use Rattle.reactor_core.specs.Offering.{RegisterGives}
 use Rattle.reactor_core.specs.Stands.{Meaning, Stands}
@@ -31,6 +37,7 @@ use Rattle.server_run.specs.declared.asked.Asked.{Asked}
 use Rattle.server_run.specs.declared.ending.Ending.{Ending}
 use Rattle.server_run.specs.declared.ending.Ending.TheVariants as ending
 use Rattle.server_run.specs.declared.ending.Served.{Served}
+use Rattle.server_run.proofs.Notified.{KeepsNotices}
 use Rattle.server_run.proofs.Leaving.{broken_told, leaves_unled}
 
 -- a turn of a server's handler stops the reactor at a notice alone
@@ -40,6 +47,25 @@ may_stop t (Notice kind) may = (kind, refl)
 may_stop t Output may = absurd may
 may_stop t Except may = absurd may
 may_stop t (Timeout timer) may = absurd may
+
+-- a turn of a notice was answered Keep
+accepting_keeps : (start p : accepting.Progress) (before : List (Item ServerNote)) (item : Item ServerNote) (kind : Kind) → accepting.Course start (before ++ item ∷ []) p → item.upcall ≡ Notice kind → item.answer ≡ Keep
+accepting_keeps start p [] item kind course is =
+    let turn : accepting.MakesNoAccept start item course.0 = subst (λ (up : Upcall). accepting.ServesUpcall up start item course.0) is course.1 in
+    turn.answers
+accepting_keeps start p (b ∷ before) item kind course is = accepting_keeps course.0 p before item kind course.2 is
+
+talking_keeps : (conn : ℕ) (idle : Option ℕ) (start p : talking.Progress) (before : List (Item ServerNote)) (item : Item ServerNote) (kind : Kind) → talking.Course conn idle start (before ++ item ∷ []) p → item.upcall ≡ Notice kind → item.answer ≡ Keep
+talking_keeps conn idle start p [] item kind course is =
+    let turn : talking.MakesNoRead conn start Keep None item course.0 = subst (λ (up : Upcall). talking.ServesUpcall up conn idle start item course.0) is course.1.serves in
+    turn.answers
+talking_keeps conn idle start p (b ∷ before) item kind course is = talking_keeps conn idle course.0 p before item kind course.2 is
+
+pub keeps_notices : {E : Type 0} (G : Ghosts E) (tells : E → EndFacts) (keeps : Terms → E → Type 0) → KeepsNotices (servers {E = E} {G = G} tells keeps)
+keeps_notices G tells keeps t origin end before item why note kind gone is = ⊎_elim
+    (λ listens. accepting_keeps _ listens.listened.now before item kind listens.listened.course is)
+    (λ talks. talking_keeps talks.conn talks.idle _ talks.served.now before item kind talks.served.course is)
+    gone
 
 entry_at : ℕ → List (Entry ServerNote)
 entry_at n = Opened (record { 0 = n }) read_alone ∷ []
@@ -158,4 +184,3 @@ turn_told told n is b q = same b n (sym q ∙ is)
 pub room_for : {A : Type 0} (until : Option A) (n : ℕ) → n ≡ 0 → IfSome until (λ asked. n < 2 ^ 56)
 room_for None n is = tt
 room_for (Some asked) n is = omega (arith, is)
-

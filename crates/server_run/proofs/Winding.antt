@@ -113,9 +113,9 @@ finished {M = M} {Q = Q} {W = W} {V = V} {N = N} m armed t first list core new t
   over = s.over;
   stand = subst (PartsStand m armed t first s.journal) (sym same) stand;
   marked = λ some.
-  let told : WhereTold (λ calls. IsOverAt (over_of new) (answers calls)) (m.facts (net_of new)).calls = marks_over (marks_of new) (past_of s.journal) (m.facts (net_of new)).calls (omega (arith, some, ap (λ (marks : WaitMarks). marks.over) marks)) s.stands.tracks.marks in
-  subst (λ (n : M). WhereTold (λ calls. IsOverAt (over_of core) (answers calls)) (m.facts n).calls) (sym net ∙ sym (ap (λ (p : Parts N M Q W V). p.net) same))
-  (subst (λ (k : ℕ). WhereTold (λ calls. IsOverAt k (answers calls)) (m.facts (net_of new)).calls) (ap (λ (marks : WaitMarks). marks.over) marks) told);
+      let told : WhereTold (λ calls. IsOverAt (over_of new) (answers calls)) (m.facts (net_of new)).calls = marks_over (marks_of new) (past_of s.journal) (m.facts (net_of new)).calls (omega (arith, some, ap (λ (marks : WaitMarks). marks.over) marks)) s.stands.tracks.marks in
+      subst (λ (n : M). WhereTold (λ calls. IsOverAt (over_of core) (answers calls)) (m.facts n).calls) (sym net ∙ sym (ap (λ (p : Parts N M Q W V). p.net) same))
+      (subst (λ (k : ℕ). WhereTold (λ calls. IsOverAt k (answers calls)) (m.facts (net_of new)).calls) (ap (λ (marks : WaitMarks). marks.over) marks) told);
   broken = λ before. broke t parts.watch s.journal before (subst (λ (p : Parts N M Q W V). m.watched t p.watch s.journal) (sym same) stand.watch);
 }
 

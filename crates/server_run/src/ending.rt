@@ -2,7 +2,8 @@
 use log_handler::ServerNote;
 use reactor_core::Parts;
 
-/// How a run of the server ended. Of several causes the first in this order is told, but that a failed watch is told whenever it failed.
+/// How a run of the server ended. Of several causes the first in this order is told. A failed watch hides every other cause, also where it
+/// failed only when the reactor was stopped: so with every other ending it has not failed.
 #[derive(Clone, Copy, PartialEq, Eq, Debug)]
 pub enum Ending {
     /// The watch failed.

@@ -29,6 +29,9 @@ const ACCEPTOR: Handle = Handle(0);
 /// the listener, and which a pool of workers leads in turn. Its end is told with what it leaves. Where `until` is given it is ended by a
 /// notice to the acceptor, once as many handlers were closed or refused; else it goes on until nothing can be reported any more. A worker
 /// that meets a fault leaves, and the others go on until they leave too. Then the reactor is stopped and every handler closed.
+///
+/// For want of memory there may be no reactor, or one that was stopped before a worker led. Where the net does not take the listener in there
+/// is one with no handler. The listener and the waker are dropped then.
 pub fn serve<
     R: Threads + Wait + Sync,
     E: PeerEnd + Drop + Send,
