@@ -1,7 +1,6 @@
 -- The journal of a run, cut at its end.
-use Rattle.std.proofs.Common.{ℕ, zero, suc, ◌≡◌, ◌==◌, ◌≤◌, ◌<◌, ◌+◌, ◌⊎◌, inl, inr, ⊎_elim, Bool, true, false, not, ◌&&◌, ◌||◌, if◌then◌else◌, List, [], ◌∷◌, ◌++◌, length, filter, refl, sym, ap, ◌∙◌, subst, arith, Option, Some, None, length-append}
-use Rattle.std.specs.Prelude.{option_map}
-use Rattle.std.proofs.lemmas.Bool.{and_from, and_parts, true≢false, false≢true, or_left, or_right}
+use Rattle.std.proofs.Common.{ℕ, suc, ◌≡◌, ◌≤◌, ◌+◌, ◌⊎◌, inl, inr, ⊎_elim, Bool, true, false, not, if◌then◌else◌, List, [], ◌∷◌, ◌++◌, length, refl, sym, ap, ◌∙◌, subst, arith, Option, Some, None}
+use Rattle.std.proofs.lemmas.Bool.{and_from, true≢false, or_left}
 use Rattle.std.proofs.lemmas.List.{append-nil, append_assoc}
 use Rattle.std.proofs.lemmas.List.Folds.{list_all-append, list_any-append}
 use Rattle.std.specs.List.{list_all, list_any}
@@ -14,7 +13,6 @@ use Rattle.reactor_journal.specs.declared.entry.Entry.{Entry}
 use Rattle.reactor_journal.specs.declared.entry.Entry.TheVariants as entry
 use Rattle.reactor_journal.specs.declared.entry.Entry.TheVariants.{Ended}
 use Rattle.reactor_journal.specs.Past.{past_of, count, is_closed}
-use Rattle.reactor_journal.proofs.Turning.{past_of-append}
 use Rattle.reactor_summary.specs.Summary.{Summary, closed_after, ended_after, refused_after, is_busy, summary}
 use Rattle.reactor_summary.specs.declared.parts.LiveHandle.{LiveHandle}
 use Rattle.reactor_model.specs.Handling.{Handling, Stopping}
@@ -27,9 +25,9 @@ use Rattle.reactor_core.specs.Removing.{AreRemovals, alive_handles}
 use Rattle.reactor_core.specs.Settling.{IsClosing}
 use Rattle.script_runs.specs.Runs.{first_handle, is_notice, is_refusal}
 use Rattle.tp_reactor.specs.Pool.{HasClosed}
-use Rattle.server_run.specs.Journals.{BeginsSo, EndsByNotice, HasNotices, WindsUp, first_entry, is_for_acceptor, notice_for}
+use Rattle.server_run.specs.Journals.{EndsByNotice, HasNotices, WindsUp, first_entry, is_for_acceptor, notice_for}
 use Rattle.server_run.proofs.Cutting.{turned_before}
-use Rattle.server_run.proofs.Notices.{all_front, none_of_all, notice_there}
+use Rattle.server_run.proofs.Notices.{none_of_all, notice_there}
 use Rattle.server_run.proofs.Notified.{KeepsNotices, any_past, behind_notice}
 use Rattle.server_run.proofs.Posts.{ended_later}
 use Rattle.server_run.proofs.Winding.{sum, sum_more}

@@ -1,5 +1,5 @@
 -- What a run leaves whose workers led.
-use Rattle.std.proofs.Common.{ℕ, zero, suc, ◌≡◌, ◌==◌, ◌≤◌, ◌<◌, ◌+◌, ◌-◌, ◌^◌, ◌⊎◌, inl, inr, ⊎_elim, Bool, true, false, not, ◌&&◌, List, [], ◌∷◌, ◌++◌, length, filter, min, refl, sym, ap, ◌∙◌, subst, arith, Option, Some, None}
+use Rattle.std.proofs.Common.{ℕ, ◌≡◌, ◌==◌, ◌≤◌, ◌<◌, ◌-◌, ◌⊎◌, inl, inr, ⊎_elim, Bool, true, false, not, List, [], ◌∷◌, ◌++◌, length, filter, refl, sym, ap, ◌∙◌, subst, arith, Option, Some, None}
 use Rattle.std.specs.Prelude.{slice_index}
 use Rattle.std.proofs.lemmas.Bool.{and_from, and_parts, false≢true, true≢false}
 use Rattle.std.specs.List.{list_all, list_any}
@@ -11,7 +11,7 @@ use Rattle.ev_types.specs.declared.upcall.Upcall.{Upcall}
 use Rattle.ev_types.specs.declared.upcall.Upcall.TheVariants.{Notice}
 use Rattle.ev_base.specs.Counts.{Rose}
 use Rattle.ev_base.specs.Terms.{Terms}
-use Rattle.leader_token.specs.Lists.{Begins, NoneAbove, is_event, times}
+use Rattle.leader_token.specs.Lists.{Begins, is_event, times}
 use Rattle.leader_token.specs.declared.kept.View.{View}
 use Rattle.list_lemmas.specs.Sums.{total}
 use Rattle.notify_ring.specs.Passes.{IsMerged, root_poster}
@@ -25,7 +25,7 @@ use Rattle.reactor_journal.specs.declared.entry.Entry.TheVariants as entry
 use Rattle.reactor_journal.specs.Follow.{Legal, follows_ready}
 use Rattle.reactor_journal.specs.Past.{past_of, count}
 use Rattle.reactor_turns.specs.Opens.{opens_of}
-use Rattle.reactor_model.specs.Handling.{Handling, Stopping}
+use Rattle.reactor_model.specs.Handling.{Stopping}
 use Rattle.dispatch_turns.specs.ByTurns.{DispatchedByTurns}
 use Rattle.log_handler.specs.declared.note.ServerNote.{ServerNote}
 use Rattle.reactor_summary.specs.Summary.{is_busy}
@@ -46,10 +46,10 @@ use Rattle.tp_reactor.specs.Words.{SameKin}
 use Rattle.tp_reactor.specs.Working.{Runs}
 use Rattle.tp_reactor.specs.declared.working.Ran.{Ran}
 use Rattle.tp_reactor.specs.declared.working.Ran.TheVariants as ran
-use Rattle.script_runs.specs.Runs.{IsIdle, first_handle, is_notice}
+use Rattle.script_runs.specs.Runs.{IsIdle, is_notice}
 use Rattle.server_run.specs.Finishing.{Finishes, IsAtRest, KeepsCounts, NoneOpen, named}
 use Rattle.server_run.specs.Journals.{EndsSo, first_entry, notice_for}
-use Rattle.server_run.specs.Served.{FaultRose, HasCauses, HasLed, LeavesRun, ending_of}
+use Rattle.server_run.specs.Served.{FaultRose, HasCauses, LeavesRun, ending_of}
 use Rattle.server_run.specs.declared.asked.Asked.{Asked}
 use Rattle.server_run.specs.declared.ending.Ending.{Ending}
 use Rattle.server_run.specs.declared.ending.Ending.TheVariants as ending

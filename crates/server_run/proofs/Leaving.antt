@@ -1,6 +1,6 @@
 -- What a run leaves, by how far it came.
-use Rattle.std.proofs.Common.{ℕ, zero, suc, ◌≡◌, ◌≤◌, ◌<◌, ◌+◌, ◌^◌, ◌⊎◌, inl, inr, ⊎_elim, Bool, true, false, List, [], ◌∷◌, ◌++◌, length, drop, map, min, refl, sym, ap, ◌∙◌, subst, arith, Option, Some, None, length-append}
-use Rattle.std.proofs.lemmas.Bool.{true≢false, false≢true}
+use Rattle.std.proofs.Common.{ℕ, ◌≡◌, ◌≤◌, ◌⊎◌, inl, inr, ⊎_elim, Bool, true, false, List, [], ◌∷◌, length, map, refl, sym, ap, ◌∙◌, subst, arith, Option, Some, None, length-append}
+use Rattle.std.proofs.lemmas.Bool.{false≢true}
 use Rattle.std.proofs.lemmas.List.{append-nil}
 use Rattle.std.specs.List.{list_all}
 use Rattle.ev_base.specs.Counts.{Rose}
@@ -8,23 +8,20 @@ use Rattle.ev_base.specs.Net.{HasNone, IsNew, NetFacts}
 use Rattle.ev_base.specs.Terms.{Terms}
 use Rattle.timer_queue.specs.declared.timer.Timer.{Timer}
 use Rattle.reactor_journal.specs.declared.entry.Entry.{Entry}
-use Rattle.reactor_journal.specs.declared.entry.Entry.TheVariants.{Ended}
-use Rattle.reactor_journal.specs.Past.{past_of}
 use Rattle.reactor_journal.proofs.Turning.{count-past}
-use Rattle.reactor_summary.specs.Summary.{is_busy, summary}
+use Rattle.reactor_summary.specs.Summary.{is_busy}
 use Rattle.reactor_model.specs.Handling.{Handling}
 use Rattle.dispatch_turns.specs.ByTurns.{DispatchedByTurns}
 use Rattle.log_handler.specs.declared.note.ServerNote.{ServerNote}
-use Rattle.reactor_core.specs.Beginning.{CanBegin, PartsStand}
+use Rattle.reactor_core.specs.Beginning.{CanBegin}
 use Rattle.reactor_core.specs.Calls.{AreCalls}
 use Rattle.reactor_core.specs.Ends.{WhereTold, is_fault}
 use Rattle.reactor_core.specs.Removing.{AreRemovals, alive_handles}
 use Rattle.reactor_core.specs.Stands.{HasTaken, Meaning, NetStands}
 use Rattle.reactor_core.specs.declared.reactor.Core.{Core}
-use Rattle.reactor_core.specs.declared.reactor.Parts.{Parts}
 use Rattle.reactor_state.specs.Tables.{armed_of}
 use Rattle.server_run.specs.Finishing.{Finishes, named}
-use Rattle.server_run.specs.Journals.{BeginsSo, EndsSo, IsRun, WindsUp, first_entry}
+use Rattle.server_run.specs.Journals.{BeginsSo, EndsSo, WindsUp, first_entry}
 use Rattle.server_run.specs.Served.{HasLed, HasNoLead, LeavesRun, MayBeUnmade, MayLackLead}
 use Rattle.server_run.specs.declared.asked.Asked.{Asked}
 use Rattle.server_run.specs.declared.ending.Ending.{Ending}

@@ -1,5 +1,5 @@
 -- How long a handler of the server may be kept: as long as its end.
-use Rattle.std.proofs.Common.{List, [], ◌++◌}
+use Rattle.std.proofs.Common.{[], ◌++◌}
 use base.Fml.{Lft}
 use contract.BorrowLft.{◌⊑◌, ⊑_meet, ⊑_static}
 

@@ -1,6 +1,6 @@
 -- What is drained of a ring was posted, and what a turn was notified of stands in the journal.
-use Rattle.std.proofs.Common.{ℕ, zero, suc, ◌≡◌, ◌==◌, ◌+◌, Bool, true, false, not, ◌&&◌, ◌||◌, if◌then◌else◌, List, [], ◌∷◌, ◌++◌, length, filter, refl, sym, ap, ◌∙◌, subst, arith, Option, Some, None, cond}
-use Rattle.std.proofs.lemmas.Bool.{and_parts, and_from, or_left, or_right, false≢true}
+use Rattle.std.proofs.Common.{ℕ, suc, ◌≡◌, ◌==◌, Bool, true, false, not, ◌&&◌, ◌||◌, if◌then◌else◌, List, [], ◌∷◌, ◌++◌, length, filter, refl, sym, ap, ◌∙◌, Option, Some, None}
+use Rattle.std.proofs.lemmas.Bool.{and_parts, and_from, or_right, false≢true}
 use Rattle.std.proofs.lemmas.List.Folds.{list_all-append}
 use Rattle.std.specs.List.{list_all, list_any}
 use mathlib.Core.Option.{some}
@@ -9,12 +9,11 @@ use Rattle.std.specs.Prelude.{option_map}
 use Rattle.ev_types.specs.declared.upcall.Answer.TheVariants.{Again}
 use Rattle.ev_types.specs.declared.upcall.Kind.{Kind}
 use Rattle.ev_types.specs.declared.upcall.Kind.TheVariants.{Read, Write, Except}
-use Rattle.ev_types.specs.declared.upcall.Upcall.{Upcall}
 use Rattle.ev_types.specs.declared.upcall.Upcall.TheVariants.{Input, Output, Except as ExceptUp, Timeout, Notice}
 use Rattle.reactor_journal.specs.Event.{Event, Timer}
 use Rattle.reactor_journal.specs.declared.entry.Entry.{Entry}
-use Rattle.reactor_journal.specs.declared.entry.Entry.TheVariants.{Due, Ready, Posted, Stale, Returned}
-use Rattle.reactor_journal.specs.Past.{past_of, event_at, event_made, only_if_alive, timer_of, timeout_of, upcall_of, was_opened, was_removed}
+use Rattle.reactor_journal.specs.declared.entry.Entry.TheVariants.{Due, Ready, Posted, Returned}
+use Rattle.reactor_journal.specs.Past.{event_at, event_made, only_if_alive, timer_of, timeout_of, upcall_of, was_opened, was_removed}
 use Rattle.script_runs.specs.Runs.{is_notice}
 
 -- ---- an event of a notification

@@ -1,7 +1,7 @@
 -- A run that ends by its notice ends directly behind the turn that was notified: no closing stands between.
-use Rattle.std.proofs.Common.{ℕ, suc, ◌≡◌, ◌==◌, ◌≤◌, ◌<◌, ◌+◌, ⊎_elim, Bool, true, false, not, ◌&&◌, ◌||◌, if◌then◌else◌, List, [], ◌∷◌, ◌++◌, length, refl, sym, ap, ◌∙◌, subst, arith, Option, Some, None}
-use Rattle.std.proofs.lemmas.Bool.{and_from, and_parts, both_ways, cond-true, eq-eqb, false_from_ne_true, false≢true, not-true, or_left, or_parts, or_right, true≢false}
-use Rattle.std.proofs.lemmas.List.{append_assoc, reverse-append, reverse-reverse}
+use Rattle.std.proofs.Common.{ℕ, ◌≡◌, ◌==◌, ⊎_elim, Bool, true, false, ◌||◌, List, [], ◌∷◌, ◌++◌, refl, sym, ap, ◌∙◌, subst, arith, Option, Some, None}
+use Rattle.std.proofs.lemmas.Bool.{and_parts, both_ways, cond-true, eq-eqb, false_from_ne_true, false≢true, not-true, or_parts, or_right, true≢false}
+use Rattle.std.proofs.lemmas.List.{append_assoc, reverse-reverse}
 use Rattle.std.proofs.lemmas.List.Folds.{list_any-append}
 use Rattle.std.specs.List.{list_any}
 use Rattle.ev_types.specs.declared.upcall.Answer.{Answer}
@@ -13,12 +13,12 @@ use Rattle.ev_types.specs.declared.upcall.Why.{Why}
 use Rattle.ev_base.specs.Terms.{Terms}
 use Rattle.reactor_journal.specs.Event.{Event, Item, Origin}
 use Rattle.reactor_journal.specs.Follow.{Legal, is_legal, may_follow}
-use Rattle.reactor_journal.specs.Past.{past_of, belongs_to, ended, ends, is_ended, event_at, had, is_alive, is_event, is_open, item_of, origin_of, reason_of, returns, started_at, starts, waits_for_closed, is_able}
+use Rattle.reactor_journal.specs.Past.{past_of, belongs_to, ended, ends, is_ended, event_at, had, is_alive, is_event, is_open, item_of, origin_of, reason_of, returns, started_at, starts, is_able}
 use Rattle.reactor_journal.specs.declared.entry.Entry.{Entry}
 use Rattle.reactor_journal.specs.declared.entry.Entry.TheVariants as entry
 use Rattle.reactor_journal.specs.declared.entry.Entry.TheVariants.{Closed, Ended, Removed, Returned}
 use Rattle.reactor_journal.proofs.Alive.{alive_after}
-use Rattle.reactor_journal.proofs.Basics.{belongs_is_event, event_at-before, may_fits}
+use Rattle.reactor_journal.proofs.Basics.{event_at-before, may_fits}
 use Rattle.reactor_journal.proofs.Closing.{closing, waiting_alive}
 use Rattle.reactor_journal.proofs.HadLaw.{event_still, returned_is_open}
 use Rattle.reactor_journal.proofs.OneOpen.{able_is_event, one_open, open_cases, started_is_able, started_is_event}

@@ -22,13 +22,12 @@ use Rattle.reactor_journal.specs.declared.entry.Entry.{Entry}
 use Rattle.reactor_journal.specs.declared.entry.Entry.TheVariants as entry
 use Rattle.reactor_summary.specs.Summary.{Summary, ended_after}
 use Rattle.reactor_core.specs.Stands.{Meaning}
-use Rattle.reactor_core.specs.declared.acting.Settled.{Settled}
 use Rattle.reactor_desk.specs.declared.leading.Led.{Led}
 use Rattle.reactor_desk.specs.declared.leading.Led.TheVariants as led
 use Rattle.reactor_desk.specs.declared.terms.DeskTerms.{DeskTerms}
 use Rattle.tp_reactor.specs.Led.{IsLed}
 use Rattle.tp_reactor.specs.Pool.{AllRun, Dismisses, EndsPool, HiresNone, RunsPool, WorkerEnd, hirer, hirer_posted}
-use Rattle.tp_reactor.specs.Working.{MayPost, Round, Rounds, Runs, first_ran, ran_of, rank}
+use Rattle.tp_reactor.specs.Working.{Round, Rounds, Runs, first_ran, ran_of, rank}
 use Rattle.tp_reactor.specs.declared.working.Ran.{Ran}
 use Rattle.tp_reactor.specs.declared.working.Ran.TheVariants as ran
 use Rattle.server_run.proofs.Merged.{AllPosted}

@@ -1,6 +1,6 @@
 -- What the stop of a reactor appends, and what is over then.
-use Rattle.std.proofs.Common.{ℕ, zero, suc, ◌≡◌, ◌==◌, ◌&&◌, Bool, true, false, not, List, [], ◌∷◌, ◌++◌, refl, sym, ap, ◌∙◌, subst, arith, Option, Some, None, if◌then◌else◌}
-use Rattle.std.proofs.lemmas.Bool.{and_from, and_parts}
+use Rattle.std.proofs.Common.{ℕ, zero, suc, ◌≡◌, Bool, true, false, not, List, [], ◌∷◌, ◌++◌, refl, sym, ap, ◌∙◌, subst, arith, Some, None, if◌then◌else◌}
+use Rattle.std.proofs.lemmas.Bool.{and_from}
 use Rattle.std.proofs.lemmas.List.{append-nil, append_assoc}
 use Rattle.std.specs.Option.{option_to_list}
 use Rattle.ev_types.specs.declared.upcall.Handle.{Handle}
@@ -12,7 +12,7 @@ use Rattle.reactor_journal.specs.declared.entry.Entry.TheVariants.{Removed, Clos
 use Rattle.reactor_journal.specs.Follow.{Legal}
 use Rattle.reactor_journal.specs.Past.{past_of, opened, was_closed, all_below}
 use Rattle.reactor_journal.proofs.Turning.{past_of-more}
-use Rattle.reactor_summary.specs.Summary.{Summary, step, summary, is_busy}
+use Rattle.reactor_summary.specs.Summary.{Summary, step, summary}
 use Rattle.reactor_summary.specs.Tells.{listed, live_handle}
 use Rattle.reactor_summary.specs.declared.parts.LiveHandle.{LiveHandle}
 use Rattle.reactor_summary.proofs.Told.{told}

@@ -1,5 +1,5 @@
 -- What comes of the registration of the acceptor.
-use Rattle.std.specs.Prelude.{ℕ, ◌≡◌, ◌≤◌, List, [], ◌∷◌, Some, Result, Ok, Err}
+use Rattle.std.specs.Prelude.{◌≡◌, ◌≤◌, List, [], ◌∷◌, Some, Result, Ok, Err}
 use Rattle.ev_base.specs.Terms.{Terms}
 use Rattle.timer_queue.specs.declared.timer.Timer.{Timer}
 use Rattle.log_handler.specs.declared.note.ServerNote.{ServerNote}

@@ -1,5 +1,5 @@
 -- How a run of the server begins (C++NPv2 chapter 4, `Logging_Acceptor`; POSA2, Leader/Followers).
-use Rattle.std.specs.Prelude.{ℕ, ◌≡◌, ◌≤◌, ◌+◌, List, [], Some}
+use Rattle.std.specs.Prelude.{◌≡◌, ◌≤◌, ◌+◌, List, [], Some}
 use Rattle.ev_base.specs.Terms.{Terms}
 use Rattle.ev_base.specs.declared.end.PeerEnd.{Ghosts}
 use Rattle.timer_queue.specs.declared.timer.Timer.{Timer}

@@ -1,11 +1,7 @@
-use Rattle.std.proofs.Common.{ap, refl, rules, subst, sym, ◌∙◌, [], ◌∷◌, length}
+use Rattle.std.proofs.Common.{ap, refl, rules, ◌∙◌, [], ◌∷◌, length}
 use Rattle.notify_ring.specs.Words.{poster_view}
 use Rattle.notify_ring.specs.declared.view.View.{View}
-use Rattle.reactor_desk.specs.Desks.{core_marks}
-use Rattle.reactor_state.specs.State.{HasPlaces, IsPlaced, Shows}
-use Rattle.reactor_core.specs.Stands.{meaning}
 use Rattle.tp_reactor.specs.Words.{known_by, poster_of}
-use Rattle.acceptor.specs.Servers.{servers}
 use Rattle.server_run.specs.Finishing.{named}
 use Rattle.server_run.specs.Journals.{first_entry}
 use Rattle.server_run.proofs.Leading.{causes_led, closed_at_rest, leaves_led, may_share, stands_still, was_led}
