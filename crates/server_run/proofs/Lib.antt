@@ -1,0 +1,12 @@
+pub mod Cutting
+pub mod Notices
+pub mod Merged
+pub mod Winding
+pub mod Posts
+pub mod Resting
+pub mod Notified
+pub mod Cuts
+pub mod Leaving
+pub mod Leading
+pub mod Registering
+pub mod Living

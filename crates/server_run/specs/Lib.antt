@@ -1,0 +1,5 @@
+pub mod Starting
+pub mod Journals
+pub mod Served
+pub mod Opening
+pub mod Finishing

@@ -1,0 +1,93 @@
+-- What a run of the server leaves.
+use Rattle.std.specs.Prelude.{ℕ, ◌≡◌, ◌⊎◌, true, List, [], ◌∷◌, Some}
+use Rattle.ev_base.specs.Counts.{Rose}
+use Rattle.ev_base.specs.Net.{NetFacts}
+use Rattle.ev_base.specs.Terms.{Terms}
+use Rattle.timer_queue.specs.declared.timer.Timer.{Timer}
+use Rattle.reactor_journal.specs.declared.entry.Entry.{Entry}
+use Rattle.log_handler.specs.declared.note.ServerNote.{ServerNote}
+use Rattle.reactor_model.specs.Volumes.{VolumesFacts}
+use Rattle.reactor_core.specs.Beginning.{PartsStand}
+use Rattle.reactor_core.specs.Stands.{Meaning}
+use Rattle.reactor_desk.specs.declared.terms.DeskTerms.{DeskTerms}
+use Rattle.tp_reactor.specs.Alone.{RunsTo}
+use Rattle.tp_reactor.specs.declared.working.Ran.{Ran}
+use Rattle.tp_reactor.specs.declared.working.Ran.TheVariants as ran
+use Rattle.server_run.specs.Journals.{IsRun, WindsUp, first_entry}
+use Rattle.server_run.specs.declared.asked.Asked.{Asked}
+use Rattle.server_run.specs.declared.ending.Ending.{Ending}
+use Rattle.server_run.specs.declared.ending.Ending.TheVariants as ending
+use Rattle.server_run.specs.declared.ending.Served.{Served}
+
+-- how a run ended whose workers left their loops with this answer, unless its watch failed
+abbrev pub ending_of : Ran → Ending
+ending_of ran.Broken = ending.Broken
+ending_of ran.NetFault = ending.NetFault
+ending_of ran.NoMemory = ending.NoMemory
+ending_of ran.VolumeFault = ending.VolumeFault
+ending_of ran.Stopped = ending.Notified
+ending_of ran.Over = ending.Over
+
+-- no worker led: there was no memory for the reactor or for sharing it, or the acceptor was not registered
+abbrev pub MayLackLead : Ending → Type 0
+MayLackLead ending.Broken = Unit {0}
+MayLackLead ending.NotAttached = Unit {0}
+MayLackLead ending.NoMemory = Unit {0}
+MayLackLead ending.NetFault = ⊥
+MayLackLead ending.VolumeFault = ⊥
+MayLackLead ending.Notified = ⊥
+MayLackLead ending.Over = ⊥
+
+-- Then the journal is empty, or the reactor was stopped at once, with no handler or with the acceptor alone.
+pub record HasNoLead {N : Type 0} (how : Ending) (journal : List (Entry N)) : Type 0 where
+  pub ending : MayLackLead how
+  pub journal_is : (journal ≡ []) ⊎ (WindsUp [] journal ⊎ WindsUp (first_entry ∷ []) journal)
+
+-- The workers left their loops with this answer, when the journal was this list, and then the reactor was stopped. One worker brought it from
+-- the registration of the acceptor to the list by its rounds alone, entry by entry.
+pub record HasLed {H M Q W V N E : Type 0} (m : Meaning H M Q W V N E) (t : Terms) (asked : Asked) (how : Ending) (journal : List (Entry N)) : Type 0 where
+  pub answer : Ran
+  pub named : (how ≡ ending.Broken) ⊎ (how ≡ ending_of answer)
+  pub list : List (Entry N)
+  pub winds : WindsUp list journal
+  pub terms : DeskTerms
+  pub run_terms : terms.run ≡ t
+  pub alone : asked.workers ≡ 1 → RunsTo m terms asked.limit (first_entry ∷ []) answer list
+
+-- no reactor was made, for want of memory, so the journal is empty
+abbrev pub MayBeUnmade : Ending → Type 0
+MayBeUnmade ending.Broken = Unit {0}
+MayBeUnmade ending.NoMemory = Unit {0}
+MayBeUnmade ending.NotAttached = ⊥
+MayBeUnmade ending.NetFault = ⊥
+MayBeUnmade ending.VolumeFault = ⊥
+MayBeUnmade ending.Notified = ⊥
+MayBeUnmade ending.Over = ⊥
+
+pub record IsUnmade {N : Type 0} (how : Ending) (journal : List (Entry N)) : Type 0 where
+  pub ending : MayBeUnmade how
+  pub none : journal ≡ []
+
+-- What is left of a run under these terms: one journal, for which the parts stand.
+pub record LeavesRun {H M Q W V E : Type 0} (m : Meaning H M Q W V ServerNote E) (armed : Q → List Timer) (t : Terms) (asked : Asked) (served : Served M Q W V) : Type 0 where
+  pub first : ℕ
+  pub journal : List (Entry ServerNote)
+  pub stand : PartsStand m armed t first journal served.parts
+  pub run : IsUnmade served.ending journal ⊎ IsRun m.means t asked.until (m.facts served.parts.net) served.ending journal
+  pub led : HasNoLead served.ending journal ⊎ HasLed m t asked served.ending journal
+  pub broken : (before : ℕ) → served.ending ≡ ending.Broken → t.output_faults ≡ Some before → Rose before (m.faults served.parts.watch)
+
+-- With a fault the count of its cause rose: that of failed attaches or of failed waits of the net, or that of the faults of the volumes.
+abbrev pub FaultRose : {N E : Type 0} → Ending → NetFacts E → NetFacts E → VolumesFacts N → VolumesFacts N → Type 0
+FaultRose ending.NotAttached net net' volumes volumes' = Rose net.failed_attaches net'.failed_attaches
+FaultRose ending.NetFault net net' volumes volumes' = Rose net.failed_waits net'.failed_waits
+FaultRose ending.VolumeFault net net' volumes volumes' = Rose volumes.faults volumes'.faults
+FaultRose ending.Broken net net' volumes volumes' = Unit {0}
+FaultRose ending.NoMemory net net' volumes volumes' = Unit {0}
+FaultRose ending.Notified net net' volumes volumes' = Unit {0}
+FaultRose ending.Over net net' volumes volumes' = Unit {0}
+
+-- It did so since the net and the volumes were these; and a watch that failed is told.
+pub record HasCauses {H M Q W V N E : Type 0} (m : Meaning H M Q W V N E) (net : M) (volumes : V) (served : Served M Q W V) : Type 0 where
+  pub rose : FaultRose served.ending (m.facts net) (m.facts served.parts.net) (m.volumes volumes) (m.volumes served.parts.volumes)
+  pub told : m.is_broken served.parts.watch ≡ true → served.ending ≡ ending.Broken

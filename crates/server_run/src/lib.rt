@@ -1,0 +1,13 @@
+//! The run of the logging server by a pool of workers: over any net, with an acceptor as its first handler, until nothing can be reported
+//! any more, a notice ends it, or one of its parts fails.
+#![tactic(auto)]
+
+mod asked;
+mod ending;
+mod finishing;
+mod opening;
+mod running;
+
+pub use asked::{Asked, Ground};
+pub use ending::{Ending, Served};
+pub use running::serve;
