@@ -1,0 +1,7 @@
+//! The command `logd replay`: the text of a script on an input is read whole, and the logging server is run over a net that plays it (C++NPv2
+//! chapter 4; scripts are this project's own).
+#![tactic(auto)]
+
+mod playing;
+
+pub use playing::play;
