@@ -1,37 +1,51 @@
 -- What the journal of a run of the server over a script says.
-use Rattle.std.specs.Prelude.{◌≡◌, ◌≤◌, ◌⊎◌, ◌+◌, ◌*◌, ◌/◌, ℕ, false, List, [], ◌∷◌, ◌++◌, length, Option, None}
-use Rattle.std.specs.List.{list_any}
-use Rattle.ev_base.specs.Net.{NetFacts}
+use Rattle.std.specs.Prelude.{◌≡◌, ◌≤◌, ◌⊎◌, ◌+◌, ◌*◌, ◌/◌, ℕ, List, [], ◌∷◌, ◌++◌, drop, length, Bool, true, Option, Some, None}
 use Rattle.ev_base.specs.Terms.{Terms}
 use Rattle.ev_base.specs.declared.end.PeerEnd.{Ghosts}
 use Rattle.reactor_journal.specs.declared.entry.Entry.{Entry}
 use Rattle.reactor_journal.specs.declared.entry.Entry.TheVariants.{Ended}
-use Rattle.reactor_journal.specs.Past.{past_of}
+use Rattle.reactor_core.specs.Ends.{WhereTold}
+use Rattle.reactor_core.specs.Stands.{HasTaken}
+use Rattle.reactor_model.specs.Volumes.{VolumesFacts}
 use Rattle.log_handler.specs.declared.note.ServerNote.{ServerNote}
 use Rattle.acceptor.specs.Servers.{servers}
 use Rattle.acceptor.specs.declared.server.ServerHandler.{ServerHandler}
 use Rattle.dispatch_turns.specs.ByTurns.{DispatchedByTurns}
-use Rattle.event_script.specs.Script.{ScriptGroup, steps_of, groups_told, opened}
-use Rattle.script_net.specs.NetContent.{NetContent, script_net_facts}
+use Rattle.event_script.specs.Script.{ScriptGroup, steps_of, groups_told}
+use Rattle.event_script.specs.Grammar.{IsScriptText}
+use Rattle.script_net.specs.NetContent.{NetContent}
 use Rattle.script_net.specs.ScriptEnd.{script_end_facts, ScriptEndKeeps}
 use Rattle.script_net.specs.declared.end.ScriptEnd.{ScriptEnd}
-use Rattle.script_turns.specs.Grouped.{grouped}
-use Rattle.script_runs.specs.Connections.{lines_by_connection, HadMemory}
 use Rattle.script_runs.specs.Laws.{RunsOver}
-use Rattle.script_runs.specs.Runs.{IsWhole, is_fault}
-use Rattle.script_complete.specs.Complete.{LeavesNoStep, TookAllAs}
+use Rattle.script_runs.specs.Runs.{IsWhole}
+use Rattle.script_runs.specs.Runs as runs
 use Rattle.script_serial.specs.Serial.{Serial}
 use Rattle.script_served.specs.Served.{FollowsScript}
+use Rattle.script_served.specs.Terms.{HaveScript}
 use Rattle.few_entries.specs.Few.{all_bytes, quiet_groups}
-use Rattle.server_run.specs.Journals.{BeginsSo, EndsSo, HasNotices}
+use Rattle.server_run.specs.Journals.{BeginsSo, EndsByNotice, HasNotices}
+use Rattle.server_run.specs.Starting.{AreTermsOf}
 use Rattle.server_run.specs.declared.asked.Asked.{Asked}
 use Rattle.server_run.specs.declared.ending.Ending.{Ending}
 use Rattle.server_run.specs.declared.ending.Ending.TheVariants as ending
+use Rattle.server_run.specs.declared.ending.Served.{Served}
+
+-- Why a run over a script ended: nothing could be reported any more, and the script answers its last wait so; or a notice ended it. A net
+-- that plays a script fails in no call.
+abbrev pub EndsScript : Asked → List ScriptGroup → Ending → List (Entry ServerNote) → List (Entry ServerNote) → Type 0
+EndsScript asked groups ending.Over journal run = runs.EndsAtOver (groups_told groups) journal
+EndsScript asked groups ending.Notified journal run = EndsByNotice asked.until run
+EndsScript asked groups ending.NotAttached journal run = ⊥
+EndsScript asked groups ending.NetFault journal run = ⊥
+EndsScript asked groups ending.Broken journal run = Unit {0}
+EndsScript asked groups ending.NoMemory journal run = Unit {0}
+EndsScript asked groups ending.VolumeFault journal run = Unit {0}
 
 -- The journal of a run over a script that ended so: it is legal, was stopped, and each handle that was opened was closed; it began with the
 -- registration of the acceptor, if a handler was registered at all, and before its end it goes by turns alone; notifications are for the
--- acceptor, and stand only where a notice was asked for; no handler was refused for a fault; and it follows the script.
-pub record IsScriptRun (G : Ghosts ScriptEnd) (t : Terms) (asked : Asked) (groups : List ScriptGroup) (how : Ending) (net : NetContent) (journal : List (Entry ServerNote)) : Type 0 where
+-- acceptor, and stand only where a notice was asked for; it follows the script, and no handler was refused for a fault. Where no notice was
+-- asked for and nothing could be reported any more, it ran over the whole script.
+pub record IsScriptRun (G : Ghosts ScriptEnd) (t : Terms) (asked : Asked) (groups : List ScriptGroup) (how : Ending) (journal : List (Entry ServerNote)) : Type 0 where
   pub whole : IsWhole (asked.connections + 1) journal
   pub run : List (Entry ServerNote)
   pub closing : List (Entry ServerNote)
@@ -40,8 +54,36 @@ pub record IsScriptRun (G : Ghosts ScriptEnd) (t : Terms) (asked : Asked) (group
   pub turned : DispatchedByTurns {H = ServerHandler ScriptEnd G} (servers script_end_facts ScriptEndKeeps) t 1 run
   pub notices : HasNotices asked.until journal
   pub follows : FollowsScript groups asked.idle journal
-  pub ends : EndsSo asked.until (script_net_facts net) how run closing
+  pub ends : EndsScript asked groups how journal run
+  pub over : how ≡ ending.Over → asked.until ≡ None → RunsOver {H = ServerHandler ScriptEnd G} (servers script_end_facts ScriptEndKeeps) t asked.idle groups journal
 
--- What more is known of a run that ended because nothing could be reported any more, where no notice was asked for: it ran over the whole script.
-pub record IsWholeRun (G : Ghosts ScriptEnd) (t : Terms) (asked : Asked) (groups : List ScriptGroup) (journal : List (Entry ServerNote)) : Type 0 where
-  pub over : RunsOver {H = ServerHandler ScriptEnd G} (servers script_end_facts ScriptEndKeeps) t asked.idle groups journal
+-- One worker leaves the serial journal of the script, where nothing could be reported any more; and, without an idle time, few entries.
+pub record IsOfOneWorker (asked : Asked) (groups : List ScriptGroup) (how : Ending) (journal : List (Entry ServerNote)) : Type 0 where
+  pub serial : how ≡ ending.Over → Serial (asked.connections + 1) asked.idle groups journal
+  pub few : asked.idle ≡ None → length journal ≤ 16 * length (steps_of groups) + all_bytes (steps_of groups) / 1024 + quiet_groups groups + 200
+
+-- no reactor was made, or the journal is that of a run
+abbrev pub IsRunOrNone : Ghosts ScriptEnd → Terms → Asked → List ScriptGroup → Ending → List (Entry ServerNote) → Type 0
+IsRunOrNone G t asked groups how journal = (journal ≡ []) ⊎ IsScriptRun G t asked groups how journal
+
+-- What is left of a run over a script: one journal, of which the last entries are held and the others were handed over, and the watch stands
+-- for it.
+pub record LeavesScript {W V Q : Type 0} (G : Ghosts ScriptEnd) (watched : Terms → W → List (Entry ServerNote) → Type 0) (facts : V → VolumesFacts ServerNote)
+    (t : Terms) (asked : Asked) (groups : List ScriptGroup) (served : Served NetContent Q W V) : Type 0 where
+  pub journal : List (Entry ServerNote)
+  pub within : served.parts.first ≤ length journal
+  pub held : served.parts.journal.entries ≡ drop served.parts.first journal
+  pub taken : WhereTold (HasTaken t served.parts.first journal) (facts served.parts.volumes).taken
+  pub watch : watched t served.parts.watch journal
+  pub run : IsRunOrNone G t asked groups served.ending journal
+  pub some : (served.ending ≡ ending.Over) ⊎ (served.ending ≡ ending.Notified) → IsScriptRun G t asked groups served.ending journal
+  pub one : asked.workers ≡ 1 → asked.until ≡ None → IsOfOneWorker asked groups served.ending journal
+
+-- the terms have the script of a text, with a net that fails in no call
+pub record ForScript (asked : Asked) (groups : List ScriptGroup) (t : Terms) : Type 0 where
+  pub text : List ℕ
+  pub is_text : IsScriptText text groups
+  pub have : HaveScript t groups asked.idle
+  pub terms : AreTermsOf asked t
+  pub most : t.most ≡ asked.connections + 1
+  pub steady : t.steady ≡ Some true

@@ -1,22 +1,24 @@
 //! A run of the server over a script.
-ghost use Rattle.std.specs.Prelude.{◌≡◌};
+ghost use Rattle.std.specs.Prelude.{◌≡◌, List, None, true};
 ghost use Rattle.ev_base.specs.Terms.{Terms};
-ghost use Rattle.server_run.specs.Served.{HasCauses, LeavesRun};
+ghost use Rattle.ev_base.specs.Counts.{Rose};
+ghost use Rattle.event_script.specs.Script.{ScriptGroup};
 ghost use Rattle.ev_base.specs.Host.{GivesListener};
 ghost use Rattle.server_run.specs.Starting.{CanStart, IsFine};
 ghost use Rattle.script_net.specs.Hosts.{new_net};
 ghost use Rattle.script_net.specs.NetContent.{script_net_facts};
 ghost use Rattle.script_net.specs.ScriptEnd.{script_end_facts, ScriptEndKeeps};
 ghost use Rattle.script_replay.specs.Playing.{CanPlay};
+ghost use Rattle.script_replay.specs.Runs.{ForScript, LeavesScript};
 
 use acceptor::ServerHandler;
 use chosen_timers::ChosenTimers;
-use ev_base::Host;
+use ev_base::{Host, PeerEnd};
 use log_handler::ServerNote;
 use reactor_core::{Core, Means};
 use reactor_model::{Volumes, Watch};
 use script_net::{Script, ScriptEnd, ScriptHost, ScriptNet, ScriptWake};
-use server_run::{Asked, Ground, Served, serve};
+use server_run::{Asked, Ending, Ground, Served, serve};
 use std::alloc::Global;
 use std::sync::Wait;
 use std::thread::Threads;
@@ -63,7 +65,7 @@ fn ground<W: Watch<ServerNote>, V: Volumes<ServerNote>>(
     }
 }
 
-/// Runs the server over a net that plays a script.
+/// Runs the server over a net that plays the script of a text.
 pub fn play<R: Threads + Wait + Sync, W: Watch<ServerNote> + Send, V: Volumes<ServerNote> + Send>(
     rt: &R,
     alloc: Global,
@@ -73,11 +75,14 @@ pub fn play<R: Threads + Wait + Sync, W: Watch<ServerNote> + Send, V: Volumes<Se
     watch: W,
     volumes: V,
 ) -> Served<ScriptNet, ChosenTimers, W, V>
-    ghost terms: { Terms }
+    ghost given: { Terms × List ScriptGroup }
     requires fine { IsFine asked }
-    requires can { CanPlay W.stands V.facts asked script timers watch volumes terms }
-    ensures run { LeavesRun ⟦<ScriptCore<W, V> as Means>⟧.m ⟦<ChosenTimers as TimerQueue>⟧.timers terms asked result }
-    ensures causes { HasCauses ⟦<ScriptCore<W, V> as Means>⟧.m (new_net script.groups) volumes result }
+    requires can { CanPlay W.stands V.facts asked script timers watch volumes given.0 }
+    requires script { ForScript asked given.1 given.0 }
+    requires limit { asked.limit ≡ None }
+    ensures leaves { LeavesScript ⟦<ScriptEnd as PeerEnd>⟧ W.stands V.facts given.0 asked given.1 result }
+    ensures broken { W.is_broken result.parts.watch ≡ true → result.ending ≡ Ending.Broken }
+    ensures volumes { result.ending ≡ Ending.VolumeFault → Rose (V.facts volumes).faults (V.facts result.parts.volumes).faults }
 {
     let (ground, waker) = ground(alloc, asked, script, timers, watch, volumes);
     serve(rt, alloc, asked, ground, waker)

@@ -62,22 +62,26 @@ module _ (G : Ghosts ScriptEnd) (t : Terms) (groups : List ScriptGroup) (idle : 
       let many : count is_polled (past_of e.run) ≡ length (answers net.calls) = sym same.1 ∙ ap (count is_polled) (sym behind) ∙ told.many in
       ap is_over last ∙ over-last (count is_polled (past_of e.run)) (answers net.calls) many e.over
 
-  pub runs-over : EndsWithOver G t journal net → RunsOver {H = ServerHandler ScriptEnd G} (servers script_end_facts ScriptEndKeeps) t idle groups journal
-  runs-over e = record {
+  pub ends-over : EndsWithOver G t journal net → runs.EndsAtOver (groups_told groups) journal
+  ends-over e = record {
+    run = e.run;
+    closing = e.closing;
+    is = e.is;
+    at_over = record { behind = e.behind; over = over-here e; idle = e.rests };
+    closes = e.closes;
+  }
+
+  pub runs-over : EndsWithOver G t journal net → list_any runs.is_notice journal ≡ false → RunsOver {H = ServerHandler ScriptEnd G} (servers script_end_facts ScriptEndKeeps) t idle groups journal
+  unfolding ends-over
+  runs-over e no_notice = record {
     script = text-steps s.text groups s.is_text;
     whole = s.whole;
     begins = (e.begins.0 ++ Ended ∷ e.closing, e.is ∙ ap (λ l. l ++ Ended ∷ e.closing) e.begins.1);
-    ends = record {
-      run = e.run;
-      closing = e.closing;
-      is = e.is;
-      at_over = record { behind = e.behind; over = over-here e; idle = e.rests };
-      closes = e.closes;
-    };
+    ends = ends-over e;
     acts = record { asks = λ up deed may. may; installs = λ said. refl };
     turned = e.turned;
     idle_is = s.have.stories_are.idle_is;
-    no_notice = e.no_notice;
+    no_notice = no_notice;
     follows = follows-script.follows;
     turns = follows-script.turns;
   }

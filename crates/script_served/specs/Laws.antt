@@ -1,5 +1,5 @@
 -- What holds of runs of the server over a script.
-use Rattle.std.specs.Prelude.{◌≡◌, ℕ, true, List, Option, reverse}
+use Rattle.std.specs.Prelude.{◌≡◌, ℕ, true, false, List, Option, reverse}
 use Rattle.ev_base.specs.Sink.{SinkFacts}
 use Rattle.ev_base.specs.Terms.{Terms}
 use Rattle.ev_base.specs.declared.end.PeerEnd.{Ghosts}
@@ -8,7 +8,7 @@ use Rattle.reactor_model.specs.Volumes.{VolumesFacts}
 use Rattle.log_handler.specs.declared.note.ServerNote.{ServerNote}
 use Rattle.acceptor.specs.Servers.{servers}
 use Rattle.acceptor.specs.declared.server.ServerHandler.{ServerHandler}
-use Rattle.event_script.specs.Script.{ScriptGroup, steps_of, are_steps}
+use Rattle.event_script.specs.Script.{ScriptGroup, steps_of, groups_told, are_steps}
 use Rattle.event_script.specs.Grammar.{IsScriptText}
 use Rattle.script_net.specs.Hosts.{ScriptContent, LaysDown}
 use Rattle.script_net.specs.NetContent.{NetContent}
@@ -16,6 +16,8 @@ use Rattle.script_net.specs.ScriptEnd.{script_end_facts, ScriptEndKeeps}
 use Rattle.script_net.specs.declared.end.ScriptEnd.{ScriptEnd}
 use Rattle.script_text.specs.Parsing.{HasGroups}
 use Rattle.script_runs.specs.Laws.{RunsOver}
+use Rattle.script_runs.specs.Runs.{EndsAtOver, is_notice}
+use Rattle.std.specs.List.{list_any}
 use Rattle.script_served.specs.Terms.{HaveScript, terms_of_script}
 use Rattle.script_served.specs.Served.{ServesScript, FollowsScript, EndsWithOver}
 
@@ -31,8 +33,14 @@ ScriptsAreFollowed G =
     (t : Terms) (groups : List ScriptGroup) (idle : Option ℕ) (journal : List (Entry ServerNote)) (net : NetContent)
     → ServesScript G t groups idle journal net → FollowsScript groups idle journal
 
+abbrev pub ScriptsEndOver : Ghosts ScriptEnd → Type 0
+ScriptsEndOver G =
+    (t : Terms) (groups : List ScriptGroup) (idle : Option ℕ) (journal : List (Entry ServerNote)) (net : NetContent)
+    → ServesScript G t groups idle journal net → EndsWithOver G t journal net → EndsAtOver (groups_told groups) journal
+
+-- and without notices it is one that the laws of whole runs speak of
 abbrev pub ScriptsRunOver : Ghosts ScriptEnd → Type 0
 ScriptsRunOver G =
     (t : Terms) (groups : List ScriptGroup) (idle : Option ℕ) (journal : List (Entry ServerNote)) (net : NetContent)
-    → ServesScript G t groups idle journal net → EndsWithOver G t journal net
+    → ServesScript G t groups idle journal net → EndsWithOver G t journal net → list_any is_notice journal ≡ false
     → RunsOver {H = ServerHandler ScriptEnd G} (servers script_end_facts ScriptEndKeeps) t idle groups journal

@@ -20,7 +20,7 @@ use Rattle.script_net.specs.ScriptEnd.{script_end_facts, ScriptEndKeeps}
 use Rattle.script_net.specs.declared.end.ScriptEnd.{ScriptEnd}
 use Rattle.script_told.specs.Told.{Follows}
 use Rattle.script_runs.specs.Connections.{AreLeft}
-use Rattle.script_runs.specs.Runs.{IsWhole, IsIdle, first_handle, is_closing, is_notice, is_fault}
+use Rattle.script_runs.specs.Runs.{IsWhole, IsIdle, first_handle, is_closing, is_fault}
 use Rattle.script_served.specs.Terms.{HaveScript}
 
 -- Under terms that have the script of a text, this journal is whole, and the net stands for it, which failed in no attach.
@@ -39,7 +39,7 @@ pub record FollowsScript (groups : List ScriptGroup) (idle : Option ℕ) (journa
   pub turns : AreLeft (steps_of groups) idle (past_of journal)
   pub none_failed : list_any is_fault journal ≡ false
 
--- The run goes by turns behind the registration of the acceptor, without notices, and ended behind a wait that the net answered Over, with
+-- The run goes by turns behind the registration of the acceptor, and ended behind a wait that the net answered Over, with
 -- nothing to start and nothing open; then the handlers that were alive were closed.
 pub record EndsWithOver (G : Ghosts ScriptEnd) (t : Terms) (journal : List (Entry ServerNote)) (net : NetContent) : Type 0 where
   pub run : List (Entry ServerNote)
@@ -47,7 +47,6 @@ pub record EndsWithOver (G : Ghosts ScriptEnd) (t : Terms) (journal : List (Entr
   pub is : journal ≡ run ++ Ended ∷ closing
   pub begins : (rest : List (Entry ServerNote)) × (run ≡ Opened first_handle read_alone ∷ rest)
   pub turned : DispatchedByTurns {H = ServerHandler ScriptEnd G} (servers script_end_facts ScriptEndKeeps) t 1 run
-  pub no_notice : list_any is_notice journal ≡ false
   pub behind : follows_ready (past_of run) ≡ true
   pub rests : IsIdle (past_of run)
   pub over : IsOverAt (count is_polled (past_of run)) (answers net.calls)

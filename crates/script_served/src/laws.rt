@@ -1,5 +1,5 @@
 //! Laws of runs of the server over a net that plays a script. Each function has an empty body: what it says is its contract.
-ghost use Rattle.script_served.specs.Laws.{LaysScriptsDown, ScriptsAreFollowed, ScriptsRunOver};
+ghost use Rattle.script_served.specs.Laws.{LaysScriptsDown, ScriptsAreFollowed, ScriptsEndOver, ScriptsRunOver};
 
 use ev_base::PeerEnd;
 use script_net::ScriptEnd;
@@ -14,7 +14,12 @@ pub fn scripts_are_followed()
     ensures { ScriptsAreFollowed ⟦<ScriptEnd as PeerEnd>⟧ }
 {}
 
-/// Where the run ended behind a wait that was answered Over, the journal is one that ran over the script.
+/// Where the run ended behind a wait that the net answered Over, the script answers it so too.
+pub fn scripts_end_over()
+    ensures { ScriptsEndOver ⟦<ScriptEnd as PeerEnd>⟧ }
+{}
+
+/// Then the journal, if nobody posted, is one that ran over the script.
 pub fn scripts_run_over()
     ensures { ScriptsRunOver ⟦<ScriptEnd as PeerEnd>⟧ }
 {}
