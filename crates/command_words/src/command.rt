@@ -103,6 +103,7 @@ fn alone(command: Command, words: &[String]) -> Option<Command>
     }
 }
 
+// `replay` with the words behind it.
 fn replay(alloc: Global, words: &[String]) -> Result<Option<Command>, NoMemory>
     requires { has_dashes (map string_bytes words.now) ≡ false }
     ensures command { IfOk result (λ command. command ≡ replay_of (map string_bytes words.now)) }
@@ -114,6 +115,7 @@ fn replay(alloc: Global, words: &[String]) -> Result<Option<Command>, NoMemory>
     }
 }
 
+// `replay` with the options that the parse found.
 fn replay_by(matches: &ArgMatches) -> Option<Command>
     ensures command { result ≡ replay_by (text_in matches.now) }
     ensures ranges { IfSome result IsInRange }
@@ -123,6 +125,7 @@ fn replay_by(matches: &ArgMatches) -> Option<Command>
     Some(Command::Replay(options))
 }
 
+// `serve` with the words behind it.
 fn serve(alloc: Global, words: &[String]) -> Result<Option<Command>, NoMemory>
     requires { has_dashes (map string_bytes words.now) ≡ false }
     ensures command { IfOk result (λ command. command ≡ serve_of (map string_bytes words.now)) }
@@ -134,6 +137,7 @@ fn serve(alloc: Global, words: &[String]) -> Result<Option<Command>, NoMemory>
     }
 }
 
+// `serve` with the options that the parse found.
 fn serve_by(matches: &ArgMatches) -> Option<Command>
     ensures command { result ≡ serve_by (text_in matches.now) }
     ensures ranges { IfSome result IsInRange }
@@ -146,6 +150,7 @@ fn serve_by(matches: &ArgMatches) -> Option<Command>
     })
 }
 
+// `gen` with the words behind it.
 fn generate(words: &[String]) -> Option<Command>
     ensures command { result ≡ generate_of (map string_bytes words.now) }
     ensures ranges { IfSome result IsInRange }

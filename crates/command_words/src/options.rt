@@ -112,6 +112,7 @@ fn read_if(matches: &ArgMatches, name: &str, most: u64) -> Option<Option<u64>>
     }
 }
 
+// The queue that `--timers` names, or the list where it is not given.
 fn read_timers(matches: &ArgMatches) -> Option<Timers>
     ensures { result ≡ value_or Timers.List timers_named (text_in matches.now (codes "timers")) }
 {
@@ -132,6 +133,7 @@ fn timers_by_name(name: &str) -> Option<Timers>
     }
 }
 
+// Whether a flag was given. The parser gives it the text `true` then, and else `false`.
 fn has_flag(matches: &ArgMatches, name: &str) -> bool
     ensures { result ≡ has_flag (text_in matches.now name.now) }
 {

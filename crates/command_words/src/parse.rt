@@ -44,6 +44,7 @@ fn parse<'a>(command: Command<'a>, words: &'a [String]) -> Result<Option<ArgMatc
     }
 }
 
+// The parser of `replay`.
 fn replay<'a>(alloc: Global) -> Result<Command<'a>, AllocError>
     ensures { IfOk result (λ command. app_of command ≡ parser_of (codes "replay") replay_line) }
 {
@@ -52,13 +53,14 @@ fn replay<'a>(alloc: Global) -> Result<Command<'a>, AllocError>
         .arg(flag(alloc, "journal"))
 }
 
+// The parser of `serve`.
 fn serve<'a>(alloc: Global) -> Result<Command<'a>, AllocError>
     ensures { IfOk result (λ command. app_of command ≡ parser_of (codes "serve") serve_line) }
 {
     plain(alloc, "serve")?.arg(option(alloc, "port"))
 }
 
-// A command line with the options that both have.
+// A parser with the options that both have, without help and version.
 fn plain<'a>(alloc: Global, name: &'a str) -> Result<Command<'a>, AllocError>
     ensures { IfOk result (λ command. app_of command ≡ parser_of name.entry.now shared_line) }
 {

@@ -17,8 +17,8 @@ fn each_kind_of_queue_gives_the_same(rt: HostRuntime) -> Result<(), Fail> {
     Ok(())
 }
 
-// The calls are made through the bound.
-fn leave_in_order<Q: TimerQueue>(rt: &impl Abort, queue: &mut Q) -> Result<(), Fail>
+// The calls are made through the bound. A queue may move to another thread.
+fn leave_in_order<Q: TimerQueue + Send>(rt: &impl Abort, queue: &mut Q) -> Result<(), Fail>
     requires { Q.timers queue.old ≡ [] }
 {
     queue.reserve(5)?;
