@@ -2,17 +2,17 @@
 use Rattle.std.proofs.Common.{◌≡◌, ◌∙◌, ℕ, zero, suc, ◌+◌, ◌*◌, ◌<◌, ◌≤◌, Bool, List, [], ◌∷◌, ◌++◌, length, refl, sym, ap, ap₂, arith}
 use Rattle.std.proofs.Math.Nat.{suc-mul}
 use Rattle.cdr_record.specs.declared.record.LogRecord.{LogRecord}
-use Rattle.cdr_record.specs.Decoding.{Stop, Clean, Decoded, decode}
+use Rattle.cdr_record.specs.Decoding.{Clean, Decoded, decode}
 use Rattle.log_lines.specs.declared.end_kind.EndKind.{EndKind}
 use Rattle.log_lines.specs.declared.end_kind.EndKind.TheVariants as end
 use Rattle.log_lines.specs.Texts.{record_lines, closing_line}
-use Rattle.event_script.specs.Script.{ScriptStep, steps_of, opened}
+use Rattle.event_script.specs.Script.{steps_of}
 use Rattle.event_script.specs.Stories.{bytes_of, was_shut, has_failed}
 use Rattle.script_turns.specs.Grouped.{word_by, closing_word, grouped_lines, each_below, grouped}
 use Rattle.run_summary.specs.Summaries.{line_feeds}
 use Rattle.run_summary.proofs.Feeds.{feeds-append, record_lines_feeds, closing_line_feeds}
 use Rattle.script_generator.specs.Scripts.{generated}
-use Rattle.script_generator.specs.Laws.{connection_records, BringsRecords}
+use Rattle.script_generator.specs.Laws.{connection_records}
 use Rattle.script_generator.proofs.Connections.{has_steps, brings_records}
 use Rattle.generated_runs.specs.Runs.{HasGroupedText}
 

@@ -4,3 +4,4 @@ pub mod Numbers
 pub mod Handlers
 pub mod Totals
 pub mod Grouped
+pub mod Read

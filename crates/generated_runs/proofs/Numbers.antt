@@ -1,13 +1,13 @@
 -- Where no handler was refused, the handler behind the first one at each handle is that of the connection of the same number.
-use Rattle.std.proofs.Common.{ℕ, zero, suc, ◌≡◌, ◌≢◌, ◌+◌, ◌<◌, ◌≤◌, Bool, true, false, cond, ◌||◌, List, [], ◌∷◌, ◌++◌, length, refl, sym, ap, ◌∙◌, subst, arith, Option, Some, None, append_assoc}
+use Rattle.std.proofs.Common.{ℕ, suc, ◌≡◌, ◌+◌, ◌<◌, Bool, true, false, cond, List, [], ◌∷◌, ◌++◌, length, refl, sym, ap, ◌∙◌, subst, arith, Option, Some, None, append_assoc}
 use Rattle.std.specs.Prelude.{flat_map}
 use Rattle.std.specs.List.{list_any}
 use Rattle.std.proofs.lemmas.Bool.{false≢true, or_parts}
 use Rattle.ev_base.specs.Terms.{Terms}
 use Rattle.reactor_journal.specs.Event.{Item, Origin}
 use Rattle.reactor_journal.specs.declared.entry.Entry.{Entry}
-use Rattle.reactor_journal.specs.declared.entry.Entry.TheVariants.{Opened, Closed, Ended}
-use Rattle.reactor_journal.specs.Past.{had, origin_of, was_opened, was_closed, opened}
+use Rattle.reactor_journal.specs.declared.entry.Entry.TheVariants.{Opened, Ended}
+use Rattle.reactor_journal.specs.Past.{origin_of, was_opened, was_closed, opened}
 use Rattle.reactor_journal.specs.Follow.{is_legal, follows_ready}
 use Rattle.reactor_journal.proofs.Turning.{is_legal-front}
 use Rattle.reactor_model.specs.Handling.{Handling}

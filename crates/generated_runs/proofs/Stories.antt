@@ -1,5 +1,5 @@
 -- A connection that was shut and does not fail, and whose bytes are records alone, has read all of them where it was closed.
-use Rattle.std.proofs.Common.{◌≡◌, ◌≢◌, ◌∙◌, ◌+◌, ◌⊎◌, inl, inr, ◌==◌, ◌||◌, ℕ, arith, Bool, true, false, cond, List, [], ◌∷◌, ◌++◌, Option, Some, None, refl, sym, subst, ap, append-nil}
+use Rattle.std.proofs.Common.{◌≡◌, ◌≢◌, ◌∙◌, ◌+◌, ◌⊎◌, inl, inr, ◌==◌, ◌||◌, ℕ, Bool, true, false, cond, List, [], ◌∷◌, ◌++◌, Option, Some, None, refl, sym, subst, ap, append-nil}
 use Rattle.std.specs.Prelude.{flat_map}
 use Rattle.std.specs.List.{list_any}
 use Rattle.std.proofs.lemmas.Bool.{false≢true}
@@ -7,8 +7,7 @@ use Rattle.std.proofs.lemmas.List.Folds.{list_any-append}
 use Rattle.ev_types.specs.declared.upcall.Why.{Why}
 use Rattle.ev_types.specs.declared.upcall.Why.TheVariants.{Own, Removed, Refused}
 use Rattle.ev_base.specs.Story.{Part, Piece, Pausing, Ending, Failing}
-use Rattle.cdr_record.specs.declared.record.LogRecord.{LogRecord}
-use Rattle.cdr_record.specs.Decoding.{Stop, Clean, Partial, Malformed, Decoded, decode, left_of}
+use Rattle.cdr_record.specs.Decoding.{Clean, Malformed, Decoded, decode, left_of}
 use Rattle.cdr_record.specs.Grammar.{first_of}
 use Rattle.cdr_record.proofs.Runs.{bad_ends}
 use Rattle.log_lines.specs.declared.end_kind.EndKind.{EndKind}
@@ -23,7 +22,7 @@ use Rattle.event_script.specs.Script.{ScriptStep, Opens, Brings, Shuts, Fails, L
 use Rattle.event_script.specs.Stories.{parts_of, story, bytes_brought, bytes_of, has_failed}
 use Rattle.script_turns.specs.Laws.{ReadToEnd, is_orderly, steps_on, pauses_had, untold}
 use Rattle.script_turns.proofs.Parts.{bytes_in, bytes_in-append}
-use Rattle.script_turns.proofs.Reading.{Reads, StopsAt, TakesFront, HasRead, IsSound, front, course_reads}
+use Rattle.script_turns.proofs.Reading.{Reads, StopsAt, TakesFront, HasRead, front, course_reads}
 use Rattle.script_turns.proofs.Saying.{takes_all_bytes}
 
 -- ---- the bytes of a story, and its failures

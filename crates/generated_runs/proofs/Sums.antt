@@ -1,5 +1,5 @@
 -- Sums over all handlers.
-use Rattle.std.proofs.Common.{◌≡◌, ◌∙◌, ℕ, zero, suc, ◌+◌, ◌*◌, ◌≤◌, ◌<◌, ◌⊎◌, inl, inr, List, [], ◌∷◌, reverse, length, refl, sym, ap, ap₂, add-one, arith}
+use Rattle.std.proofs.Common.{◌≡◌, ◌∙◌, ℕ, zero, suc, ◌+◌, ◌*◌, ◌≤◌, ◌<◌, inl, inr, List, [], ◌∷◌, reverse, refl, sym, ap, ap₂, add-one, arith}
 use Rattle.std.proofs.Math.Nat.{suc-mul}
 use Rattle.std.specs.List.{sum_by, range_with_len}
 use Rattle.std.proofs.lemmas.Bool.{cases_eq}

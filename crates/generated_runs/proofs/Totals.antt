@@ -1,6 +1,5 @@
 -- The numbers of the journal of a run over a generated script.
-use Rattle.std.proofs.Common.{ℕ, zero, suc, ◌≡◌, ◌≢◌, ◌+◌, ◌*◌, ◌-◌, ◌^◌, ◌<◌, ◌≤◌, min, Bool, true, false, cond, List, [], ◌∷◌, ◌++◌, length, refl, sym, ap, ap₂, ◌∙◌, subst, arith, Option, Some, None, append_assoc}
-use Rattle.std.specs.Prelude.{flat_map}
+use Rattle.std.proofs.Common.{ℕ, zero, suc, ◌≡◌, ◌≢◌, ◌+◌, ◌*◌, ◌<◌, ◌≤◌, Bool, true, false, cond, List, [], ◌∷◌, ◌++◌, length, refl, sym, ap, ap₂, ◌∙◌, subst, arith, Option, Some, None, append_assoc}
 use Rattle.std.specs.List.{AllByRecursion, list_any, list_all, sum_by, range_with_len}
 use Rattle.std.proofs.Math.Nat.{suc-mul}
 use Rattle.std.proofs.lemmas.Bool.{both_ways}
@@ -11,12 +10,12 @@ use Rattle.ev_types.specs.declared.upcall.Handle.{Handle}
 use Rattle.ev_types.specs.declared.upcall.Why.TheVariants.{Own}
 use Rattle.ev_base.specs.Terms.{Terms}
 use Rattle.cdr_record.specs.declared.record.LogRecord.{LogRecord}
-use Rattle.cdr_record.specs.Decoding.{Stop, Clean, Decoded, decode}
+use Rattle.cdr_record.specs.Decoding.{Clean, Decoded, decode}
 use Rattle.reactor_journal.specs.Event.{Item, Origin}
 use Rattle.reactor_journal.specs.declared.entry.Entry.{Entry}
 use Rattle.reactor_journal.specs.declared.entry.Entry.TheVariants.{Returned, Closed, Ended}
-use Rattle.reactor_journal.specs.Past.{past_of, had, origin_of, reason_of, is_alive, was_opened, was_closed}
-use Rattle.reactor_journal.specs.Follow.{may_follow, is_legal}
+use Rattle.reactor_journal.specs.Past.{had, origin_of, reason_of, was_opened, was_closed}
+use Rattle.reactor_journal.specs.Follow.{is_legal}
 use Rattle.reactor_journal.proofs.Turning.{is_legal-front}
 use Rattle.reactor_turns.specs.Laws.{stays}
 use Rattle.reactor_turns.proofs.Turns.{had_stays}
@@ -25,14 +24,13 @@ use Rattle.log_lines.specs.declared.end_kind.EndKind.{EndKind}
 use Rattle.log_lines.specs.declared.end_kind.EndKind.TheVariants as end
 use Rattle.log_handler.specs.declared.note.ServerNote.{ServerNote}
 use Rattle.log_handler.specs.declared.note.ServerNote.TheVariants as note
-use Rattle.log_handler.specs.Connection as connection
 use Rattle.log_handler.specs.Laws.{IsPieceOf, took_of, took_in, records_of_note, records_in}
 use Rattle.log_handler.proofs.Accounts.{accounts}
 use Rattle.log_handler.proofs.Courses.{course-goes}
 use Rattle.event_script.specs.Script.{ScriptStep, ScriptGroup, steps_of, opened as connections_of}
-use Rattle.event_script.specs.Stories.{bytes_of, has_failed}
+use Rattle.event_script.specs.Stories.{bytes_of}
 use Rattle.script_turns.specs.Laws.{pauses_had, steps_on}
-use Rattle.script_runs.specs.Connections.{AreLeft, Leaves, TalksThrough, HadMemory, entry_lacks, accepts, accepted}
+use Rattle.script_runs.specs.Connections.{AreLeft, Leaves, TalksThrough, HadMemory, entry_lacks, accepted}
 use Rattle.script_runs.specs.Runs.{is_refusal, is_fault}
 use Rattle.script_runs.specs.Steps.{EachStep}
 use Rattle.script_runs.specs.Laws.{RunsOver}
@@ -50,12 +48,12 @@ use Rattle.script_runs.proofs.Whole as whole
 use Rattle.script_runs.proofs.Winding as winding
 use Rattle.script_complete.proofs.Taking.{all_accepted}
 use Rattle.run_summary.specs.declared.summary.Summary.{Summary}
-use Rattle.run_summary.specs.Summaries.{of_note, in_notes, acceptances, connections_in, records_in as records_noted, bytes_in, lines_of_note, lines_in, told, Summarizes}
+use Rattle.run_summary.specs.Summaries.{of_note, in_notes, acceptances, connections_in, records_in as records_noted, bytes_in, lines_of_note, lines_in, Summarizes}
 use Rattle.run_summary.proofs.Counting.{lines_are}
 use Rattle.run_summary.proofs.Feeds.{record_lines_feeds, closing_line_feeds}
 use Rattle.script_generator.specs.Records.{letter_count}
 use Rattle.script_generator.specs.Scripts.{last_round, generated}
-use Rattle.script_generator.specs.Laws.{rounds, connection_bytes, connection_records, all_bytes, bytes_of_records, BringsRecords, HasSteps}
+use Rattle.script_generator.specs.Laws.{rounds, connection_records, all_bytes, bytes_of_records, BringsRecords}
 use Rattle.script_generator.proofs.Whole.{last_round_is}
 use Rattle.script_generator.proofs.Connections.{has_steps, brings_records, bytes_are}
 use Rattle.generated_runs.specs.Runs.{SumsUp}
@@ -275,8 +273,8 @@ module _ {H E : Type 0} (means : Handling H E ServerNote) (t : Terms) (n seed : 
           let stay = had_stays t.most run (suc c) legal_run alive in (
             course-goes c None _ talks.2.now (had all (suc c)) refl talks.2.course (no_close (had all (suc c)) (ap (list_all (λ item. stays item.answer)) had_is ∙ stay)),
             ap pauses_had had_is
-            ∙ glue.conn_quiet t groups t.most run legal_run (whole.free means t None groups journal r) r.ends.at_over.idle.no_pick r.ends.at_over.idle.none_open (whole.numbered means t None groups journal r)
-            (whole.follows_run means t None groups journal r) r.ends.at_over.behind r.ends.at_over.over c (suc c) opened_for alive,
+                ∙ glue.conn_quiet t groups t.most run legal_run (whole.free means t None groups journal r) r.ends.at_over.idle.no_pick r.ends.at_over.idle.none_open (whole.numbered means t None groups journal r)
+                (whole.follows_run means t None groups journal r) r.ends.at_over.behind r.ends.at_over.over c (suc c) opened_for alive,
           )
 
       had_memory : talks.2.word ≢ end.NoMemory

@@ -1,4 +1,5 @@
 //! Laws of runs over generated scripts. Each function has an empty body: what it says is its contract.
+ghost use Rattle.generated_runs.specs.Reading.{GeneratedTextsAreRead};
 ghost use Rattle.generated_runs.specs.Runs.{SummariesAreKnown, FullRunsAreKnown, GroupedTextsAreKnown};
 
 use log_handler::ServerNote;
@@ -14,4 +15,9 @@ pub fn summaries_are_known<H: EventHandler<Note = ServerNote>>()
 /// The grouped text of a generated script has the lines of all its records, and each connection's closing word is `end`.
 pub fn grouped_texts_are_known()
     ensures { GroupedTextsAreKnown }
+{}
+
+/// A reader of scripts reads a generated text as the generated script, and refuses it for want of memory alone.
+pub fn generated_texts_are_read()
+    ensures { GeneratedTextsAreRead }
 {}

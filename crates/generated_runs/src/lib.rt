@@ -1,4 +1,4 @@
-//! Runs of the logging server over generated scripts: what the summaries of their journals are.
+//! Generated scripts and runs of the logging server over them: what a reader makes of their texts, and what the summaries of the runs are.
 #![tactic(auto)]
 
 pub mod laws;

@@ -8,7 +8,7 @@ use Rattle.std.proofs.lemmas.List.FromFn.{map-range_with_len_more}
 use Rattle.event_script.specs.Script.{ScriptStep}
 use Rattle.event_script.specs.Grammar.{Line, Stepping}
 use Rattle.script_generator.specs.Scripts.{last_round, openings, shuttings, round_lines}
-use Rattle.script_generator.specs.Texts.{line_text, text_of, script_text}
+use Rattle.script_generator.specs.Texts.{line_text, text_of, generated_text}
 
 -- the text of one line more
 one_line : (line : Line) → text_of (line ∷ []) ≡ line_text line
@@ -67,8 +67,8 @@ map_grows f n start before after sofar more =
 
 -- the whole text
 pub whole_text : (n seed rounds : ℕ) (v0 v1 v2 v3 text : List ℕ) → rounds ≡ last_round + 1 → v0 ≡ [] → v1 ≡ v0 ++ text_of (map Stepping (openings n))
-    → v2 ≡ v1 ++ text_of (flat_map (round_lines n seed) (range_with_len 0 rounds)) → v3 ≡ v2 ++ text_of (map Stepping (shuttings n)) → text ≡ v3 → text ≡ script_text n seed
-unfolding script_text
+    → v2 ≡ v1 ++ text_of (flat_map (round_lines n seed) (range_with_len 0 rounds)) → v3 ≡ v2 ++ text_of (map Stepping (shuttings n)) → text ≡ v3 → text ≡ generated_text n seed
+unfolding generated_text
 whole_text n seed rounds v0 v1 v2 v3 text er e0 e1 e2 e3 et =
     let rounds_are : v2 ≡ v1 ++ text_of (flat_map (round_lines n seed) (range_with_len 0 (last_round + 1))) =
     e2 ∙ ap (λ (k : ℕ). v1 ++ text_of (flat_map (round_lines n seed) (range_with_len 0 k))) er in

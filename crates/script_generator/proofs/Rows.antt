@@ -9,7 +9,7 @@ use Rattle.script_generator.specs.Records.{bytes_of}
 use Rattle.event_script.specs.Script.{Opens}
 use Rattle.event_script.specs.Grammar.{Line, At, Stepping}
 use Rattle.script_generator.specs.Scripts.{last_round, openings, shuttings, front_piece, rest_piece, round_lines, lines}
-use Rattle.script_generator.specs.Texts.{line_text, text_of, script_text}
+use Rattle.script_generator.specs.Texts.{line_text, text_of, generated_text}
 use Rattle.script_generator.specs.Laws.{bytes_of_records}
 use Rattle.script_generator.specs.Rows.{first_lines, HasRows}
 use Rattle.script_generator.proofs.Spelling.{bytes_are}
@@ -53,8 +53,8 @@ first_are =
     ap (λ (ds : List ℕ). (codes "open " ++ ds ++ codes "\n") ++ (codes "at " ++ ds ++ codes "\n") ++ (codes "data " ++ ds ++ codes " " ++ encode_lower (take 5 (bytes_of 0 0 0)) ++ codes "\n")) zero_digit
     ∙ ap (λ (hex : List ℕ). (codes "open 0" ++ codes "\n") ++ (codes "at 0" ++ codes "\n") ++ (codes "data 0 " ++ hex ++ codes "\n")) (ap encode_lower front ∙ digits)
 
-begins : script_text 1 0 ≡ first_lines ++ text_of behind
-unfolding script_text
+begins : generated_text 1 0 ≡ first_lines ++ text_of behind
+unfolding generated_text
 begins = ap text_of lines_are ∙ three (Stepping (Opens 0)) (At 0) (Stepping (front_piece 0 0 0)) behind ∙ ap (λ (text : List ℕ). text ++ text_of behind) first_are
 
 pub has_rows : HasRows

@@ -9,7 +9,7 @@ use Rattle.std.proofs.lemmas.List.{map-append}
 use Rattle.event_script.specs.Script.{ScriptStep, Opens, Shuts, ScriptGroup}
 use Rattle.event_script.specs.Grammar.{Line, Stepping, raw_lines, Spells, IsScriptText}
 use Rattle.script_generator.specs.Scripts.{last_round, openings, shuttings, front_piece, rest_piece, pieces, round_lines, lines, round_group, generated}
-use Rattle.script_generator.specs.Texts.{line_words, text_of, script_text}
+use Rattle.script_generator.specs.Texts.{line_words, text_of, generated_text}
 use Rattle.script_generator.proofs.Bytes.{front_bytes, rest_bytes}
 use Rattle.script_generator.proofs.Written.{IsWritten, at_written, open_written, shut_written, data_written, raw_are}
 use Rattle.script_generator.proofs.Standing.{onto, onto_both, onto_all, last_group, Stands, stands_at_first, same_standing}
@@ -93,8 +93,8 @@ last_is_some : (n seed : ℕ) → 1 ≤ n → last_group last_round (pieces n se
 last_is_some n seed least =
     group_of last_round (pieces n seed last_round ++ shuttings n) (omega (arith, some_pieces n seed last_round least, length-append (pieces n seed last_round) (shuttings n)))
 
-pub is_script_text : (n seed : ℕ) → 1 ≤ n → n ≤ 1000 → IsScriptText (script_text n seed) (generated n seed)
-unfolding script_text generated
+pub is_script_text : (n seed : ℕ) → 1 ≤ n → n ≤ 1000 → IsScriptText (generated_text n seed) (generated n seed)
+unfolding generated_text generated
 is_script_text n seed least many =
     let s = all_stand n seed least many in
     let raws : reverse (raw_lines (text_of (lines n seed))) ≡ map line_words (onto (lines n seed) []) =

@@ -9,7 +9,7 @@ use Rattle.event_script.specs.Stories.{bytes_of as bytes_brought, was_shut, has_
 use Rattle.event_script.specs.Grammar.{IsScriptText}
 use Rattle.script_generator.specs.Records.{letter_count, record_of, bytes_of}
 use Rattle.script_generator.specs.Scripts.{last_round, generated}
-use Rattle.script_generator.specs.Texts.{script_text}
+use Rattle.script_generator.specs.Texts.{generated_text}
 
 -- the rounds
 abbrev pub rounds : List ℕ
@@ -17,7 +17,7 @@ rounds = range_with_len 0 (last_round + 1)
 
 -- The text is that of the generated script.
 abbrev pub TextsAreScripts : Type 0
-TextsAreScripts = (n seed : ℕ) → 1 ≤ n → n ≤ 1000 → IsScriptText (script_text n seed) (generated n seed)
+TextsAreScripts = (n seed : ℕ) → 1 ≤ n → n ≤ 1000 → IsScriptText (generated_text n seed) (generated n seed)
 
 -- The script has 252 steps for each connection, in an order in which steps may stand, and as many connections as were asked for.
 pub record HasSteps (n : ℕ) (steps : List ScriptStep) : Type 0 where

@@ -1,6 +1,6 @@
 -- Worked rows of the generator.
 use Rattle.std.specs.Prelude.{◌≡◌, ℕ, List, ◌++◌, codes}
-use Rattle.script_generator.specs.Texts.{script_text}
+use Rattle.script_generator.specs.Texts.{generated_text}
 use Rattle.event_script.specs.Script.{steps_of}
 use Rattle.script_generator.specs.Scripts.{generated}
 use Rattle.script_generator.specs.Laws.{all_bytes}
@@ -10,7 +10,7 @@ abbrev pub first_lines : List ℕ
 first_lines = codes "open 0\nat 0\ndata 0 0000000000\n"
 
 pub record HasRows : Type 0 where
-  pub begins : (rest : List ℕ) × (script_text 1 0 ≡ first_lines ++ rest)
+  pub begins : (rest : List ℕ) × (generated_text 1 0 ≡ first_lines ++ rest)
   pub bytes_of_one : all_bytes (steps_of (generated 1 0)) ≡ 6035
   pub bytes_of_forty : all_bytes (steps_of (generated 40 7)) ≡ 242500
   pub bytes_of_eighty : all_bytes (steps_of (generated 80 7)) ≡ 485000

@@ -25,5 +25,5 @@ abbrev pub text_of : List Line → List ℕ
 text_of ls = flat_map line_text ls
 
 -- the text of the generated script
-unfoldable pub script_text : ℕ → ℕ → List ℕ
-script_text n seed = text_of (lines n seed)
+unfoldable pub generated_text : ℕ → ℕ → List ℕ
+generated_text n seed = text_of (lines n seed)

@@ -4,7 +4,7 @@ ghost use Rattle.std.specs.List.{range_with_len};
 ghost use Rattle.event_script.specs.Script.{Opens, Shuts};
 ghost use Rattle.event_script.specs.Grammar.{At, Stepping};
 ghost use Rattle.script_generator.specs.Scripts.{last_round, openings, shuttings, front_piece, rest_piece, round_lines};
-ghost use Rattle.script_generator.specs.Texts.{text_of, script_text};
+ghost use Rattle.script_generator.specs.Texts.{text_of, generated_text};
 
 use crate::lines::{push_at, push_data, push_open, push_shut};
 use crate::record::spell_record;
@@ -158,12 +158,12 @@ fn push_rounds(
 /// The text of the script that the generator makes of `n` connections and a seed: 125 rounds, in each of which each connection
 /// brings one record in two pieces, and 252 steps for each connection. Digits are in lower case, and a line feed ends each line.
 ///
-/// Memory is taken as the text grows, and not for each line.
+/// `NoMemory` comes where there is no memory for the text. It is taken as the text grows, and not for each line.
 pub fn gen_script(alloc: Global, n: u64, seed: u64) -> Result<Bytes, NoMemory>
     requires some { 1 ≤ n }
     requires within { n ≤ 1000 }
     requires seed { seed ≤ 4294967295 }
-    ensures { IfOk result (λ text. text ≡ script_text n seed) }
+    ensures { IfOk result (λ text. text ≡ generated_text n seed) }
 {
     let mut spelled = Vec::with_capacity(alloc, LONGEST_RECORD)?;
     let mut out = Vec::new(alloc);

@@ -9,7 +9,7 @@ use ev_types::NoMemory;
 use hex::encode_to_slice;
 use itoa::Buffer;
 
-/// How many bytes a line has at most.
+/// How many bytes a line brings at most.
 const LONGEST_PIECE: usize = 64;
 
 /// Appends a number in decimal digits.

@@ -81,7 +81,7 @@ fn push_letters(out: &mut Vec<u8>, round: u64, conn: u64, count: u64) -> Result<
     Ok(())
 }
 
-/// Makes a vector that of the bytes of the record of a round and a connection. Where it has room for them it takes no memory.
+/// Puts the bytes of the record of a round and a connection into a vector, in place of what it had. After `NoMemory` it is not to be used.
 pub(crate) fn spell_record(
     out: &mut Vec<u8>,
     seed: u64,
