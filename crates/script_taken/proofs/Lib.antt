@@ -1,0 +1,5 @@
+pub mod Places
+pub mod Fronts
+pub mod Offers
+pub mod Notes
+pub mod Words

@@ -1,0 +1,12 @@
+//! A law of whole runs over a script, however they ended. Its function has an empty body: what it says is its contract.
+
+ghost use Rattle.script_taken.specs.Laws.{ConnectionsAreTaken};
+
+use log_handler::ServerNote;
+use reactor_model::EventHandler;
+
+/// Each connection that the journal of a run notes as accepted took a front of the bytes that the script brings it, noted the records of
+/// these, and was closed once, with a word that has its cause.
+pub fn connections_are_taken<H: EventHandler<Note = ServerNote>>()
+    ensures { ConnectionsAreTaken H.means }
+{}
