@@ -33,7 +33,7 @@ use Rattle.script_taken.proofs.Places.{Cuts, same, first, second, cuts, same_res
 
 -- ---- counts
 
-more_accepted : (later : List (Entry ServerNote)) (event : ℕ) (answer : Answer) (k : ℕ) (past : List (Entry ServerNote)) → accepted past + 1 ≤ accepted (later ++ Returned event answer (note.Accepted k) ∷ past)
+pub more_accepted : (later : List (Entry ServerNote)) (event : ℕ) (answer : Answer) (k : ℕ) (past : List (Entry ServerNote)) → accepted past + 1 ≤ accepted (later ++ Returned event answer (note.Accepted k) ∷ past)
 more_accepted [] event answer k past = omega arith
 more_accepted (e ∷ later) event answer k past = one (accepts e) (more_accepted later event answer k past)
   where
@@ -70,7 +70,7 @@ pub record OpenedAt (past : List (Entry ServerNote)) (x : ℕ) (o : Origin Serve
 origin_step : (e : Entry ServerNote) (past : List (Entry ServerNote)) (x : ℕ) → opens x e ≡ false → origin_of (e ∷ past) x ≡ origin_of past x
 origin_step e past x o = rw (o, origin_of) refl
 
-origin_new : (e : Entry ServerNote) (past : List (Entry ServerNote)) (x : ℕ) → opens x e ≡ true → origin_of (e ∷ past) x ≡ offered_here past
+pub origin_new : (e : Entry ServerNote) (past : List (Entry ServerNote)) (x : ℕ) → opens x e ≡ true → origin_of (e ∷ past) x ≡ offered_here past
 origin_new e past x o = rw (o, origin_of) refl
 
 opened_now : (e : Entry ServerNote) (past : List (Entry ServerNote)) (x : ℕ) (o : Origin ServerNote) → opens x e ≡ true → offered_here past ≡ Some o → OpenedAt (e ∷ past) x o
@@ -335,7 +335,7 @@ module _ (most : ℕ) (steps : List ScriptStep) (idle : Option ℕ) (all : List 
     by_close : (handle : Handle) (said : ServerNote) → e ≡ Closed handle said → OpenedFor c handle.0 → ClosingAt c e past
     by_refusal : (live : ℕ) (fault : Bool) (said : ServerNote) → e ≡ Refused live fault said → OfferAt c e past → ClosingAt c e past
 
-  closed_before : (later past : List (Entry ServerNote)) (handle : Handle) (said : ServerNote) → all ≡ later ++ Closed handle said ∷ past → origin_of all handle.0 ≡ origin_of past handle.0
+  pub closed_before : (later past : List (Entry ServerNote)) (handle : Handle) (said : ServerNote) → all ≡ later ++ Closed handle said ∷ past → origin_of all handle.0 ≡ origin_of past handle.0
   closed_before later past handle said is =
       let whole = shifted later (Closed handle said) past is in
       ap (λ (p : List (Entry ServerNote)). origin_of p handle.0) whole
