@@ -1,7 +1,7 @@
 -- The handler of a connection that was accepted, or none where it was refused, with all its turns, and the entry that closes it.
-use Rattle.std.proofs.Common.{ℕ, zero, suc, ◌≡◌, ◌≢◌, ◌∙◌, Bool, true, false, cond, ◌||◌, List, [], ◌∷◌, ◌++◌, reverse, refl, sym, ap, subst, Option, Some, None, append_assoc}
+use Rattle.std.proofs.Common.{ℕ, zero, suc, ◌≡◌, ◌≢◌, ◌<◌, ◌∙◌, arith, Bool, true, false, cond, ◌||◌, List, [], ◌∷◌, ◌++◌, reverse, refl, sym, ap, subst, Option, Some, None, ⊎_elim, append_assoc}
 use Rattle.std.specs.List.{list_any}
-use Rattle.std.proofs.lemmas.Bool.{false≢true, eqb-true, eq-eqb}
+use Rattle.std.proofs.lemmas.Bool.{false≢true, and_parts, cases_Bool, eqb-true, eq-eqb}
 use Rattle.ev_types.specs.declared.upcall.Answer.{Answer}
 use Rattle.ev_types.specs.declared.upcall.Handle.{Handle}
 use Rattle.ev_types.specs.declared.upcall.Mask.{Mask}
@@ -11,9 +11,11 @@ use Rattle.ev_base.specs.Terms.{Terms}
 use Rattle.reactor_journal.specs.Event.{Item, Origin}
 use Rattle.reactor_journal.specs.declared.entry.Entry.{Entry}
 use Rattle.reactor_journal.specs.declared.entry.Entry.TheVariants.{Opened, Returned, Refused, Closed}
-use Rattle.reactor_journal.specs.Past.{past_of, had, origin_of, reason_of, ended_itself, offered_here, ended, opens, was_opened, was_closed, started_at}
-use Rattle.reactor_journal.proofs.Turning.{past_split}
-use Rattle.reactor_journal.specs.Follow.{is_legal}
+use Rattle.reactor_journal.specs.Past.{past_of, had, origin_of, reason_of, ended_itself, offered_here, ended, opens, opened, was_opened, was_closed, started_at}
+use Rattle.reactor_journal.proofs.Alive.{opened_below}
+use Rattle.reactor_journal.proofs.Turning.{past_split, is_legal-front}
+use Rattle.reactor_turns.proofs.Turns.{had_none}
+use Rattle.reactor_journal.specs.Follow.{may_follow, is_legal}
 use Rattle.reactor_model.specs.Handling.{Handling}
 use Rattle.dispatch_turns.specs.ByTurns.{OffersBehind, IsOfferBehind}
 use Rattle.log_lines.specs.declared.end_kind.EndKind.{EndKind}
@@ -32,13 +34,14 @@ use Rattle.script_runs.specs.Steps.{EachStep}
 use Rattle.script_runs.proofs.Handles as handles
 use Rattle.script_runs.proofs.Handles.{IsBegun, had_found, origin_first}
 use Rattle.script_runs.proofs.Settling.{origin_still}
+use Rattle.script_runs.proofs.Standing.{opened_is}
 use Rattle.script_runs.proofs.Turns as turns
 use Rattle.script_taken.specs.Laws.{RunsSomehow}
 use Rattle.script_taken.specs.Taken as taken
 use Rattle.script_taken.specs.Taken.{accepts_connection, is_closing_of, finishes}
 use Rattle.script_taken.proofs.Places.{Found, found, holds_at}
 use Rattle.script_taken.proofs.Offers as offering
-use Rattle.script_taken.proofs.Offers.{Behind, directly, closed_between, origin_new, origin_found, accepted_here}
+use Rattle.script_taken.proofs.Offers.{accept_turn, Behind, directly, closed_between, origin_new, origin_found, accepted_here}
 use Rattle.script_taken.proofs.Notes as noting
 use Rattle.script_taken.proofs.Notes.{had_of}
 use Rattle.script_taken.proofs.Whole as whole
@@ -49,16 +52,6 @@ pub data Because (kept : Option EndKind) (word : EndKind) (items : List (Item Se
   lacking : word ≡ end.NoMemory → kept ≡ Some end.NoMemory → Because kept word items past
   removed : word ≡ end.Stopped → (kept ≡ Some end.NoMemory → ⊥) → ended past ≡ true → Because kept word items past
   refused : word ≡ end.Refused → kept ≡ None → items ≡ [] → Because kept word items past
-
--- by what a connection is that accepted c
-pub record AcceptTurn (c : ℕ) (e : Entry ServerNote) : Type 0 where
-  pub event : ℕ
-  pub answer : Answer
-  pub is : e ≡ Returned event answer (note.Accepted c)
-
-pub accept_turn : (c : ℕ) (e : Entry ServerNote) → accepts_connection c e ≡ true → AcceptTurn c e
-accept_turn c (Returned event answer (note.Accepted k)) h = record { event = event; answer = answer; is = ap (λ (i : ℕ). Returned event answer (note.Accepted i)) (eqb-true k c h) }
-accept_turn c _ h = absurd (false≢true h)
 
 -- what stands directly behind it
 data OfferOf (behind : List (Entry ServerNote)) : Type 0 where
@@ -140,12 +133,20 @@ module _ {H E : Type 0} (means : Handling H E ServerNote) (t : Terms) (idle : Op
     pub ends_it : is_closing_of c entry ≡ true
     pub accepted : list_any (accepts_connection c) past ≡ true
     pub because : Because now.kept word (had_of owner all) past
+    -- the turn that accepted it, before which its handler has had none
+    pub event : ℕ
+    pub answer : Answer
+    pub earlier : List (Entry ServerNote)
+    pub since : List (Entry ServerNote)
+    pub accepted_at : all ≡ since ++ Returned event answer (note.Accepted c) ∷ earlier
+    pub began : moment ≡ started_at earlier event
+    pub none_had : had_of owner (Returned event answer (note.Accepted c) ∷ earlier) ≡ []
 
   -- ---- it was refused
 
   module _ (live : ℕ) (fault : Bool) (said : ServerNote) (s : List (Entry ServerNote)) (o : offering.OfferAt most steps idle all legal begun left closed first c (Refused live fault said) s) where
-    refused_ends : (moment : ℕ) → offered_here s ≡ Some (record { note = note.Accepted c; moment = moment }) → Ends
-    refused_ends moment here = record {
+    refused_ends : (moment : ℕ) → moment ≡ started_at o.past o.event → offered_here s ≡ Some (record { note = note.Accepted c; moment = moment }) → Ends
+    refused_ends moment began here = record {
       owner = None;
       owns = record {
         not_first = λ q. none_some 0 q;
@@ -167,6 +168,13 @@ module _ {H E : Type 0} (means : Handling H E ServerNote) (t : Terms) (idle : Op
       ends_it = ap (finishes c) through.notes ∙ eq-eqb c c refl;
       accepted = accepts_in c o.event o.answer o.past s o.behind;
       because = refused through.closing (ap (λ (p : connection.Progress). p.kept) through.course) refl;
+      event = o.event;
+      answer = o.answer;
+      earlier = o.past;
+      since = (offering.place_of most steps idle all legal begun left closed first c (Refused live fault said) s o).later;
+      accepted_at = (offering.place_of most steps idle all legal begun left closed first c (Refused live fault said) s o).is;
+      began = began;
+      none_had = refl;
     }
       where
         none_some : (x : ℕ) → ◌≡◌ {A = Option ℕ} None (Some x) → ⊥
@@ -232,7 +240,7 @@ module _ {H E : Type 0} (means : Handling H E ServerNote) (t : Terms) (idle : Op
       by (Some _) e = stopped e
 
   module _ (handle : Handle) (mask : Mask) (s : List (Entry ServerNote)) (o : offering.OfferAt most steps idle all legal begun left closed first c (Opened handle mask) s)
-      (moment : ℕ) (here : offered_here s ≡ Some (record { note = note.Accepted c; moment = moment })) where
+      (moment : ℕ) (began : moment ≡ started_at o.past o.event) (here : offered_here s ≡ Some (record { note = note.Accepted c; moment = moment })) where
     abbrev origin : Origin ServerNote
     origin = record { note = note.Accepted c; moment = moment }
 
@@ -294,6 +302,31 @@ module _ {H E : Type 0} (means : Handling H E ServerNote) (t : Terms) (idle : Op
     never_refused : through.now.kept ≢ Some end.Refused
     never_refused e = subst (EndedSo idle (last_turn (had f.before f.handle.0)) through.now) e (accounts c idle moment _ (had f.before f.handle.0) through.now through.course).ended
 
+    -- before it was registered it has had no turn
+    accept : offering.Accepts most steps idle all legal begun left closed first c (Returned o.event o.answer (note.Accepted c)) o.past
+    accept = offering.place_of most steps idle all legal begun left closed first c (Opened handle mask) s o
+
+    legal_here : is_legal most (Opened handle mask ∷ s) ≡ true
+    legal_here = is_legal-front most o.later (Opened handle mask ∷ s) (sym (ap (is_legal most) o.is) ∙ legal)
+
+    not_opened : was_opened s handle.0 ≡ false
+    not_opened = ⊎_elim
+        (λ (y : was_opened s handle.0 ≡ true).
+        let below : handle.0 < opened s = opened_below most s handle.0 (and_parts (may_follow most s (Opened handle mask)) (is_legal most s) legal_here).1 y in
+        let is : handle.0 ≡ opened s = opened_is most s handle mask legal_here in
+        absurd (omega (arith, below, is)))
+        (λ (n : was_opened s handle.0 ≡ false). n) (cases_Bool (was_opened s handle.0))
+
+    not_opened_there : was_opened (Returned o.event o.answer (note.Accepted c) ∷ o.past) handle.0 ≡ false
+    not_opened_there = by o.behind
+      where
+        by : Behind (Returned o.event o.answer (note.Accepted c)) o.past s → was_opened (Returned o.event o.answer (note.Accepted c) ∷ o.past) handle.0 ≡ false
+        by (directly i) = sym (ap (λ (p : List (Entry ServerNote)). was_opened p handle.0) i) ∙ not_opened
+        by (closed_between other word i) = sym (ap (λ (p : List (Entry ServerNote)). was_opened p handle.0) i) ∙ not_opened
+
+    none_had : had (Returned o.event o.answer (note.Accepted c) ∷ o.past) handle.0 ≡ []
+    none_had = had_none most (Returned o.event o.answer (note.Accepted c) ∷ o.past) handle.0 (is_legal-front most accept.later (Returned o.event o.answer (note.Accepted c) ∷ o.past) (sym (ap (is_legal most) accept.is) ∙ legal)) not_opened_there
+
     registered_ends : Ends
     registered_ends = record {
       owner = Some handle.0;
@@ -319,6 +352,13 @@ module _ {H E : Type 0} (means : Handling H E ServerNote) (t : Terms) (idle : Op
       ends_it = ap (finishes c) through.notes ∙ eq-eqb c c refl;
       accepted = accepted_before;
       because = subst (λ (h : List (Item ServerNote)). Because through.now.kept through.word h f.before) had_is because;
+      event = o.event;
+      answer = o.answer;
+      earlier = o.past;
+      since = accept.later;
+      accepted_at = accept.is;
+      began = began;
+      none_had = none_had;
     }
       where
         same : {a b : ℕ} → ◌≡◌ {A = Option ℕ} (Some a) (Some b) → a ≡ b
@@ -357,19 +397,19 @@ module _ {H E : Type 0} (means : Handling H E ServerNote) (t : Terms) (idle : Op
     by_next handle word more b (opened_next opened mask rest m) =
         registered_ends opened mask (Closed handle word ∷ base)
         (record { later = past_of rest; is = at_close handle word (Opened opened mask) rest (b ∙ ap (λ (l : List (Entry ServerNote)). Closed handle word ∷ l) m); event = event; answer = answer; past = past_of before; behind = closed_between handle word refl; no_close = refl })
-        (started_at (past_of before) event) refl
+        (started_at (past_of before) event) refl refl
     by_next handle word more b (refused_next live fault said rest m) =
         refused_ends live fault said (Closed handle word ∷ base)
         (record { later = past_of rest; is = at_close handle word (Refused live fault said) rest (b ∙ ap (λ (l : List (Entry ServerNote)). Closed handle word ∷ l) m); event = event; answer = answer; past = past_of before; behind = closed_between handle word refl; no_close = refl })
-        (started_at (past_of before) event) refl
+        (started_at (past_of before) event) refl refl
 
     by_offer : OfferOf behind → Ends
     by_offer (opened_here handle mask rest b) =
         registered_ends handle mask base (record { later = past_of rest; is = at_base (Opened handle mask) rest b; event = event; answer = answer; past = past_of before; behind = directly refl; no_close = refl })
-        (started_at (past_of before) event) refl
+        (started_at (past_of before) event) refl refl
     by_offer (refused_here live fault said rest b) =
         refused_ends live fault said base (record { later = past_of rest; is = at_base (Refused live fault said) rest b; event = event; answer = answer; past = past_of before; behind = directly refl; no_close = refl })
-        (started_at (past_of before) event) refl
+        (started_at (past_of before) event) refl refl
     by_offer (behind_close handle word more b h) = by_next handle word more b (offer_next more h)
 
     pub turn_ends : Ends

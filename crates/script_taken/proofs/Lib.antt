@@ -3,6 +3,7 @@ pub mod Fronts
 pub mod Offers
 pub mod Notes
 pub mod Words
+pub mod Hearing
 pub mod Whole
 pub mod Closing
 pub mod Taking

@@ -10,7 +10,7 @@ use Rattle.ev_types.specs.declared.upcall.Answer.{Answer}
 use Rattle.reactor_journal.specs.Event.{Item}
 use Rattle.reactor_journal.specs.declared.entry.Entry.{Entry}
 use Rattle.reactor_journal.specs.declared.entry.Entry.TheVariants.{Opened, Scheduled, Cancelled, Polled, Due, Ready, Posted, Stale, Started, Returned, Masked, Suspended, Resumed, Refused, Removed, Closed, Ended}
-use Rattle.reactor_journal.specs.Past.{had, items_made, was_opened, was_closed}
+use Rattle.reactor_journal.specs.Past.{had, items_made, was_opened, was_closed, started_at}
 use Rattle.reactor_journal.specs.Follow.{is_legal}
 use Rattle.cdr_record.specs.declared.record.LogRecord.{LogRecord}
 use Rattle.log_handler.specs.declared.note.ServerNote.{ServerNote}
@@ -170,11 +170,11 @@ abbrev pub had_of : Option ℕ → List (Entry ServerNote) → List (Item Server
 had_of None past = []
 had_of (Some x) past = had past x
 
-abbrev made_of : Option ℕ → List (Entry ServerNote) → Entry ServerNote → List (Item ServerNote)
+abbrev pub made_of : Option ℕ → List (Entry ServerNote) → Entry ServerNote → List (Item ServerNote)
 made_of None past e = []
 made_of (Some x) past e = items_made past x e
 
-had_more : (owner : Option ℕ) (e : Entry ServerNote) (past : List (Entry ServerNote)) → had_of owner (e ∷ past) ≡ had_of owner past ++ made_of owner past e
+pub had_more : (owner : Option ℕ) (e : Entry ServerNote) (past : List (Entry ServerNote)) → had_of owner (e ∷ past) ≡ had_of owner past ++ made_of owner past e
 had_more None e past = refl
 had_more (Some x) e past = refl
 
@@ -199,34 +199,46 @@ module _ (most : ℕ) (steps : List ScriptStep) (idle : Option ℕ) (all : List 
     pub alone : (d : ℕ) (o : was_opened all (suc d) ≡ true) → (turns.connection most steps idle all legal begun left closed d o).number ≡ c → owner ≡ Some (suc d)
 
   module _ (c : ℕ) (owner : Option ℕ) (owns : Owns c owner) where
-    one_turn : (later past : List (Entry ServerNote)) (event : ℕ) (answer : Answer) (said : ServerNote) → all ≡ later ++ Returned event answer said ∷ past
-        → notes_in c (Returned event answer said) ≡ notes_of (made_of owner past (Returned event answer said))
-    one_turn later past event answer said is = by_handle t.x t.turn
+    -- what a turn adds
+    pub data Made (event : ℕ) (answer : Answer) (said : ServerNote) (past : List (Entry ServerNote)) : Type 0 where
+      its_own : (item : Item ServerNote) → made_of owner past (Returned event answer said) ≡ item ∷ [] → item.note ≡ said → item.moment ≡ started_at past event → is_note_of c said ≡ true → Made event answer said past
+      of_another : made_of owner past (Returned event answer said) ≡ [] → is_note_of c said ≡ false → Made event answer said past
+
+    pub made_by : (later past : List (Entry ServerNote)) (event : ℕ) (answer : Answer) (said : ServerNote) → all ≡ later ++ Returned event answer said ∷ past → Made event answer said past
+    made_by later past event answer said is = by_handle t.x t.turn
       where
         t : settling.TurnOf most all legal event answer said past
         t = settling.turn_of most all legal later past event answer said is
 
-        not_made : (y : ℕ) (turn : settling.Turn most all legal event answer said past y) (o : Option ℕ) → o ≢ Some y → notes_of (made_of o past (Returned event answer said)) ≡ []
+        not_made : (y : ℕ) (turn : settling.Turn most all legal event answer said past y) (o : Option ℕ) → o ≢ Some y → made_of o past (Returned event answer said) ≡ []
         not_made y turn None ne = refl
-        not_made y turn (Some x) ne = ap notes_of (turn.others x (λ q. ne (ap Some q)))
+        not_made y turn (Some x) ne = turn.others x (λ q. ne (ap Some q))
 
-        made : (y : ℕ) (turn : settling.Turn most all legal event answer said past y) (o : Option ℕ) → o ≡ Some y → notes_of (made_of o past (Returned event answer said)) ≡ said ∷ []
-        made y turn o same = ap (λ (w : Option ℕ). notes_of (made_of w past (Returned event answer said))) same ∙ ap notes_of turn.made ∙ ap (λ (n : ServerNote). n ∷ []) turn.notes
+        made : (y : ℕ) (turn : settling.Turn most all legal event answer said past y) (o : Option ℕ) → o ≡ Some y → made_of o past (Returned event answer said) ≡ turn.item ∷ []
+        made y turn o same = ap (λ (w : Option ℕ). made_of w past (Returned event answer said)) same ∙ turn.made
 
-        by_handle : (y : ℕ) → settling.Turn most all legal event answer said past y → notes_in c (Returned event answer said) ≡ notes_of (made_of owner past (Returned event answer said))
+        by_handle : (y : ℕ) → settling.Turn most all legal event answer said past y → Made event answer said past
         by_handle zero turn =
             let listens = turns.acceptor most steps idle all legal begun left closed first_opened in
             let heard = turns.listen_in most steps idle all legal begun left closed (had past 0) turn.item turn.more (had all 0) turn.among (course_listens _ listens.now (had all 0) listens.course) in
-            ap (λ (b : Bool). cond b (said ∷ []) []) (of_none c said (sym (ap is_listening turn.notes) ∙ heard)) ∙ sym (not_made 0 turn owner owns.not_first)
+            of_another (not_made 0 turn owner owns.not_first) (of_none c said (sym (ap is_listening turn.notes) ∙ heard))
         by_handle (suc d) turn =
             let o = turns.opened_all most steps idle all legal begun left closed later past (Returned event answer said) (suc d) is turn.opened_now in
             let piece = turns.conn_note most steps idle all legal begun left closed d event answer said later past is turn o in
             let k = (turns.connection most steps idle all legal begun left closed d o).number in
             let mine : is_note_of c said ≡ (k == c) = ap (is_note_of c) (sym turn.notes ∙ piece.2) in
             ⊎_elim
-            (λ (t : (k == c) ≡ true). ap (λ (b : Bool). cond b (said ∷ []) []) (mine ∙ t) ∙ sym (made (suc d) turn owner (owns.alone d o (eqb-true k c t))))
-            (λ (f : (k == c) ≡ false). ap (λ (b : Bool). cond b (said ∷ []) []) (mine ∙ f) ∙ sym (not_made (suc d) turn owner (λ q. false≢true (sym f ∙ eq-eqb k c (owns.its d o q)))))
+            (λ (t : (k == c) ≡ true). its_own turn.item (made (suc d) turn owner (owns.alone d o (eqb-true k c t))) turn.notes turn.began (mine ∙ t))
+            (λ (f : (k == c) ≡ false). of_another (not_made (suc d) turn owner (λ q. false≢true (sym f ∙ eq-eqb k c (owns.its d o q)))) (mine ∙ f))
             (cases_Bool (k == c))
+
+    one_turn : (later past : List (Entry ServerNote)) (event : ℕ) (answer : Answer) (said : ServerNote) → all ≡ later ++ Returned event answer said ∷ past
+        → notes_in c (Returned event answer said) ≡ notes_of (made_of owner past (Returned event answer said))
+    one_turn later past event answer said is = by (made_by later past event answer said is)
+      where
+        by : Made event answer said past → notes_in c (Returned event answer said) ≡ notes_of (made_of owner past (Returned event answer said))
+        by (its_own item made notes began mine) = ap (λ (b : Bool). cond b (said ∷ []) []) mine ∙ ap (λ (n : ServerNote). n ∷ []) (sym notes) ∙ sym (ap notes_of made)
+        by (of_another made other) = ap (λ (b : Bool). cond b (said ∷ []) []) other ∙ sym (ap notes_of made)
 
     one_entry : (later past : List (Entry ServerNote)) (e : Entry ServerNote) → all ≡ later ++ e ∷ past → notes_in c e ≡ notes_of (made_of owner past e)
     one_entry later past e is = by_owner owner e (λ event answer said same. subst (λ (f : Entry ServerNote). notes_in c f ≡ notes_of (made_of owner past f)) (sym same) (one_turn later past event answer said (is ∙ ap (λ (f : Entry ServerNote). later ++ f ∷ past) same)))

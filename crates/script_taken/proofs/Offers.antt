@@ -28,8 +28,8 @@ use Rattle.script_runs.proofs.Notes.{course_listens, is_listening, number_next}
 use Rattle.script_runs.proofs.Settling as settling
 use Rattle.script_runs.proofs.Settling.{each_front, origin_still, opened_before_closed}
 use Rattle.script_runs.proofs.Turns as turns
-use Rattle.script_taken.specs.Taken.{finishes, is_closing_of}
-use Rattle.script_taken.proofs.Places.{Cuts, same, first, second, cuts, same_rest, holds_at}
+use Rattle.script_taken.specs.Taken.{accepts_connection, finishes, is_closing_of}
+use Rattle.script_taken.proofs.Places.{Cuts, same_cut, first_cut, second_cut, cuts, same_rest, holds_at}
 
 -- ---- counts
 
@@ -49,6 +49,16 @@ closed_in (e ∷ k) past handle said = or_right _ (was_closed (k ++ Closed handl
     or_right : (b c : Bool) → c ≡ true → (b || c) ≡ true
     or_right true c h = refl
     or_right false c h = h
+
+-- the turn that accepted connection c
+pub record AcceptTurn (c : ℕ) (e : Entry ServerNote) : Type 0 where
+  pub event : ℕ
+  pub answer : Answer
+  pub is : e ≡ Returned event answer (note.Accepted c)
+
+pub accept_turn : (c : ℕ) (e : Entry ServerNote) → accepts_connection c e ≡ true → AcceptTurn c e
+accept_turn c (Returned event answer (note.Accepted k)) h = record { event = event; answer = answer; is = ap (λ (i : ℕ). Returned event answer (note.Accepted i)) (eqb-true k c h) }
+accept_turn c _ h = absurd (false≢true h)
 
 -- ---- offers
 
@@ -209,7 +219,7 @@ module _ (most : ℕ) (steps : List ScriptStep) (idle : Option ℕ) (all : List 
   accept_number : (c : ℕ) (a : Entry ServerNote) (past : List (Entry ServerNote)) → Accepts c a past → c ≡ accepted past
   accept_number c a past h = numbered h.later past h.event h.answer c (h.is ∙ ap (λ (e : Entry ServerNote). h.later ++ e ∷ past) h.it)
 
-  not_again : (c : ℕ) (a b : Entry ServerNote) (p q between : List (Entry ServerNote)) → Accepts c a p → Accepts c b q → p ≡ between ++ b ∷ q → ⊥
+  pub not_again : (c : ℕ) (a b : Entry ServerNote) (p q between : List (Entry ServerNote)) → Accepts c a p → Accepts c b q → p ≡ between ++ b ∷ q → ⊥
   not_again c a b p q between h k is =
       let one = accept_number c a p h in
       let two = accept_number c b q k in
@@ -221,9 +231,9 @@ module _ (most : ℕ) (steps : List ScriptStep) (idle : Option ℕ) (all : List 
   one_place c a b p q h k = by (cuts h.later a p k.later b q (sym h.is ∙ k.is))
     where
       by : Cuts h.later a p k.later b q → a ∷ p ≡ b ∷ q
-      by (same i j l) = ap (λ (e : Entry ServerNote). e ∷ p) j ∙ ap (λ (t : List (Entry ServerNote)). b ∷ t) l
-      by (first m i l) = absurd (not_again c a b p q m h k l)
-      by (second m i l) = absurd (not_again c b a q p m k h l)
+      by (same_cut i j l) = ap (λ (e : Entry ServerNote). e ∷ p) j ∙ ap (λ (t : List (Entry ServerNote)). b ∷ t) l
+      by (first_cut m i l) = absurd (not_again c a b p q m h k l)
+      by (second_cut m i l) = absurd (not_again c b a q p m k h l)
 
   -- ---- the one place where it is offered
 
@@ -236,7 +246,7 @@ module _ (most : ℕ) (steps : List ScriptStep) (idle : Option ℕ) (all : List 
     pub behind : Behind (Returned event answer (note.Accepted c)) past s
     pub no_close : is_closed offer ≡ false
 
-  place_of : (c : ℕ) (offer : Entry ServerNote) (s : List (Entry ServerNote)) → (o : OfferAt c offer s) → Accepts c (Returned o.event o.answer (note.Accepted c)) o.past
+  pub place_of : (c : ℕ) (offer : Entry ServerNote) (s : List (Entry ServerNote)) → (o : OfferAt c offer s) → Accepts c (Returned o.event o.answer (note.Accepted c)) o.past
   place_of c offer s o = by o.behind
     where
       a : Entry ServerNote
@@ -389,9 +399,9 @@ module _ (most : ℕ) (steps : List ScriptStep) (idle : Option ℕ) (all : List 
   closed_place h k l m p q handle other said word is at same_ = by (cuts h (Closed handle said) p k (Closed other word) q (sym is ∙ at))
     where
       by : Cuts h (Closed handle said) p k (Closed other word) q → p ≡ q
-      by (same i j z) = z
-      by (first between i z) = absurd (closed_once h p between handle other said word q is z (sym same_))
-      by (second between i z) = absurd (closed_once k q between other handle word said p at z same_)
+      by (same_cut i j z) = z
+      by (first_cut between i z) = absurd (closed_once h p between handle other said word q is z (sym same_))
+      by (second_cut between i z) = absurd (closed_once k q between other handle word said p at z same_)
 
   pub one_closing : (c : ℕ) (h k p q : List (Entry ServerNote)) (e f : Entry ServerNote) → all ≡ h ++ e ∷ p → all ≡ k ++ f ∷ q → ClosingAt c e p → ClosingAt c f q → p ≡ q
   one_closing c h k p q e f is at (by_close handle said i o) (by_close other word j w) =

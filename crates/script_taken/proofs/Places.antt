@@ -7,26 +7,26 @@ use Rattle.std.proofs.Common.{⊎_elim}
 
 -- Two cuts of a list, each at an entry: at the same place, or one before the other.
 pub data Cuts {A : Type 0} (xs : List A) (a : A) (ys : List A) (us : List A) (b : A) (vs : List A) : Type 0 where
-  same : xs ≡ us → a ≡ b → ys ≡ vs → Cuts xs a ys us b vs
-  first : (between : List A) → us ≡ xs ++ a ∷ between → ys ≡ between ++ b ∷ vs → Cuts xs a ys us b vs
-  second : (between : List A) → xs ≡ us ++ b ∷ between → vs ≡ between ++ a ∷ ys → Cuts xs a ys us b vs
+  same_cut : xs ≡ us → a ≡ b → ys ≡ vs → Cuts xs a ys us b vs
+  first_cut : (between : List A) → us ≡ xs ++ a ∷ between → ys ≡ between ++ b ∷ vs → Cuts xs a ys us b vs
+  second_cut : (between : List A) → xs ≡ us ++ b ∷ between → vs ≡ between ++ a ∷ ys → Cuts xs a ys us b vs
 
 pub cuts : {A : Type 0} (xs : List A) (a : A) (ys us : List A) (b : A) (vs : List A) → xs ++ a ∷ ys ≡ us ++ b ∷ vs → Cuts xs a ys us b vs
-cuts [] a ys [] b vs h = same refl (head h) (tail h)
+cuts [] a ys [] b vs h = same_cut refl (head h) (tail h)
   where
     head : a ∷ ys ≡ b ∷ vs → a ≡ b
     head q = cc
 
     tail : a ∷ ys ≡ b ∷ vs → ys ≡ vs
     tail q = cc
-cuts {A} [] a ys (u ∷ us) b vs h = first us (ap (λ (z : A). z ∷ us) (sym (head h))) (tail h)
+cuts {A} [] a ys (u ∷ us) b vs h = first_cut us (ap (λ (z : A). z ∷ us) (sym (head h))) (tail h)
   where
     head : a ∷ ys ≡ u ∷ (us ++ b ∷ vs) → a ≡ u
     head q = cc
 
     tail : a ∷ ys ≡ u ∷ (us ++ b ∷ vs) → ys ≡ us ++ b ∷ vs
     tail q = cc
-cuts {A} (x ∷ xs) a ys [] b vs h = second xs (ap (λ (z : A). z ∷ xs) (head h)) (sym (tail h))
+cuts {A} (x ∷ xs) a ys [] b vs h = second_cut xs (ap (λ (z : A). z ∷ xs) (head h)) (sym (tail h))
   where
     head : x ∷ (xs ++ a ∷ ys) ≡ b ∷ vs → x ≡ b
     head q = cc
@@ -42,9 +42,9 @@ cuts {A} (x ∷ xs) a ys (u ∷ us) b vs h = more (head h) (cuts xs a ys us b vs
     tail q = cc
 
     more : x ≡ u → Cuts xs a ys us b vs → Cuts (x ∷ xs) a ys (u ∷ us) b vs
-    more e (same i j k) = same (ap (λ (z : A). z ∷ xs) e ∙ ap (λ (l : List A). u ∷ l) i) j k
-    more e (first m i k) = first m (ap (λ (l : List A). u ∷ l) i ∙ ap (λ (z : A). z ∷ (xs ++ a ∷ m)) (sym e)) k
-    more e (second m i k) = second m (ap (λ (z : A). z ∷ xs) e ∙ ap (λ (l : List A). u ∷ l) i) k
+    more e (same_cut i j k) = same_cut (ap (λ (z : A). z ∷ xs) e ∙ ap (λ (l : List A). u ∷ l) i) j k
+    more e (first_cut m i k) = first_cut m (ap (λ (l : List A). u ∷ l) i ∙ ap (λ (z : A). z ∷ (xs ++ a ∷ m)) (sym e)) k
+    more e (second_cut m i k) = second_cut m (ap (λ (z : A). z ∷ xs) e ∙ ap (λ (l : List A). u ∷ l) i) k
 
 -- no list is a part of itself behind an entry
 pub not_behind_itself : {A : Type 0} (m : List A) (a : A) (s : List A) → s ≡ m ++ a ∷ s → ⊥
@@ -62,9 +62,9 @@ pub same_rest : {A : Type 0} (xs : List A) (a : A) (us : List A) (b : A) (s : Li
 same_rest xs a us b s h = by (cuts xs a s us b s h)
   where
     by : Cuts xs a s us b s → SameCut xs us a b
-    by (same i j k) = record { before = i; here = j }
-    by (first m i k) = absurd (not_behind_itself m b s k)
-    by (second m i k) = absurd (not_behind_itself m a s k)
+    by (same_cut i j k) = record { before = i; here = j }
+    by (first_cut m i k) = absurd (not_behind_itself m b s k)
+    by (second_cut m i k) = absurd (not_behind_itself m a s k)
 
 -- ---- where a test holds
 

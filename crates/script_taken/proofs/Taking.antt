@@ -1,8 +1,8 @@
 -- What a connection took and noted in a run over a script, and what stands behind the word with which it was closed.
-use Rattle.std.proofs.Common.{ℕ, zero, suc, ◌≡◌, ◌≢◌, ◌∙◌, ◌+◌, ◌≤◌, ◌<◌, ◌||◌, Bool, true, false, cond, List, [], ◌∷◌, ◌++◌, length, take, map, reverse, refl, sym, ap, subst, arith, Option, Some, None, ⊎_elim, append-nil, append_assoc, length-append}
+use Rattle.std.proofs.Common.{ℕ, zero, suc, ◌≡◌, ◌≢◌, ◌∙◌, ◌+◌, ◌-◌, ◌≤◌, ◌<◌, ◌||◌, Bool, true, false, cond, List, [], ◌∷◌, ◌++◌, length, take, map, reverse, refl, sym, ap, subst, arith, Option, Some, None, ⊎_elim, append-nil, append_assoc, length-append}
 use Rattle.std.specs.Prelude.{flat_map}
 use Rattle.std.specs.List.{sum_by, list_any}
-use Rattle.std.proofs.lemmas.Bool.{false≢true, both_ways, cases_Bool, eq-eqb}
+use Rattle.std.proofs.lemmas.Bool.{false≢true, both_ways, cases_Bool, eq-eqb, leb-true}
 use Rattle.std.proofs.lemmas.Grind.{flat_map-append}
 use Rattle.std.proofs.lemmas.List.{length-reverse, reverse-append, reverse-reverse}
 use Rattle.ev_base.specs.Terms.{Terms}
@@ -11,7 +11,7 @@ use Rattle.cdr_record.specs.Decoding.{Stop, Clean, Partial, Malformed, decode}
 use Rattle.reactor_journal.specs.Event.{Item}
 use Rattle.reactor_journal.specs.declared.entry.Entry.{Entry}
 use Rattle.reactor_journal.specs.declared.entry.Entry.TheVariants.{Returned}
-use Rattle.reactor_journal.specs.Past.{past_of, had, ended}
+use Rattle.reactor_journal.specs.Past.{past_of, had, ended, started_at, was_opened, was_closed}
 use Rattle.reactor_journal.proofs.Turning.{past_split}
 use Rattle.reactor_model.specs.Handling.{Handling}
 use Rattle.acceptor.proofs.Accounts as acceptor_accounts
@@ -28,20 +28,26 @@ use Rattle.event_script.specs.Stories.{story, bytes_of, was_shut, has_failed}
 use Rattle.script_turns.specs.Laws.{untold, pauses_had}
 use Rattle.script_turns.proofs.Reading.{HasRead}
 use Rattle.ev_base.specs.Story.{Ending, Failing}
-use Rattle.script_runs.specs.Connections.{accepted}
+use Rattle.reactor_journal.specs.Follow.{is_legal}
+use Rattle.script_runs.specs.Connections.{AreLeft, accepted, is_note_of}
+use Rattle.script_runs.specs.Steps.{EachStep}
+use Rattle.script_runs.proofs.Handles.{IsBegun}
 use Rattle.script_runs.proofs.Scripts.{orderly}
 use Rattle.script_runs.proofs.Taking.{length_numbers, few_taken}
 use Rattle.script_runs.proofs.Turns as turns
 use Rattle.script_runs.proofs.Winding as winding
 use Rattle.script_taken.specs.Laws.{RunsSomehow}
-use Rattle.script_taken.specs.Taken.{accepts_connection, is_turn_of, is_closing_of, took, noted, taken, records_taken, stop_taken, IsSound, GoesOn, ReachedEnd, CameToFail, LostItsLast, WasQuiet, IsClosedAs, IsClosedOnce, IsTaken}
-use Rattle.script_taken.proofs.Places.{Found, found, holds_at, turned_round}
+use Rattle.script_taken.specs.Taken.{accepts_connection, is_turn_of, is_closing_of, last_heard, took, noted, taken, records_taken, stop_taken, IsSound, GoesOn, ReachedEnd, CameToFail, LostItsLast, WasQuiet, IsClosedAs, IsClosedOnce, IsTaken}
+use Rattle.script_taken.proofs.Places.{Found, found, Cuts, same_cut, first_cut, second_cut, cuts, same_rest, turned_round}
 use Rattle.script_taken.proofs.Fronts.{course_takes, has_read, took_all, shut_there, failed_there}
+use Rattle.script_taken.proofs.Hearing.{heard, course_heard, hears}
+use Rattle.script_taken.proofs.Notes as noting
 use Rattle.script_taken.proofs.Notes.{notes, back, notes_back, took_notes, noted_notes, notes_of, took_items, noted_items, some_notes, LastNote, last_note, had_of, more_had, notes_had}
 use Rattle.script_taken.proofs.Offers as offering
-use Rattle.script_taken.proofs.Words.{Lasts, LostTurn, earlier, lasts, lost_turn, quiet_turn}
+use Rattle.script_taken.proofs.Offers.{accept_turn}
+use Rattle.script_taken.proofs.Words.{Lasts, LostTurn, QuietTurn, earlier, lasts, lost_turn, quiet_turn}
 use Rattle.script_taken.proofs.Closing as ending
-use Rattle.script_taken.proofs.Closing.{Because, by_itself, lacking, removed, refused, accept_turn}
+use Rattle.script_taken.proofs.Closing.{Because, by_itself, lacking, removed, refused}
 use Rattle.script_taken.proofs.Whole as whole
 
 -- ---- small facts
@@ -66,9 +72,9 @@ length_notes : (items : List (Item ServerNote)) → length (notes_of items) ≡ 
 length_notes [] = refl
 length_notes (item ∷ items) = ap suc (length_notes items)
 
-has_idle : (idle : Option ℕ) (last moment : ℕ) → is_idle idle last moment ≡ true → (time : ℕ) × (idle ≡ Some time)
+has_idle : (idle : Option ℕ) (last moment : ℕ) → is_idle idle last moment ≡ true → (time : ℕ) × (idle ≡ Some time) × (time ≤ moment - last)
 has_idle None last moment h = absurd (false≢true h)
-has_idle (Some time) last moment h = (time, refl)
+has_idle (Some time) last moment h = (time, refl, leb-true time (moment - last) h)
 
 -- with such a word it ended itself
 ended_itself : (kept : Option EndKind) (word : EndKind) (items : List (Item ServerNote)) (past : List (Entry ServerNote)) → Because kept word items past → word ≢ end.Stopped → word ≢ end.Refused → kept ≡ Some word
@@ -98,6 +104,21 @@ module _ {H E : Type 0} (means : Handling H E ServerNote) (t : Terms) (idle : Op
   abbrev all : List (Entry ServerNote)
   all = past_of journal
 
+  abbrev legal : is_legal t.most all ≡ true
+  legal = whole.legal means t idle groups journal r
+
+  abbrev begun : EachStep IsBegun all
+  begun = whole.begun means t idle groups journal r
+
+  abbrev left : AreLeft steps idle all
+  left = whole.left means t idle groups journal r
+
+  abbrev closed : (x : ℕ) → was_opened all x ≡ true → was_closed all x ≡ true
+  closed = whole.closed means t idle groups journal r
+
+  abbrev first_opened : was_opened all 0 ≡ true
+  first_opened = whole.first_opened means t idle groups journal r
+
   abbrev had_by : List (Entry ServerNote) → List (Item ServerNote)
   had_by entries = had_of e.owner (past_of entries)
 
@@ -111,7 +132,7 @@ module _ {H E : Type 0} (means : Handling H E ServerNote) (t : Terms) (idle : Op
     cut = ap past_of is ∙ reverse-append front rest
 
     notes_are : notes c front ≡ notes_of (had_by front)
-    notes_are = notes_back c front ∙ notes_had t.most steps idle all (whole.legal means t idle groups journal r) (whole.begun means t idle groups journal r) (whole.left means t idle groups journal r) (whole.closed means t idle groups journal r) (whole.first_opened means t idle groups journal r) c e.owner e.owns (past_of rest) (past_of front) cut
+    notes_are = notes_back c front ∙ notes_had t.most steps idle all legal begun left closed first_opened c e.owner e.owns (past_of rest) (past_of front) cut
 
     noted_is : noted c front ≡ flat_map records_in (had_by front)
     noted_is = noted_notes c front ∙ ap (flat_map records_of_note) notes_are ∙ noted_items (had_by front)
@@ -207,13 +228,122 @@ module _ {H E : Type 0} (means : Handling H E ServerNote) (t : Terms) (idle : Op
       let stops = subst (HasRead (story c steps) (0 + pauses_had (had_of e.owner all)) e.now) kept read in
       record { all = all_bytes (took_all Failing c steps e.now (orderly c steps r.script) refl stops.0); failed = failed_there c steps e.now stops.0; sound = λ at q. stops.1 at (sym stop ∙ q) }
 
+  -- the last turn in the journal
+  last_split : (l : Lasts c idle start e.now (had_of e.owner all)) (said : ServerNote) → l.item.note ≡ said → LastNote c all (notes_of l.before) said
+  last_split l said is = last_note c all (notes_of l.before) said (sym (notes_back c journal) ∙ notes_are journal [] nothing_behind ∙ ap notes_of l.is ∙ append_notes l.before ∙ ap (λ (s : ServerNote). notes_of l.before ++ s ∷ []) is)
+    where
+      append_notes : (items : List (Item ServerNote)) → notes_of (items ++ l.item ∷ []) ≡ notes_of items ++ l.item.note ∷ []
+      append_notes [] = refl
+      append_notes (item ∷ items) = ap (λ (s : List ServerNote). item.note ∷ s) (append_notes items)
+
+  -- it stands behind the acceptance, and at its moment
+  record Timed (l : Lasts c idle start e.now (had_of e.owner all)) (event : ℕ) (before : List (Entry ServerNote)) : Type 0 where
+    moment : l.item.moment ≡ started_at before event
+    heard_last_ : l.then.last ≡ last_heard c before
+
+  module _ (l : Lasts c idle start e.now (had_of e.owner all)) (said : ServerNote) (n : LastNote c all (notes_of l.before) said) where
+    abbrev entry : Entry ServerNote
+    entry = Returned n.event n.answer said
+
+    before_is : notes_of (had_of e.owner n.before) ≡ notes_of l.before
+    before_is = sym (noting.notes_had t.most steps idle all legal begun left closed first_opened c e.owner e.owns (n.later ++ entry ∷ []) n.before (n.is ∙ sym (append_assoc n.later (entry ∷ []) n.before))) ∙ n.rest
+
+    -- the entry's turn is the last
+    record SameTurn (item : Item ServerNote) : Type 0 where
+      before : had_of e.owner n.before ≡ l.before
+      it : item ≡ l.item
+
+    same_turn : (item : Item ServerNote) → noting.made_of e.owner n.before entry ≡ item ∷ [] → SameTurn item
+    same_turn item made = by m.more refl
+      where
+        m : noting.MoreHad e.owner n.later (entry ∷ n.before)
+        m = more_had e.owner n.later (entry ∷ n.before)
+
+        items : l.before ++ l.item ∷ [] ≡ (had_of e.owner n.before ++ item ∷ []) ++ m.more
+        items = sym l.is ∙ ap (had_of e.owner) n.is ∙ m.is ∙ ap (λ (h : List (Item ServerNote)). h ++ m.more) (noting.had_more e.owner entry n.before ∙ ap (λ (h : List (Item ServerNote)). had_of e.owner n.before ++ h) made)
+
+        by : (more : List (Item ServerNote)) → m.more ≡ more → SameTurn item
+        by [] is =
+            let cut = same_rest (had_of e.owner n.before) item l.before l.item [] (sym (append-nil (had_of e.owner n.before ++ item ∷ [])) ∙ sym (ap (λ (h : List (Item ServerNote)). (had_of e.owner n.before ++ item ∷ []) ++ h) is) ∙ sym items) in
+            record { before = cut.before; it = cut.here }
+        by (other ∷ more) is =
+            let long : length (l.before ++ l.item ∷ []) ≡ length ((had_of e.owner n.before ++ item ∷ []) ++ m.more) = ap length items in
+            let one : length (l.before ++ l.item ∷ []) ≡ length l.before + 1 = length-append l.before (l.item ∷ []) in
+            let two : length ((had_of e.owner n.before ++ item ∷ []) ++ m.more) ≡ length (had_of e.owner n.before ++ item ∷ []) + length m.more = length-append (had_of e.owner n.before ++ item ∷ []) m.more in
+            let three : length (had_of e.owner n.before ++ item ∷ []) ≡ length (had_of e.owner n.before) + 1 = length-append (had_of e.owner n.before) (item ∷ []) in
+            let same : length (had_of e.owner n.before) ≡ length l.before = sym (length_notes (had_of e.owner n.before)) ∙ ap length before_is ∙ length_notes l.before in
+            let some : length m.more ≡ suc (length more) = ap length is in
+            absurd (omega (arith, long, one, two, three, same, some))
+
+    -- the acceptance stands before it
+    record Since : Type 0 where
+      between : List (Entry ServerNote)
+      is : n.before ≡ between ++ Returned e.event e.answer (note.Accepted c) ∷ e.earlier
+
+    since : (item : Item ServerNote) → noting.made_of e.owner n.before entry ≡ item ∷ [] → Since
+    since item made = by (cuts n.later entry n.before e.since (Returned e.event e.answer (note.Accepted c)) e.earlier (sym n.is ∙ e.accepted_at))
+      where
+        by : Cuts n.later entry n.before e.since (Returned e.event e.answer (note.Accepted c)) e.earlier → Since
+        by (same_cut i j k) = absurd (false≢true (ap (is_note_of c) (sym (notes_same j)) ∙ n.mine))
+          where
+            notes_same : ◌≡◌ {A = Entry ServerNote} entry (Returned e.event e.answer (note.Accepted c)) → said ≡ note.Accepted c
+            notes_same q = cc
+        by (first_cut m i k) = record { between = m; is = k }
+        by (second_cut m i k) =
+            let up = more_had e.owner (Returned e.event e.answer (note.Accepted c) ∷ m) (entry ∷ n.before) in
+            let none : [] ≡ (had_of e.owner n.before ++ item ∷ []) ++ up.more =
+            sym e.none_had ∙ ap (λ (p : List (Entry ServerNote)). had_of e.owner (Returned e.event e.answer (note.Accepted c) ∷ p)) k ∙ up.is
+            ∙ ap (λ (h : List (Item ServerNote)). h ++ up.more) (noting.had_more e.owner entry n.before ∙ ap (λ (h : List (Item ServerNote)). had_of e.owner n.before ++ h) made) in
+            let long : 0 ≡ length ((had_of e.owner n.before ++ item ∷ []) ++ up.more) = ap length none in
+            let two : length ((had_of e.owner n.before ++ item ∷ []) ++ up.more) ≡ length (had_of e.owner n.before ++ item ∷ []) + length up.more = length-append (had_of e.owner n.before ++ item ∷ []) up.more in
+            let three : length (had_of e.owner n.before ++ item ∷ []) ≡ length (had_of e.owner n.before) + 1 = length-append (had_of e.owner n.before) (item ∷ []) in
+            absurd (omega (arith, long, two, three))
+
+    timed : Timed l n.event n.before
+    timed = by (noting.made_by t.most steps idle all legal begun left closed first_opened c e.owner e.owns n.later n.before n.event n.answer said n.is)
+      where
+        by : noting.Made t.most steps idle all legal begun left closed first_opened c e.owner e.owns n.event n.answer said n.before → Timed l n.event n.before
+        by (noting.of_another made other) = absurd (both_ways (is_note_of c said) other n.mine)
+        by (noting.its_own item made notes began mine) =
+            let s = same_turn item made in
+            let a = since item made in
+            let heard_ = hears t.most steps idle all legal begun left closed first_opened c e.owner e.owns e.event e.answer e.earlier e.none_had (n.later ++ entry ∷ []) a.between
+            (n.is ∙ sym (append_assoc n.later (entry ∷ []) n.before) ∙ ap (λ (p : List (Entry ServerNote)). (n.later ++ entry ∷ []) ++ p) a.is) in
+            record {
+              moment = sym (ap (λ (i : Item ServerNote). i.moment) s.it) ∙ began;
+              heard_last_ = course_heard c idle start l.then l.before l.course ∙ ap (λ (m : ℕ). heard m l.before) e.began ∙ ap (heard (started_at e.earlier e.event)) (sym s.before ∙ ap (had_of e.owner) a.is)
+                  ∙ sym heard_ ∙ ap (last_heard c) (sym a.is);
+            }
+
   was_quiet : e.now.kept ≡ Some end.Idle → WasQuiet c steps idle journal
-  was_quiet kept =
-      let l = lasts c idle start e.now (had_of e.owner all) end.Idle refl e.course kept in
-      let q = quiet_turn c idle l.then e.now l.item kept l.turn in
-      let limit = has_idle idle l.then.last l.item.moment q.quiet in
-      let sound = subst (EndedSo idle (last_turn l.before) l.then) l.turn.goes_on (accounts c idle e.moment _ l.before l.then l.course).ended in
-      record { time = limit.0; limit = limit.1; sound = λ at s. sound at (sym (stop ∙ ap (λ (bytes : List ℕ). (decode bytes).stop) q.taken) ∙ s) }
+  was_quiet kept = record {
+    time = limit.0;
+    limit = limit.1;
+    before = reverse n.before;
+    event = n.event;
+    answer = n.answer;
+    after = reverse n.later;
+    is = turned_round journal n.later (Returned n.event n.answer (note.Piece c 0 [])) n.before n.is;
+    last = winding.any_reverse (is_turn_of c) n.later n.none;
+    quiet = subst (λ (p : List (Entry ServerNote)). limit.0 ≤ started_at p n.event - last_heard c p) (sym (reverse-reverse n.before))
+        (subst (λ (m : ℕ). limit.0 ≤ m - last_heard c n.before) at.moment (subst (λ (m : ℕ). limit.0 ≤ l.item.moment - m) at.heard_last_ limit.2));
+    sound = λ bad s. subst (EndedSo idle (last_turn l.before) l.then) l.turn.goes_on (accounts c idle e.moment _ l.before l.then l.course).ended bad (sym (stop ∙ ap (λ (bytes : List ℕ). (decode bytes).stop) q.taken) ∙ s);
+  }
+    where
+      l : Lasts c idle start e.now (had_of e.owner all)
+      l = lasts c idle start e.now (had_of e.owner all) end.Idle refl e.course kept
+
+      q : QuietTurn c idle l.then e.now l.item
+      q = quiet_turn c idle l.then e.now l.item kept l.turn
+
+      limit : (time : ℕ) × (idle ≡ Some time) × (time ≤ l.item.moment - l.then.last)
+      limit = has_idle idle l.then.last l.item.moment q.quiet
+
+      n : LastNote c all (notes_of l.before) (note.Piece c 0 [])
+      n = last_split l (note.Piece c 0 []) q.notes
+
+      at : Timed l n.event n.before
+      at = timed l (note.Piece c 0 []) n
 
   lost_last : e.now.kept ≡ Some end.NoMemory → LostItsLast c steps journal
   lost_last kept = record {
@@ -235,15 +365,8 @@ module _ {H E : Type 0} (means : Handling H E ServerNote) (t : Terms) (idle : Op
       lost : LostTurn c l.item
       lost = lost_turn c idle l.then e.now l.item kept l.turn
 
-      notes_split : back c all ≡ notes_of l.before ++ note.Piece c lost.bytes [] ∷ []
-      notes_split = sym (notes_back c journal) ∙ notes_are journal [] nothing_behind ∙ ap notes_of l.is ∙ append_notes l.before ∙ ap (λ (s : ServerNote). notes_of l.before ++ s ∷ []) lost.notes
-        where
-          append_notes : (items : List (Item ServerNote)) → notes_of (items ++ l.item ∷ []) ≡ notes_of items ++ l.item.note ∷ []
-          append_notes [] = refl
-          append_notes (item ∷ items) = ap (λ (s : List ServerNote). item.note ∷ s) (append_notes items)
-
       n : LastNote c all (notes_of l.before) (note.Piece c lost.bytes [])
-      n = last_note c all (notes_of l.before) (note.Piece c lost.bytes []) notes_split
+      n = last_split l (note.Piece c lost.bytes []) lost.notes
 
       split : journal ≡ reverse n.before ++ Returned n.event n.answer (note.Piece c lost.bytes []) ∷ reverse n.later
       split = turned_round journal n.later (Returned n.event n.answer (note.Piece c lost.bytes [])) n.before n.is
@@ -253,8 +376,8 @@ module _ {H E : Type 0} (means : Handling H E ServerNote) (t : Terms) (idle : Op
 
       same_noted : noted c journal ≡ noted c (reverse n.before)
       same_noted =
-          noted_notes c journal ∙ ap (flat_map records_of_note) (notes_back c journal ∙ notes_split) ∙ flat_map-append records_of_note (notes_of l.before) (note.Piece c lost.bytes [] ∷ [])
-          ∙ append-nil (flat_map records_of_note (notes_of l.before)) ∙ ap (flat_map records_of_note) (sym (notes_back c (reverse n.before) ∙ ap (back c) (reverse-reverse n.before) ∙ n.rest)) ∙ sym (noted_notes c (reverse n.before))
+          noted_is journal [] nothing_behind ∙ ap (flat_map records_in) l.is ∙ flat_map-append records_in l.before (l.item ∷ [])
+          ∙ ap (λ (s : ServerNote). flat_map records_in l.before ++ (records_of_note s ++ [])) lost.notes ∙ append-nil (flat_map records_in l.before) ∙ sym (noted_items l.before) ∙ ap (flat_map records_of_note) (sym (notes_back c (reverse n.before) ∙ ap (back c) (reverse-reverse n.before) ∙ n.rest)) ∙ sym (noted_notes c (reverse n.before))
 
   by_itself_with : (word : EndKind) → Because e.now.kept word (had_of e.owner all) e.past → word ≢ end.Stopped → word ≢ end.Refused → e.now.kept ≡ Some word
   by_itself_with word because s f = ended_itself e.now.kept word (had_of e.owner all) e.past because s f
@@ -336,10 +459,10 @@ module _ {H E : Type 0} (means : Handling H E ServerNote) (t : Terms) (idle : Op
       let f = found (accepts_connection c) all (any_round (accepts_connection c) journal h) in
       let turn = accept_turn c f.it f.holds in
       let is : all ≡ f.before ++ Returned turn.event turn.answer (note.Accepted c) ∷ f.after = f.is ∙ ap (λ (x : Entry ServerNote). f.before ++ x ∷ f.after) turn.is in
-      let number : c ≡ accepted f.after = offering.numbered t.most steps idle all (whole.legal means t idle groups journal r) (whole.begun means t idle groups journal r) (whole.left means t idle groups journal r) (whole.closed means t idle groups journal r) (whole.first_opened means t idle groups journal r) f.before f.after turn.event turn.answer c is in
+      let number : c ≡ accepted f.after = offering.numbered t.most steps idle all legal begun left closed first_opened f.before f.after turn.event turn.answer c is in
       let more : accepted f.after + 1 ≤ accepted (f.before ++ Returned turn.event turn.answer (note.Accepted c) ∷ f.after) = offering.more_accepted f.before turn.event turn.answer c f.after in
       let same : accepted (f.before ++ Returned turn.event turn.answer (note.Accepted c) ∷ f.after) ≡ accepted all = ap accepted (sym is) in
-      let listens = turns.acceptor t.most steps idle all (whole.legal means t idle groups journal r) (whole.begun means t idle groups journal r) (whole.left means t idle groups journal r) (whole.closed means t idle groups journal r) (whole.first_opened means t idle groups journal r) in
+      let listens = turns.acceptor t.most steps idle all legal begun left closed first_opened in
       let account = acceptor_accounts.accounts _ (had all 0) listens.now listens.course in
       let total : accepted all ≡ listens.now.taken = turns.counts t.most steps idle all (whole.legal means t idle groups journal r) (whole.begun means t idle groups journal r) (whole.left means t idle groups journal r) (whole.closed means t idle groups journal r) [] all refl ∙ ap length account.notes ∙ length_numbers 0 listens.now.taken in
       let most_taken : listens.now.taken ≤ opened steps = few_taken steps listens.now.offering listens.now.taken account.offers in
@@ -354,10 +477,10 @@ module _ {H E : Type 0} (means : Handling H E ServerNote) (t : Terms) (idle : Op
   same_place : (before : List (Entry ServerNote)) (it : Entry ServerNote) (after : List (Entry ServerNote)) → journal ≡ before ++ it ∷ after → is_closing_of c it ≡ true → past_of before ≡ e.past
   same_place before it after is ends =
       let at : all ≡ past_of after ++ it ∷ past_of before = ap past_of is ∙ past_split before after it in
-      offering.one_closing t.most steps idle all (whole.legal means t idle groups journal r) (whole.begun means t idle groups journal r) (whole.left means t idle groups journal r) (whole.closed means t idle groups journal r) (whole.first_opened means t idle groups journal r)
+      offering.one_closing t.most steps idle all legal begun left closed first_opened
       c (past_of after) e.later (past_of before) e.past it e.entry at e.is
-      (offering.closing_at t.most steps idle all (whole.legal means t idle groups journal r) (whole.begun means t idle groups journal r) (whole.left means t idle groups journal r) (whole.closed means t idle groups journal r) (whole.first_opened means t idle groups journal r) c (past_of after) it (past_of before) at ends)
-      (offering.closing_at t.most steps idle all (whole.legal means t idle groups journal r) (whole.begun means t idle groups journal r) (whole.left means t idle groups journal r) (whole.closed means t idle groups journal r) (whole.first_opened means t idle groups journal r) c e.later e.entry e.past e.is e.ends_it)
+      (offering.closing_at t.most steps idle all legal begun left closed first_opened c (past_of after) it (past_of before) at ends)
+      (offering.closing_at t.most steps idle all legal begun left closed first_opened c e.later e.entry e.past e.is e.ends_it)
 
   none_else : (l : List (Entry ServerNote)) → (list_any (is_closing_of c) l ≡ true → ⊥) → list_any (is_closing_of c) l ≡ false
   none_else l h = ⊎_elim (λ (y : list_any (is_closing_of c) l ≡ true). absurd (h y)) (λ (n : list_any (is_closing_of c) l ≡ false). n) (cases_Bool (list_any (is_closing_of c) l))

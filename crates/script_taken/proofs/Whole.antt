@@ -29,7 +29,7 @@ use Rattle.script_runs.proofs.Settling.{opened_later}
 use Rattle.script_runs.proofs.Winding as winding
 use Rattle.script_runs.proofs.Winding.{Begins}
 use Rattle.script_taken.specs.Laws.{RunsSomehow}
-use Rattle.script_taken.proofs.Places.{Cuts, same, first, second, cuts, holds_at}
+use Rattle.script_taken.proofs.Places.{Cuts, same_cut, first_cut, second_cut, cuts, holds_at}
 
 -- ---- what stands behind a turn, with more behind it
 
@@ -172,6 +172,6 @@ module _ {H E : Type 0} (means : Handling H E ServerNote) (t : Terms) (idle : Op
       ended_not q = cc
 
       by : Cuts before (Returned event answer said) behind r.run Ended r.closing → OffersBehind behind
-      by (same i j k) = absurd (ended_not j)
-      by (first m i k) = subst OffersBehind (sym k) (offers_more m (Ended ∷ r.closing) (r.turned before (Returned event answer said) m i (not_at_start before event answer said behind is) installs))
-      by (second m i k) = r.offers m event answer said behind k installs
+      by (same_cut i j k) = absurd (ended_not j)
+      by (first_cut m i k) = subst OffersBehind (sym k) (offers_more m (Ended ∷ r.closing) (r.turned before (Returned event answer said) m i (not_at_start before event answer said behind is) installs))
+      by (second_cut m i k) = r.offers m event answer said behind k installs

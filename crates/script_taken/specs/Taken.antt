@@ -1,6 +1,6 @@
 -- What a connection of a run over a script took and noted, and how it was closed (C++NPv2 chapter 4, `Logging_Event_Handler`; scripts and
 -- closing words are this project's own).
-use Rattle.std.specs.Prelude.{◌≡◌, ◌≢◌, ◌≤◌, ◌<◌, ◌==◌, ℕ, Bool, true, false, if◌then◌else◌, List, [], ◌∷◌, ◌++◌, length, take, flat_map, Option, Some}
+use Rattle.std.specs.Prelude.{◌≡◌, ◌≢◌, ◌≤◌, ◌<◌, ◌-◌, ◌==◌, ◌&&◌, ℕ, nat_lt, Bool, true, false, if◌then◌else◌, List, [], ◌∷◌, ◌++◌, length, take, flat_map, Option, Some}
 use Rattle.std.specs.List.{sum_by, list_any}
 use Rattle.ev_types.specs.declared.upcall.Answer.{Answer}
 use Rattle.cdr_record.specs.declared.record.LogRecord.{LogRecord}
@@ -9,7 +9,7 @@ use Rattle.log_lines.specs.declared.end_kind.EndKind.{EndKind}
 use Rattle.log_lines.specs.declared.end_kind.EndKind.TheVariants as end
 use Rattle.reactor_journal.specs.declared.entry.Entry.{Entry}
 use Rattle.reactor_journal.specs.declared.entry.Entry.TheVariants.{Returned, Refused, Closed}
-use Rattle.reactor_journal.specs.Past.{past_of, ended}
+use Rattle.reactor_journal.specs.Past.{past_of, ended, started_at}
 use Rattle.log_handler.specs.declared.note.ServerNote.{ServerNote}
 use Rattle.log_handler.specs.declared.note.ServerNote.TheVariants as note
 use Rattle.log_handler.specs.Connection.{piece_room}
@@ -77,6 +77,18 @@ pub record GoesOn (c : ℕ) (steps : List ScriptStep) (entries : List (Entry Ser
 
 -- ---- how it was closed
 
+-- The moment at which connection c was last heard in a past: that of its last turn that took bytes, and at first that of the turn that
+-- accepted it. The moment of a turn is that at which it was started.
+abbrev pub heard_after : ℕ → ServerNote → ℕ → ℕ → ℕ
+heard_after c (note.Accepted conn) moment before = if conn == c then moment else before
+heard_after c (note.Piece conn took records) moment before = if conn == c && nat_lt 0 took then moment else before
+heard_after c _ moment before = before
+
+abbrev pub last_heard : ℕ → List (Entry ServerNote) → ℕ
+last_heard c [] = 0
+last_heard c (Returned event answer said ∷ past) = heard_after c said (started_at past event) (last_heard c past)
+last_heard c (_ ∷ past) = last_heard c past
+
 -- it read to the end of its input: it took all its bytes, the script shuts it, and reading them stops so
 pub record ReachedEnd (c : ℕ) (steps : List ScriptStep) (journal : List (Entry ServerNote)) (stop : Stop) : Type 0 where
   pub all : took c journal ≡ length (bytes_of c steps)
@@ -102,10 +114,17 @@ pub record LostItsLast (c : ℕ) (steps : List ScriptStep) (journal : List (Entr
   pub within : bytes ≤ piece_room
   pub records : noted c journal ≡ records_taken c steps before
 
--- it may be closed for being quiet, and no bad record is among the bytes taken
+-- it had an idle time, and its last turn, which took nothing, came so long after it was last heard; no bad record is among the bytes taken
 pub record WasQuiet (c : ℕ) (steps : List ScriptStep) (idle : Option ℕ) (journal : List (Entry ServerNote)) : Type 0 where
   pub time : ℕ
   pub limit : idle ≡ Some time
+  pub before : List (Entry ServerNote)
+  pub event : ℕ
+  pub answer : Answer
+  pub after : List (Entry ServerNote)
+  pub is : journal ≡ before ++ Returned event answer (note.Piece c 0 []) ∷ after
+  pub last : list_any (is_turn_of c) after ≡ false
+  pub quiet : time ≤ started_at (past_of before) event - last_heard c (past_of before)
   pub sound : IsSound c steps journal
 
 -- What stands behind the word with which it was closed; these entries stand before its closing.
