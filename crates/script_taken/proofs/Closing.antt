@@ -36,7 +36,6 @@ use Rattle.script_runs.proofs.Handles.{IsBegun, had_found, origin_first}
 use Rattle.script_runs.proofs.Settling.{origin_still}
 use Rattle.script_runs.proofs.Standing.{opened_is}
 use Rattle.script_runs.proofs.Turns as turns
-use Rattle.script_taken.specs.Laws.{RunsSomehow}
 use Rattle.script_taken.specs.Taken as taken
 use Rattle.script_taken.specs.Taken.{accepts_connection, is_closing_of, finishes}
 use Rattle.script_taken.proofs.Places.{Found, found, holds_at}
@@ -45,6 +44,7 @@ use Rattle.script_taken.proofs.Offers.{accept_turn, Behind, directly, closed_bet
 use Rattle.script_taken.proofs.Notes as noting
 use Rattle.script_taken.proofs.Notes.{had_of}
 use Rattle.script_taken.proofs.Whole as whole
+use Rattle.script_taken.proofs.Whole.{BegunRun}
 
 -- why it was closed with this word: by its own end; removed behind the end of the run; or refused
 pub data Because (kept : Option EndKind) (word : EndKind) (items : List (Item ServerNote)) (past : List (Entry ServerNote)) : Type 0 where
@@ -92,7 +92,7 @@ more_accepts c (d ∷ later) e s h = or_right (accepts_connection c d) (list_any
     or_right true c k = refl
     or_right false c k = k
 
-module _ {H E : Type 0} (means : Handling H E ServerNote) (t : Terms) (idle : Option ℕ) (groups : List ScriptGroup) (journal : List (Entry ServerNote)) (r : RunsSomehow means t idle groups journal) (c : ℕ) where
+module _ {H E : Type 0} (means : Handling H E ServerNote) (t : Terms) (idle : Option ℕ) (groups : List ScriptGroup) (journal : List (Entry ServerNote)) (r : BegunRun means t idle groups journal) (c : ℕ) where
   abbrev steps : List ScriptStep
   steps = steps_of groups
 

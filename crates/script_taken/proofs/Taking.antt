@@ -36,7 +36,6 @@ use Rattle.script_runs.proofs.Scripts.{orderly}
 use Rattle.script_runs.proofs.Taking.{length_numbers, few_taken}
 use Rattle.script_runs.proofs.Turns as turns
 use Rattle.script_runs.proofs.Winding as winding
-use Rattle.script_taken.specs.Laws.{RunsSomehow}
 use Rattle.script_taken.specs.Taken.{accepts_connection, is_turn_of, is_closing_of, last_heard, took, noted, taken, records_taken, stop_taken, IsSound, GoesOn, ReachedEnd, CameToFail, LostItsLast, WasQuiet, IsClosedAs, IsClosedOnce, IsTaken}
 use Rattle.script_taken.proofs.Places.{Found, found, Cuts, same_cut, first_cut, second_cut, cuts, same_rest, turned_round}
 use Rattle.script_taken.proofs.Fronts.{course_takes, has_read, took_all, shut_there, failed_there}
@@ -49,6 +48,7 @@ use Rattle.script_taken.proofs.Words.{Lasts, LostTurn, QuietTurn, earlier, lasts
 use Rattle.script_taken.proofs.Closing as ending
 use Rattle.script_taken.proofs.Closing.{Because, by_itself, lacking, removed, refused}
 use Rattle.script_taken.proofs.Whole as whole
+use Rattle.script_taken.proofs.Whole.{BegunRun}
 
 -- ---- small facts
 
@@ -96,7 +96,7 @@ had_memory kept word items past (refused e k i) ne = λ q. none (sym k ∙ q)
     none : ◌≡◌ {A = Option EndKind} None (Some end.NoMemory) → ⊥
     none z = cc
 
-module _ {H E : Type 0} (means : Handling H E ServerNote) (t : Terms) (idle : Option ℕ) (groups : List ScriptGroup) (journal : List (Entry ServerNote)) (r : RunsSomehow means t idle groups journal) (c : ℕ)
+module _ {H E : Type 0} (means : Handling H E ServerNote) (t : Terms) (idle : Option ℕ) (groups : List ScriptGroup) (journal : List (Entry ServerNote)) (r : BegunRun means t idle groups journal) (c : ℕ)
     (e : ending.Ends means t idle groups journal r c) where
   abbrev steps : List ScriptStep
   steps = steps_of groups

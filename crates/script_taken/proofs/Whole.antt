@@ -7,7 +7,7 @@ use Rattle.ev_types.specs.declared.upcall.Handle.{Handle}
 use Rattle.ev_base.specs.Terms.{Terms}
 use Rattle.reactor_journal.specs.declared.entry.Entry.{Entry}
 use Rattle.reactor_journal.specs.declared.entry.Entry.TheVariants.{Opened, Scheduled, Cancelled, Polled, Due, Ready, Posted, Stale, Started, Returned, Masked, Suspended, Resumed, Refused, Removed, Closed, Ended}
-use Rattle.reactor_journal.specs.Past.{past_of, reason_of, ended, is_ended, opened, was_opened, was_closed, was_removed, all_below}
+use Rattle.reactor_journal.specs.Past.{past_of, reason_of, ended, is_ended, is_open, opened, was_opened, was_closed, was_removed, all_below}
 use Rattle.reactor_journal.specs.Follow.{may_follow, is_legal}
 use Rattle.reactor_journal.proofs.Alive.{opened_below, dead_was_removed}
 use Rattle.reactor_journal.proofs.Basics.{may_fits}
@@ -15,21 +15,25 @@ use Rattle.reactor_journal.proofs.Closing.{closing}
 use Rattle.reactor_journal.proofs.Picking.{all_below-at}
 use Rattle.reactor_journal.proofs.Turning.{past_split, is_legal-front}
 use Rattle.reactor_model.specs.Handling.{Handling}
-use Rattle.dispatch_turns.specs.ByTurns.{OffersBehind, IsOfferBehind}
+use Rattle.dispatch_turns.specs.ByTurns.{DispatchedByTurns, OffersBehind, IsOfferBehind}
 use Rattle.acceptor.specs.Servers.{ServerMay, read_alone, is_accepted as says_accepted}
 use Rattle.ev_types.specs.declared.upcall.Why.TheVariants.{Own, Removed as ByRemoval}
 use Rattle.log_handler.specs.declared.note.ServerNote.{ServerNote}
-use Rattle.event_script.specs.Script.{ScriptStep, ScriptGroup, steps_of}
+use Rattle.log_handler.specs.declared.note.ServerNote.TheVariants as note
+use Rattle.event_script.specs.Script.{ScriptStep, ScriptGroup, steps_of, are_steps}
 use Rattle.script_runs.specs.Connections.{AreLeft}
-use Rattle.script_runs.specs.Runs.{first_handle}
+use Rattle.script_runs.specs.Laws.{ActsAsServer}
+use Rattle.script_runs.specs.Runs.{IsWhole, first_handle}
 use Rattle.script_runs.specs.Steps.{EachStep}
 use Rattle.script_runs.proofs.ByTurns.{TurnsBefore, read_backwards, turns_so}
 use Rattle.script_runs.proofs.Handles.{IsBegun}
 use Rattle.script_runs.proofs.Settling.{opened_later}
 use Rattle.script_runs.proofs.Winding as winding
 use Rattle.script_runs.proofs.Winding.{Begins}
-use Rattle.script_taken.specs.Laws.{RunsSomehow}
-use Rattle.script_taken.proofs.Places.{Cuts, same_cut, first_cut, second_cut, cuts, holds_at}
+use Rattle.script_taken.specs.Laws.{OffersEach, RunsSomehow}
+use Rattle.script_taken.specs.Taken.{accepts_connection}
+use Rattle.script_taken.proofs.Offers.{accept_turn}
+use Rattle.script_taken.proofs.Places.{found, Cuts, same_cut, first_cut, second_cut, cuts, holds_at}
 
 -- ---- what stands behind a turn, with more behind it
 
@@ -69,7 +73,20 @@ going_removes (e ∷ past) h g =
     let none : winding.removes e ≡ false = ⊎_elim (λ (t : winding.removes e ≡ true). absurd (both_ways (ended past) parts.1 (h.0 t))) (λ (f : winding.removes e ≡ false). f) (cases_Bool (winding.removes e)) in
     ap (λ (b : Bool). b || list_any winding.removes past) none ∙ going_removes past h.1 parts.1
 
-module _ {H E : Type 0} (means : Handling H E ServerNote) (t : Terms) (idle : Option ℕ) (groups : List ScriptGroup) (journal : List (Entry ServerNote)) (r : RunsSomehow means t idle groups journal) where
+-- a run that registered the acceptor
+pub record BegunRun {H E : Type 0} (means : Handling H E ServerNote) (t : Terms) (idle : Option ℕ) (groups : List ScriptGroup) (journal : List (Entry ServerNote)) : Type 0 where
+  pub script : are_steps (reverse (steps_of groups)) ≡ true
+  pub whole : IsWhole t.most journal
+  pub begins : (rest : List (Entry ServerNote)) × (journal ≡ Opened first_handle read_alone ∷ rest)
+  pub run : List (Entry ServerNote)
+  pub closing : List (Entry ServerNote)
+  pub is : journal ≡ run ++ Ended ∷ closing
+  pub acts : ActsAsServer means t
+  pub turned : DispatchedByTurns means t 1 run
+  pub offers : OffersEach means closing
+  pub turns : AreLeft (steps_of groups) idle (past_of journal)
+
+module _ {H E : Type 0} (means : Handling H E ServerNote) (t : Terms) (idle : Option ℕ) (groups : List ScriptGroup) (journal : List (Entry ServerNote)) (r : BegunRun means t idle groups journal) where
   abbrev pub steps : List ScriptStep
   steps = steps_of groups
 
@@ -175,3 +192,55 @@ module _ {H E : Type 0} (means : Handling H E ServerNote) (t : Terms) (idle : Op
       by (same_cut i j k) = absurd (ended_not j)
       by (first_cut m i k) = subst OffersBehind (sym k) (offers_more m (Ended ∷ r.closing) (r.turned before (Returned event answer said) m i (not_at_start before event answer said behind is) installs))
       by (second_cut m i k) = r.offers m event answer said behind k installs
+
+-- ---- a run that registered nobody
+
+-- behind an end that nothing stands before, no turn returns
+module _ (most : ℕ) (wound : List (Entry ServerNote)) (legal : is_legal most (wound ++ Ended ∷ []) ≡ true) where
+  none_returned : (later past : List (Entry ServerNote)) (event : ℕ) (answer : Answer) (said : ServerNote) → wound ≡ later ++ Returned event answer said ∷ past → ⊥
+  none_returned later past event answer said is =
+      let joined : wound ++ Ended ∷ [] ≡ later ++ Returned event answer said ∷ (past ++ Ended ∷ []) = ap (λ (l : List (Entry ServerNote)). l ++ Ended ∷ []) is ∙ append_assoc later (Returned event answer said ∷ past) (Ended ∷ []) in
+      let here : is_legal most (Returned event answer said ∷ (past ++ Ended ∷ [])) ≡ true = is_legal-front most later (Returned event answer said ∷ (past ++ Ended ∷ [])) (sym (ap (is_legal most) joined) ∙ legal) in
+      let parts = and_parts (may_follow most (past ++ Ended ∷ []) (Returned event answer said)) (is_legal most (past ++ Ended ∷ [])) here in
+      let open_ : is_open (past ++ Ended ∷ []) event ≡ true = may_fits most (past ++ Ended ∷ []) (Returned event answer said) parts.0 in
+      both_ways _ ((winding.wound_up most (Ended ∷ []) past parts.1 refl (λ i. refl)).none_open event) open_
+
+module _ {H E : Type 0} (means : Handling H E ServerNote) (t : Terms) (idle : Option ℕ) (groups : List ScriptGroup) (journal : List (Entry ServerNote)) (r : RunsSomehow means t idle groups journal) where
+  pub none_accepted : (c : ℕ) → r.run ≡ [] → list_any (accepts_connection c) journal ≡ true → ⊥
+  none_accepted c none h =
+      let f = found (accepts_connection c) journal h in
+      let turn = accept_turn c f.it f.holds in
+      let is : f.before ++ Returned turn.event turn.answer (note.Accepted c) ∷ f.after ≡ Ended ∷ r.closing =
+      sym (f.is ∙ ap (λ (e : Entry ServerNote). f.before ++ e ∷ f.after) turn.is) ∙ r.is ∙ ap (λ (l : List (Entry ServerNote)). l ++ Ended ∷ r.closing) none in
+      by_front f.before turn.event turn.answer f.after is
+    where
+      wound_is : past_of journal ≡ past_of r.closing ++ Ended ∷ []
+      wound_is = ap past_of r.is ∙ past_split r.run r.closing Ended ∙ ap (λ (l : List (Entry ServerNote)). past_of r.closing ++ Ended ∷ past_of l) none
+
+      legal_all : is_legal t.most (past_of r.closing ++ Ended ∷ []) ≡ true
+      legal_all = sym (ap (is_legal t.most) wound_is) ∙ r.whole.legal
+
+      by_front : (before : List (Entry ServerNote)) (event : ℕ) (answer : Answer) (after : List (Entry ServerNote)) → before ++ Returned event answer (note.Accepted c) ∷ after ≡ Ended ∷ r.closing → ⊥
+      by_front [] event answer after is = other is
+        where
+          other : ◌≡◌ {A = List (Entry ServerNote)} (Returned event answer (note.Accepted c) ∷ after) (Ended ∷ r.closing) → ⊥
+          other q = cc
+      by_front (e ∷ before) event answer after is =
+          none_returned t.most (past_of r.closing) legal_all (past_of after) (past_of before) event answer (note.Accepted c) (ap past_of (sym (tail is)) ∙ past_split before after (Returned event answer (note.Accepted c)))
+        where
+          tail : e ∷ (before ++ Returned event answer (note.Accepted c) ∷ after) ≡ Ended ∷ r.closing → before ++ Returned event answer (note.Accepted c) ∷ after ≡ r.closing
+          tail q = cc
+
+  pub as_begun : (rest : List (Entry ServerNote)) → r.run ≡ Opened first_handle read_alone ∷ rest → BegunRun means t idle groups journal
+  as_begun rest is = record {
+    script = r.script;
+    whole = r.whole;
+    begins = (rest ++ Ended ∷ r.closing, r.is ∙ ap (λ (l : List (Entry ServerNote)). l ++ Ended ∷ r.closing) is);
+    run = r.run;
+    closing = r.closing;
+    is = r.is;
+    acts = r.acts;
+    turned = r.turned;
+    offers = r.offers;
+    turns = r.turns;
+  }

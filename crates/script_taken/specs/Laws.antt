@@ -1,5 +1,5 @@
 -- What holds of the connections of every run over a script, however it ended.
-use Rattle.std.specs.Prelude.{◌≡◌, ℕ, true, List, ◌∷◌, ◌++◌, reverse, Option}
+use Rattle.std.specs.Prelude.{◌≡◌, ◌⊎◌, ℕ, true, List, [], ◌∷◌, ◌++◌, reverse, Option}
 use Rattle.std.specs.List.{list_any}
 use Rattle.ev_types.specs.declared.upcall.Answer.{Answer}
 use Rattle.ev_base.specs.Terms.{Terms}
@@ -22,16 +22,16 @@ OffersEach {N = N} means entries =
     (before : List (Entry N)) (event : ℕ) (answer : Answer) (said : N) (behind : List (Entry N)) → entries ≡ before ++ Returned event answer said ∷ behind
     → means.installs said ≡ true → OffersBehind behind
 
--- What the law takes: a whole journal over a script, however its run ended. It begins with the registration of the acceptor, and goes by
--- turns alone before it ends. The upcalls that were open at its end return behind that, where what they install is refused. Each handler
--- leaves what it does that had its turns over its story.
+-- What the law takes: a whole journal over a script, however its run ended. Its run registered no handler, or begins with the registration
+-- of the acceptor; it goes by turns alone before it ends. The upcalls that were open at its end return behind that, and what they install is
+-- refused there. Each handler leaves what it does that had its turns over its story.
 pub record RunsSomehow {H E : Type 0} (means : Handling H E ServerNote) (t : Terms) (idle : Option ℕ) (groups : List ScriptGroup) (journal : List (Entry ServerNote)) : Type 0 where
   pub script : are_steps (reverse (steps_of groups)) ≡ true
   pub whole : IsWhole t.most journal
-  pub begins : (rest : List (Entry ServerNote)) × (journal ≡ Opened first_handle read_alone ∷ rest)
   pub run : List (Entry ServerNote)
   pub closing : List (Entry ServerNote)
   pub is : journal ≡ run ++ Ended ∷ closing
+  pub begins : (run ≡ []) ⊎ ((rest : List (Entry ServerNote)) × (run ≡ Opened first_handle read_alone ∷ rest))
   pub acts : ActsAsServer means t
   pub turned : DispatchedByTurns means t 1 run
   pub offers : OffersEach means closing
