@@ -1,7 +1,7 @@
 -- The handler of a connection that was accepted, or none where it was refused, with all its turns, and the entry that closes it.
-use Rattle.std.proofs.Common.{ℕ, zero, suc, ◌≡◌, ◌≢◌, ◌<◌, ◌∙◌, arith, Bool, true, false, cond, ◌||◌, List, [], ◌∷◌, ◌++◌, reverse, refl, sym, ap, subst, Option, Some, None, ⊎_elim, append_assoc}
+use Rattle.std.proofs.Common.{ℕ, suc, ◌≡◌, ◌≢◌, ◌<◌, ◌∙◌, arith, Bool, true, false, cond, ◌||◌, List, [], ◌∷◌, ◌++◌, refl, sym, ap, subst, Option, Some, None, ⊎_elim, append_assoc}
 use Rattle.std.specs.List.{list_any}
-use Rattle.std.proofs.lemmas.Bool.{false≢true, and_parts, cases_Bool, eqb-true, eq-eqb}
+use Rattle.std.proofs.lemmas.Bool.{and_parts, cases_Bool, eq-eqb}
 use Rattle.ev_types.specs.declared.upcall.Answer.{Answer}
 use Rattle.ev_types.specs.declared.upcall.Handle.{Handle}
 use Rattle.ev_types.specs.declared.upcall.Mask.{Mask}
@@ -29,7 +29,7 @@ use Rattle.log_handler.proofs.Accounts.{accounts}
 use Rattle.event_script.specs.Script.{ScriptStep, ScriptGroup, steps_of}
 use Rattle.event_script.specs.Stories.{story}
 use Rattle.script_turns.specs.Laws.{untold}
-use Rattle.script_runs.specs.Connections.{AreLeft, IsLeft, Leaves, LeavesOffered, TalksThrough}
+use Rattle.script_runs.specs.Connections.{AreLeft, IsLeft, Leaves, TalksThrough}
 use Rattle.script_runs.specs.Steps.{EachStep}
 use Rattle.script_runs.proofs.Handles as handles
 use Rattle.script_runs.proofs.Handles.{IsBegun, had_found, origin_first}
@@ -38,7 +38,7 @@ use Rattle.script_runs.proofs.Standing.{opened_is}
 use Rattle.script_runs.proofs.Turns as turns
 use Rattle.script_taken.specs.Taken as taken
 use Rattle.script_taken.specs.Taken.{accepts_connection, is_closing_of, finishes}
-use Rattle.script_taken.proofs.Places.{Found, found, holds_at}
+use Rattle.script_taken.proofs.Places.{found, holds_at}
 use Rattle.script_taken.proofs.Offers as offering
 use Rattle.script_taken.proofs.Offers.{accept_turn, Behind, directly, closed_between, origin_new, origin_found, accepted_here}
 use Rattle.script_taken.proofs.Notes as noting
@@ -76,11 +76,11 @@ offer_next (Opened handle mask ∷ rest) h = opened_next handle mask rest refl
 offer_next (Refused live fault said ∷ rest) h = refused_next live fault said rest refl
 offer_next (_ ∷ rest) h = absurd h
 
-accepts_in : (c event : ℕ) (answer : Answer) (p s : List (Entry ServerNote)) → Behind (Returned event answer (note.Accepted c)) p s → list_any (accepts_connection c) s ≡ true
+pub accepts_in : (c event : ℕ) (answer : Answer) (p s : List (Entry ServerNote)) → Behind (Returned event answer (note.Accepted c)) p s → list_any (accepts_connection c) s ≡ true
 accepts_in c event answer p s (directly i) = ap (list_any (accepts_connection c)) i ∙ ap (λ (b : Bool). b || list_any (accepts_connection c) p) (eq-eqb c c refl)
 accepts_in c event answer p s (closed_between handle said i) = ap (list_any (accepts_connection c)) i ∙ ap (λ (b : Bool). b || list_any (accepts_connection c) p) (eq-eqb c c refl)
 
-more_accepts : (c : ℕ) (later : List (Entry ServerNote)) (e : Entry ServerNote) (s : List (Entry ServerNote)) → list_any (accepts_connection c) s ≡ true → list_any (accepts_connection c) (later ++ e ∷ s) ≡ true
+pub more_accepts : (c : ℕ) (later : List (Entry ServerNote)) (e : Entry ServerNote) (s : List (Entry ServerNote)) → list_any (accepts_connection c) s ≡ true → list_any (accepts_connection c) (later ++ e ∷ s) ≡ true
 more_accepts c [] e s h = or_right (accepts_connection c e) (list_any (accepts_connection c) s) h
   where
     or_right : (b c : Bool) → c ≡ true → (b || c) ≡ true

@@ -18,7 +18,7 @@ use Rattle.event_script.specs.Stories.{story, parts_of, bytes_of, bytes_brought,
 use Rattle.script_turns.specs.Laws.{is_orderly, pauses_had, untold}
 use Rattle.script_turns.proofs.Parts.{bytes_in, paired, bytes_in-append}
 use Rattle.script_turns.proofs.Shapes.{Tail, OpenTail, ShutTail, FailTail, tail_parts, shape}
-use Rattle.script_turns.proofs.Reading.{Reads, HasRead, IsSound, StopsAt, TakesFront, front, course_reads}
+use Rattle.script_turns.proofs.Reading.{Reads, HasRead, IsSound, StopsAt, front, course_reads}
 use Rattle.script_taken.proofs.Places.{holds_at}
 
 -- ---- a front of the story's bytes

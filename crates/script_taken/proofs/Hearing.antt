@@ -1,5 +1,5 @@
 -- The moment at which a connection was last heard, by its turns and by the journal.
-use Rattle.std.proofs.Common.{ℕ, ◌≡◌, ◌≢◌, ◌==◌, ◌∙◌, ◌+◌, ◌≤◌, ◌&&◌, Bool, true, false, cond, nat_lt, List, [], ◌∷◌, ◌++◌, length, refl, sym, ap, subst, Option, Some, None, ⊎_elim, inl, inr, append-nil, append_assoc, length-append}
+use Rattle.std.proofs.Common.{ℕ, ◌≡◌, ◌∙◌, ◌≤◌, ◌&&◌, Bool, true, false, cond, nat_lt, List, [], ◌∷◌, ◌++◌, length, refl, sym, ap, subst, Option, Some, None, ⊎_elim, inl, inr, append-nil, append_assoc}
 use Rattle.std.proofs.lemmas.Bool.{false≢true, cases_Bool, eq-eqb, lt-ltb}
 use Rattle.ev_types.specs.declared.upcall.Answer.{Answer}
 use Rattle.ev_types.specs.declared.upcall.Upcall.{Upcall}
@@ -14,7 +14,7 @@ use Rattle.reactor_journal.specs.Past.{was_opened, was_closed, started_at}
 use Rattle.reactor_journal.specs.Follow.{is_legal}
 use Rattle.log_handler.specs.declared.note.ServerNote.{ServerNote}
 use Rattle.log_handler.specs.declared.note.ServerNote.TheVariants as note
-use Rattle.log_handler.specs.Connection.{Progress, Turns, Course, ServesUpcall, ServesRead, AnswersTimeout, TakesPiece, DecodesPiece, LosesPiece, is_idle}
+use Rattle.log_handler.specs.Connection.{Progress, Course, ServesUpcall, ServesRead, AnswersTimeout, TakesPiece, is_idle}
 use Rattle.log_handler.specs.Laws.{took_in, took_of}
 use Rattle.event_script.specs.Script.{ScriptStep}
 use Rattle.script_runs.specs.Connections.{AreLeft, is_note_of}

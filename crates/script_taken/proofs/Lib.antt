@@ -7,3 +7,4 @@ pub mod Hearing
 pub mod Whole
 pub mod Closing
 pub mod Taking
+pub mod Accepted

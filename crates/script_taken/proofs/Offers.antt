@@ -1,5 +1,5 @@
 -- Where each connection was accepted, offered and closed in a whole journal over a script: at one place each.
-use Rattle.std.proofs.Common.{ℕ, zero, suc, ◌≡◌, ◌≢◌, ◌==◌, ◌∙◌, ◌+◌, ◌≤◌, Bool, true, false, cond, ◌||◌, List, [], ◌∷◌, ◌++◌, length, refl, sym, ap, subst, arith, Option, Some, None, ⊎_elim, append_assoc}
+use Rattle.std.proofs.Common.{ℕ, zero, suc, ◌≡◌, ◌∙◌, ◌+◌, ◌≤◌, Bool, true, false, cond, ◌||◌, List, [], ◌∷◌, ◌++◌, length, refl, sym, ap, subst, arith, Option, Some, None, ⊎_elim, append_assoc}
 use Rattle.std.specs.Prelude.{flat_map}
 use Rattle.std.proofs.lemmas.Bool.{false≢true, and_parts, both_ways, cases_Bool, eqb-true, eq-eqb}
 use Rattle.ev_types.specs.declared.upcall.Answer.{Answer}
@@ -9,15 +9,14 @@ use Rattle.ev_types.specs.declared.upcall.Why.{Why}
 use Rattle.ev_types.specs.declared.upcall.Why.TheVariants.{Refused as ByRefusal}
 use Rattle.reactor_journal.specs.Event.{Item, Origin}
 use Rattle.reactor_journal.specs.declared.entry.Entry.{Entry}
-use Rattle.reactor_journal.specs.declared.entry.Entry.TheVariants.{Opened, Scheduled, Cancelled, Polled, Due, Ready, Posted, Stale, Started, Returned, Masked, Suspended, Resumed, Refused, Removed, Closed, Ended}
-use Rattle.reactor_journal.specs.Past.{count, had, origin_of, reason_of, offered_here, opens, was_opened, was_closed, is_closed, started_at}
+use Rattle.reactor_journal.specs.declared.entry.Entry.TheVariants.{Opened, Returned, Refused, Closed}
+use Rattle.reactor_journal.specs.Past.{had, origin_of, reason_of, offered_here, opens, was_opened, was_closed, is_closed, started_at}
 use Rattle.reactor_journal.specs.Follow.{may_follow, is_legal}
 use Rattle.reactor_journal.proofs.Basics.{may_fits}
 use Rattle.reactor_journal.proofs.Closing.{closing}
 use Rattle.reactor_journal.proofs.Turning.{is_legal-front}
 use Rattle.acceptor.specs.Laws.{number_in}
 use Rattle.acceptor.proofs.Accounts as acceptor_accounts
-use Rattle.log_lines.specs.declared.end_kind.EndKind.{EndKind}
 use Rattle.log_handler.specs.declared.note.ServerNote.{ServerNote}
 use Rattle.log_handler.specs.declared.note.ServerNote.TheVariants as note
 use Rattle.event_script.specs.Script.{ScriptStep}
@@ -29,7 +28,7 @@ use Rattle.script_runs.proofs.Settling as settling
 use Rattle.script_runs.proofs.Settling.{each_front, origin_still, opened_before_closed}
 use Rattle.script_runs.proofs.Turns as turns
 use Rattle.script_taken.specs.Taken.{accepts_connection, finishes, is_closing_of}
-use Rattle.script_taken.proofs.Places.{Cuts, same_cut, first_cut, second_cut, cuts, same_rest, holds_at}
+use Rattle.script_taken.proofs.Places.{Cuts, same_cut, first_cut, second_cut, cuts, same_rest}
 
 -- ---- counts
 

@@ -1,5 +1,5 @@
 -- Places in a list: two cuts of one list, and where a test holds.
-use Rattle.std.proofs.Common.{◌≡◌, ◌∙◌, ◌+◌, ◌<◌, ℕ, suc, Bool, true, false, ◌||◌, List, [], ◌∷◌, ◌++◌, length, reverse, refl, sym, ap, arith, length-append, append_assoc}
+use Rattle.std.proofs.Common.{◌≡◌, ◌∙◌, ◌+◌, suc, Bool, true, false, ◌||◌, List, [], ◌∷◌, ◌++◌, length, reverse, refl, sym, ap, arith, length-append, append_assoc}
 use Rattle.std.specs.List.{list_any}
 use Rattle.std.proofs.lemmas.Bool.{false≢true, cases_Bool}
 use Rattle.std.proofs.lemmas.List.{reverse-append, reverse-reverse}
@@ -97,3 +97,10 @@ pub turned_round : {A : Type 0} (l later : List A) (x : A) (past : List A) → r
 turned_round {A} l later x past h =
     sym (reverse-reverse l) ∙ ap reverse h ∙ reverse-append later (x ∷ past)
     ∙ ap (λ (m : List A). m ++ reverse later) (reverse-append (x ∷ []) past) ∙ append_assoc (reverse past) (x ∷ []) (reverse later)
+
+-- a test that holds somewhere holds somewhere read from the other end
+pub any_round : {A : Type 0} (p : A → Bool) (l : List A) → list_any p l ≡ true → list_any p (reverse l) ≡ true
+any_round p l h =
+    let f = found p l h in
+    ap (list_any p) (ap reverse f.is ∙ reverse-append f.before (f.it ∷ f.after) ∙ ap (λ (m : List _). m ++ reverse f.before) (reverse-append (f.it ∷ []) f.after) ∙ append_assoc (reverse f.after) (f.it ∷ []) (reverse f.before))
+    ∙ holds_at p (reverse f.after) f.it (reverse f.before) f.holds

@@ -1,5 +1,5 @@
 -- What a connection took and noted in a run over a script, and what stands behind the word with which it was closed.
-use Rattle.std.proofs.Common.{ℕ, zero, suc, ◌≡◌, ◌≢◌, ◌∙◌, ◌+◌, ◌-◌, ◌≤◌, ◌<◌, ◌||◌, Bool, true, false, cond, List, [], ◌∷◌, ◌++◌, length, take, map, reverse, refl, sym, ap, subst, arith, Option, Some, None, ⊎_elim, append-nil, append_assoc, length-append}
+use Rattle.std.proofs.Common.{ℕ, suc, ◌≡◌, ◌≢◌, ◌∙◌, ◌+◌, ◌-◌, ◌≤◌, ◌<◌, ◌||◌, Bool, true, false, List, [], ◌∷◌, ◌++◌, length, take, reverse, refl, sym, ap, subst, arith, Option, Some, None, ⊎_elim, append-nil, append_assoc, length-append}
 use Rattle.std.specs.Prelude.{flat_map}
 use Rattle.std.specs.List.{sum_by, list_any}
 use Rattle.std.proofs.lemmas.Bool.{false≢true, both_ways, cases_Bool, eq-eqb, leb-true}
@@ -7,7 +7,7 @@ use Rattle.std.proofs.lemmas.Grind.{flat_map-append}
 use Rattle.std.proofs.lemmas.List.{length-reverse, reverse-append, reverse-reverse}
 use Rattle.ev_base.specs.Terms.{Terms}
 use Rattle.cdr_record.specs.declared.record.LogRecord.{LogRecord}
-use Rattle.cdr_record.specs.Decoding.{Stop, Clean, Partial, Malformed, decode}
+use Rattle.cdr_record.specs.Decoding.{Clean, Partial, Malformed, decode}
 use Rattle.reactor_journal.specs.Event.{Item}
 use Rattle.reactor_journal.specs.declared.entry.Entry.{Entry}
 use Rattle.reactor_journal.specs.declared.entry.Entry.TheVariants.{Returned}
@@ -24,7 +24,7 @@ use Rattle.log_handler.specs.Connection.{is_idle}
 use Rattle.log_handler.specs.Laws.{EndedSo, HasRecords, took_in, took_of, took_last, records_in, records_of_note, last_turn}
 use Rattle.log_handler.proofs.Accounts.{accounts}
 use Rattle.event_script.specs.Script.{ScriptStep, ScriptGroup, steps_of, opened}
-use Rattle.event_script.specs.Stories.{story, bytes_of, was_shut, has_failed}
+use Rattle.event_script.specs.Stories.{story, bytes_of}
 use Rattle.script_turns.specs.Laws.{untold, pauses_had}
 use Rattle.script_turns.proofs.Reading.{HasRead}
 use Rattle.ev_base.specs.Story.{Ending, Failing}
@@ -36,8 +36,8 @@ use Rattle.script_runs.proofs.Scripts.{orderly}
 use Rattle.script_runs.proofs.Taking.{length_numbers, few_taken}
 use Rattle.script_runs.proofs.Turns as turns
 use Rattle.script_runs.proofs.Winding as winding
-use Rattle.script_taken.specs.Taken.{accepts_connection, is_turn_of, is_closing_of, last_heard, took, noted, taken, records_taken, stop_taken, IsSound, GoesOn, ReachedEnd, CameToFail, LostItsLast, WasQuiet, IsClosedAs, IsClosedOnce, IsTaken}
-use Rattle.script_taken.proofs.Places.{Found, found, Cuts, same_cut, first_cut, second_cut, cuts, same_rest, turned_round}
+use Rattle.script_taken.specs.Taken.{accepts_connection, is_turn_of, is_closing_of, last_heard, took, noted, taken, records_taken, stop_taken, GoesOn, ReachedEnd, CameToFail, LostItsLast, WasQuiet, IsClosedAs, IsTaken}
+use Rattle.script_taken.proofs.Places.{any_round, found, Cuts, same_cut, first_cut, second_cut, cuts, same_rest, turned_round}
 use Rattle.script_taken.proofs.Fronts.{course_takes, has_read, took_all, shut_there, failed_there}
 use Rattle.script_taken.proofs.Hearing.{heard, course_heard, hears}
 use Rattle.script_taken.proofs.Notes as noting
@@ -51,11 +51,6 @@ use Rattle.script_taken.proofs.Whole as whole
 use Rattle.script_taken.proofs.Whole.{BegunRun}
 
 -- ---- small facts
-
-any_round : (p : Entry ServerNote → Bool) (l : List (Entry ServerNote)) → list_any p l ≡ true → list_any p (reverse l) ≡ true
-any_round p l h = ⊎_elim (λ (t : list_any p (reverse l) ≡ true). t)
-    (λ (f : list_any p (reverse l) ≡ false). absurd (both_ways (list_any p l) (sym (ap (list_any p) (reverse-reverse l)) ∙ winding.any_reverse p (reverse l) f) h))
-    (cases_Bool (list_any p (reverse l)))
 
 all_records : (records : List LogRecord) (count : ℕ) (bytes : List ℕ) (kept : Option EndKind) → kept ≢ Some end.NoMemory → HasRecords records count bytes kept → records ≡ (decode bytes).records
 all_records records count bytes None ne h = h

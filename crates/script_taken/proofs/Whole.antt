@@ -1,13 +1,13 @@
 -- A whole run over a script, however it ended, read backwards.
-use Rattle.std.proofs.Common.{ℕ, zero, suc, ◌≡◌, ◌≢◌, ◌∙◌, ◌≤◌, Bool, true, false, cond, ◌||◌, List, [], ◌∷◌, ◌++◌, length, reverse, refl, sym, ap, subst, arith, Option, Some, None, ⊎_elim, append_assoc}
+use Rattle.std.proofs.Common.{ℕ, ◌≡◌, ◌≢◌, ◌∙◌, ◌≤◌, Bool, true, false, cond, ◌||◌, List, [], ◌∷◌, ◌++◌, length, reverse, refl, sym, ap, subst, arith, Option, None, ⊎_elim, append_assoc}
 use Rattle.std.specs.List.{list_any}
 use Rattle.std.proofs.lemmas.Bool.{false≢true, and_parts, or_parts, both_ways, cases_Bool}
 use Rattle.ev_types.specs.declared.upcall.Answer.{Answer}
 use Rattle.ev_types.specs.declared.upcall.Handle.{Handle}
 use Rattle.ev_base.specs.Terms.{Terms}
 use Rattle.reactor_journal.specs.declared.entry.Entry.{Entry}
-use Rattle.reactor_journal.specs.declared.entry.Entry.TheVariants.{Opened, Scheduled, Cancelled, Polled, Due, Ready, Posted, Stale, Started, Returned, Masked, Suspended, Resumed, Refused, Removed, Closed, Ended}
-use Rattle.reactor_journal.specs.Past.{past_of, reason_of, ended, is_ended, is_open, opened, was_opened, was_closed, was_removed, all_below}
+use Rattle.reactor_journal.specs.declared.entry.Entry.TheVariants.{Opened, Returned, Refused, Closed, Ended}
+use Rattle.reactor_journal.specs.Past.{past_of, reason_of, ended, is_ended, is_open, opened, was_opened, was_closed, was_removed}
 use Rattle.reactor_journal.specs.Follow.{may_follow, is_legal}
 use Rattle.reactor_journal.proofs.Alive.{opened_below, dead_was_removed}
 use Rattle.reactor_journal.proofs.Basics.{may_fits}
@@ -206,13 +206,9 @@ module _ (most : ℕ) (wound : List (Entry ServerNote)) (legal : is_legal most (
       both_ways _ ((winding.wound_up most (Ended ∷ []) past parts.1 refl (λ i. refl)).none_open event) open_
 
 module _ {H E : Type 0} (means : Handling H E ServerNote) (t : Terms) (idle : Option ℕ) (groups : List ScriptGroup) (journal : List (Entry ServerNote)) (r : RunsSomehow means t idle groups journal) where
-  pub none_accepted : (c : ℕ) → r.run ≡ [] → list_any (accepts_connection c) journal ≡ true → ⊥
-  none_accepted c none h =
-      let f = found (accepts_connection c) journal h in
-      let turn = accept_turn c f.it f.holds in
-      let is : f.before ++ Returned turn.event turn.answer (note.Accepted c) ∷ f.after ≡ Ended ∷ r.closing =
-      sym (f.is ∙ ap (λ (e : Entry ServerNote). f.before ++ e ∷ f.after) turn.is) ∙ r.is ∙ ap (λ (l : List (Entry ServerNote)). l ++ Ended ∷ r.closing) none in
-      by_front f.before turn.event turn.answer f.after is
+  -- where nobody was registered, no turn returns
+  pub no_turn : r.run ≡ [] → (before : List (Entry ServerNote)) (event : ℕ) (answer : Answer) (said : ServerNote) (after : List (Entry ServerNote)) → journal ≡ before ++ Returned event answer said ∷ after → ⊥
+  no_turn none before event answer said after is = by_front before (sym is ∙ r.is ∙ ap (λ (l : List (Entry ServerNote)). l ++ Ended ∷ r.closing) none)
     where
       wound_is : past_of journal ≡ past_of r.closing ++ Ended ∷ []
       wound_is = ap past_of r.is ∙ past_split r.run r.closing Ended ∙ ap (λ (l : List (Entry ServerNote)). past_of r.closing ++ Ended ∷ past_of l) none
@@ -220,16 +216,21 @@ module _ {H E : Type 0} (means : Handling H E ServerNote) (t : Terms) (idle : Op
       legal_all : is_legal t.most (past_of r.closing ++ Ended ∷ []) ≡ true
       legal_all = sym (ap (is_legal t.most) wound_is) ∙ r.whole.legal
 
-      by_front : (before : List (Entry ServerNote)) (event : ℕ) (answer : Answer) (after : List (Entry ServerNote)) → before ++ Returned event answer (note.Accepted c) ∷ after ≡ Ended ∷ r.closing → ⊥
-      by_front [] event answer after is = other is
+      by_front : (before : List (Entry ServerNote)) → before ++ Returned event answer said ∷ after ≡ Ended ∷ r.closing → ⊥
+      by_front [] q = other q
         where
-          other : ◌≡◌ {A = List (Entry ServerNote)} (Returned event answer (note.Accepted c) ∷ after) (Ended ∷ r.closing) → ⊥
-          other q = cc
-      by_front (e ∷ before) event answer after is =
-          none_returned t.most (past_of r.closing) legal_all (past_of after) (past_of before) event answer (note.Accepted c) (ap past_of (sym (tail is)) ∙ past_split before after (Returned event answer (note.Accepted c)))
+          other : ◌≡◌ {A = List (Entry ServerNote)} (Returned event answer said ∷ after) (Ended ∷ r.closing) → ⊥
+          other z = cc
+      by_front (e ∷ before) q = none_returned t.most (past_of r.closing) legal_all (past_of after) (past_of before) event answer said (ap past_of (sym (tail q)) ∙ past_split before after (Returned event answer said))
         where
-          tail : e ∷ (before ++ Returned event answer (note.Accepted c) ∷ after) ≡ Ended ∷ r.closing → before ++ Returned event answer (note.Accepted c) ∷ after ≡ r.closing
-          tail q = cc
+          tail : e ∷ (before ++ Returned event answer said ∷ after) ≡ Ended ∷ r.closing → before ++ Returned event answer said ∷ after ≡ r.closing
+          tail z = cc
+
+  pub none_accepted : (c : ℕ) → r.run ≡ [] → list_any (accepts_connection c) journal ≡ true → ⊥
+  none_accepted c none h =
+      let f = found (accepts_connection c) journal h in
+      let turn = accept_turn c f.it f.holds in
+      no_turn none f.before turn.event turn.answer (note.Accepted c) f.after (f.is ∙ ap (λ (e : Entry ServerNote). f.before ++ e ∷ f.after) turn.is)
 
   pub as_begun : (rest : List (Entry ServerNote)) → r.run ≡ Opened first_handle read_alone ∷ rest → BegunRun means t idle groups journal
   as_begun rest is = record {

@@ -11,7 +11,7 @@ use Rattle.dispatch_turns.specs.ByTurns.{DispatchedByTurns, OffersBehind}
 use Rattle.acceptor.specs.Servers.{read_alone}
 use Rattle.log_handler.specs.declared.note.ServerNote.{ServerNote}
 use Rattle.event_script.specs.Script.{ScriptGroup, steps_of, are_steps}
-use Rattle.script_runs.specs.Connections.{AreLeft}
+use Rattle.script_runs.specs.Connections.{AreLeft, is_entry_of}
 use Rattle.script_runs.specs.Laws.{ActsAsServer}
 use Rattle.script_runs.specs.Runs.{IsWhole, first_handle}
 use Rattle.script_taken.specs.Taken.{accepts_connection, IsTaken}
@@ -43,3 +43,10 @@ abbrev pub ConnectionsAreTaken : {H E : Type 0} → Handling H E ServerNote → 
 ConnectionsAreTaken means =
     (t : Terms) (idle : Option ℕ) (groups : List ScriptGroup) (journal : List (Entry ServerNote)) → RunsSomehow means t idle groups journal
     → (c : ℕ) → list_any (accepts_connection c) journal ≡ true → IsTaken (steps_of groups) idle journal c
+
+-- Each note of a connection, of its turns and of its end, stands behind its acceptance.
+abbrev pub NotesAreOfAccepted : {H E : Type 0} → Handling H E ServerNote → Type 0
+NotesAreOfAccepted means =
+    (t : Terms) (idle : Option ℕ) (groups : List ScriptGroup) (journal : List (Entry ServerNote)) → RunsSomehow means t idle groups journal
+    → (c : ℕ) (before : List (Entry ServerNote)) (e : Entry ServerNote) (after : List (Entry ServerNote)) → journal ≡ before ++ e ∷ after → is_entry_of c e ≡ true
+    → list_any (accepts_connection c) before ≡ true

@@ -1,6 +1,6 @@
-//! A law of whole runs over a script, however they ended. Its function has an empty body: what it says is its contract.
+//! Laws of whole runs over a script, however they ended. Each function has an empty body: what it says is its contract.
 
-ghost use Rattle.script_taken.specs.Laws.{ConnectionsAreTaken};
+ghost use Rattle.script_taken.specs.Laws.{ConnectionsAreTaken, NotesAreOfAccepted};
 
 use log_handler::ServerNote;
 use reactor_model::EventHandler;
@@ -9,4 +9,9 @@ use reactor_model::EventHandler;
 /// these, and was closed once, with a word that has its cause.
 pub fn connections_are_taken<H: EventHandler<Note = ServerNote>>()
     ensures { ConnectionsAreTaken H.means }
+{}
+
+/// Each note of a connection in the journal of a run, of its turns and of its end, stands behind its acceptance.
+pub fn notes_are_of_accepted<H: EventHandler<Note = ServerNote>>()
+    ensures { NotesAreOfAccepted H.means }
 {}
