@@ -129,7 +129,7 @@ module _ {H E : Type 0} (means : Handling H E ServerNote) (t : Terms) (idle : Op
     pub past : List (Entry ServerNote)
     pub is : all ≡ later ++ entry ∷ past
     pub word : EndKind
-    pub closes : taken.IsClosing c word entry
+    pub closes : taken.ClosesAs c word entry
     pub ends_it : is_closing_of c entry ≡ true
     pub accepted : list_any (accepts_connection c) past ≡ true
     pub because : Because now.kept word (had_of owner all) past

@@ -8,3 +8,4 @@ pub mod Whole
 pub mod Closing
 pub mod Taking
 pub mod Accepted
+pub mod Offered

@@ -1,6 +1,6 @@
 -- What holds of the connections of every run over a script, however it ended.
 use Rattle.std.specs.Prelude.{◌≡◌, ◌⊎◌, ℕ, true, List, [], ◌∷◌, ◌++◌, reverse, Option}
-use Rattle.std.specs.List.{list_any}
+use Rattle.std.specs.List.{list_any, list_all}
 use Rattle.ev_types.specs.declared.upcall.Answer.{Answer}
 use Rattle.ev_base.specs.Terms.{Terms}
 use Rattle.reactor_journal.specs.declared.entry.Entry.{Entry}
@@ -13,7 +13,7 @@ use Rattle.log_handler.specs.declared.note.ServerNote.{ServerNote}
 use Rattle.event_script.specs.Script.{ScriptGroup, steps_of, are_steps}
 use Rattle.script_runs.specs.Connections.{AreLeft, is_entry_of}
 use Rattle.script_runs.specs.Laws.{ActsAsServer}
-use Rattle.script_runs.specs.Runs.{IsWhole, first_handle}
+use Rattle.script_runs.specs.Runs.{IsWhole, first_handle, is_closing}
 use Rattle.script_taken.specs.Taken.{accepts_connection, IsTaken}
 
 -- behind each turn that installs a handler, or behind the `Closed` directly behind it, that handler is registered or refused
@@ -22,7 +22,12 @@ OffersEach {N = N} means entries =
     (before : List (Entry N)) (event : ℕ) (answer : Answer) (said : N) (behind : List (Entry N)) → entries ≡ before ++ Returned event answer said ∷ behind
     → means.installs said ≡ true → OffersBehind behind
 
--- What the law takes: a whole journal over a script, however its run ended. Its run registered no handler, or begins with the registration
+-- So it is behind the end of a run, where nothing stands there but removals and closings, or where the journal goes by turns behind its end too.
+abbrev pub OffersBehindTheEnd : {H E N : Type 0} → Handling H E N → Type 0
+OffersBehindTheEnd {N = N} means =
+    (t : Terms) (run closing : List (Entry N)) → (list_all is_closing closing ≡ true) ⊎ DispatchedByTurns means t 1 (run ++ Ended ∷ closing) → OffersEach means closing
+
+-- What the next laws take: a whole journal over a script, however its run ended. Its run registered no handler, or begins with the registration
 -- of the acceptor; it goes by turns alone before it ends. The upcalls that were open at its end return behind that, and what they install is
 -- refused there. Each handler leaves what it does that had its turns over its story.
 pub record RunsSomehow {H E : Type 0} (means : Handling H E ServerNote) (t : Terms) (idle : Option ℕ) (groups : List ScriptGroup) (journal : List (Entry ServerNote)) : Type 0 where

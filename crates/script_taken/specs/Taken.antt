@@ -138,18 +138,18 @@ IsClosedAs end.Idle c steps idle journal before = WasQuiet c steps idle journal
 IsClosedAs end.Stopped c steps idle journal before = ended (past_of before) ≡ true
 IsClosedAs end.Refused c steps idle journal before = took c journal ≡ 0
 
--- the entry is the closing of connection c with this word: `Refused` stands exactly where its handler was not registered
-abbrev pub IsClosing : ℕ → EndKind → Entry ServerNote → Type 0
-IsClosing c word (Closed handle said) = (said ≡ note.Finished c word) × (word ≢ end.Refused)
-IsClosing c word (Refused live fault said) = (said ≡ note.Finished c word) × (word ≡ end.Refused)
-IsClosing c word _ = ⊥
+-- the entry closes connection c with this word: `Refused` stands exactly where its handler was not registered
+abbrev pub ClosesAs : ℕ → EndKind → Entry ServerNote → Type 0
+ClosesAs c word (Closed handle said) = (said ≡ note.Finished c word) × (word ≢ end.Refused)
+ClosesAs c word (Refused live fault said) = (said ≡ note.Finished c word) × (word ≡ end.Refused)
+ClosesAs c word _ = ⊥
 
 -- the one closing of connection c in a journal, which stands behind its acceptance
 pub record IsClosedOnce (c : ℕ) (journal : List (Entry ServerNote)) (before : List (Entry ServerNote)) (word : EndKind) : Type 0 where
   pub closing : Entry ServerNote
   pub after : List (Entry ServerNote)
   pub is : journal ≡ before ++ closing ∷ after
-  pub closes : IsClosing c word closing
+  pub closes : ClosesAs c word closing
   pub accepted : list_any (accepts_connection c) before ≡ true
   pub none_before : list_any (is_closing_of c) before ≡ false
   pub none_after : list_any (is_closing_of c) after ≡ false
