@@ -5,6 +5,7 @@ use Rattle.std.specs.List.{sum_by, list_any}
 use Rattle.std.proofs.lemmas.Bool.{false≢true, both_ways, cases_Bool, eq-eqb, leb-true}
 use Rattle.std.proofs.lemmas.Grind.{flat_map-append}
 use Rattle.std.proofs.lemmas.List.{length-reverse, reverse-append, reverse-reverse}
+use Rattle.std.proofs.lemmas.List.Sums.{sum_by-cons, sum_by-append}
 use Rattle.ev_base.specs.Terms.{Terms}
 use Rattle.cdr_record.specs.declared.record.LogRecord.{LogRecord}
 use Rattle.cdr_record.specs.Decoding.{Clean, Partial, Malformed, decode}
@@ -351,6 +352,7 @@ module _ {H E : Type 0} (means : Handling H E ServerNote) (t : Terms) (idle : Op
     last = winding.any_reverse (is_turn_of c) n.later n.none;
     some = lost.some;
     within = lost.within;
+    sum = took_more;
     records = same_noted ∙ (goes_on (reverse n.before) (Returned n.event n.answer (note.Piece c lost.bytes []) ∷ reverse n.later) split turn_there).records;
   }
     where
@@ -369,10 +371,22 @@ module _ {H E : Type 0} (means : Handling H E ServerNote) (t : Terms) (idle : Op
       turn_there : list_any (is_turn_of c) (Returned n.event n.answer (note.Piece c lost.bytes []) ∷ reverse n.later) ≡ true
       turn_there = ap (λ (b : Bool). b || list_any (is_turn_of c) (reverse n.later)) (eq-eqb c c refl)
 
+      notes_before : notes c (reverse n.before) ≡ notes_of l.before
+      notes_before = notes_back c (reverse n.before) ∙ ap (back c) (reverse-reverse n.before) ∙ n.rest
+
+      took_more : took c journal ≡ took c (reverse n.before) + lost.bytes
+      took_more =
+          let whole_sum : took c journal ≡ sum_by took_in (l.before ++ l.item ∷ []) = took_is journal [] nothing_behind ∙ ap (sum_by took_in) l.is in
+          let parts : sum_by took_in (l.before ++ l.item ∷ []) ≡ sum_by took_in l.before + sum_by took_in (l.item ∷ []) = sum_by-append took_in l.before (l.item ∷ []) in
+          let one : sum_by took_in (l.item ∷ []) ≡ took_in l.item + 0 = sum_by-cons took_in l.item [] in
+          let its : took_in l.item ≡ lost.bytes = ap took_of lost.notes in
+          let first_part : took c (reverse n.before) ≡ sum_by took_in l.before = took_notes c (reverse n.before) ∙ ap (sum_by took_of) notes_before ∙ took_items l.before in
+          omega (arith, whole_sum, parts, one, its, first_part)
+
       same_noted : noted c journal ≡ noted c (reverse n.before)
       same_noted =
           noted_is journal [] nothing_behind ∙ ap (flat_map records_in) l.is ∙ flat_map-append records_in l.before (l.item ∷ [])
-          ∙ ap (λ (s : ServerNote). flat_map records_in l.before ++ (records_of_note s ++ [])) lost.notes ∙ append-nil (flat_map records_in l.before) ∙ sym (noted_items l.before) ∙ ap (flat_map records_of_note) (sym (notes_back c (reverse n.before) ∙ ap (back c) (reverse-reverse n.before) ∙ n.rest)) ∙ sym (noted_notes c (reverse n.before))
+          ∙ ap (λ (s : ServerNote). flat_map records_in l.before ++ (records_of_note s ++ [])) lost.notes ∙ append-nil (flat_map records_in l.before) ∙ sym (noted_items l.before) ∙ ap (flat_map records_of_note) (sym notes_before) ∙ sym (noted_notes c (reverse n.before))
 
   by_itself_with : (word : EndKind) → Because e.now.kept word (had_of e.owner all) e.past → word ≢ end.Stopped → word ≢ end.Refused → e.now.kept ≡ Some word
   by_itself_with word because s f = ended_itself e.now.kept word (had_of e.owner all) e.past because s f

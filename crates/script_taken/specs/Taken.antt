@@ -1,6 +1,6 @@
 -- What a connection of a run over a script took and noted, and how it was closed (C++NPv2 chapter 4, `Logging_Event_Handler`; scripts and
 -- closing words are this project's own).
-use Rattle.std.specs.Prelude.{◌≡◌, ◌≢◌, ◌≤◌, ◌<◌, ◌-◌, ◌==◌, ◌&&◌, ℕ, nat_lt, Bool, true, false, if◌then◌else◌, List, [], ◌∷◌, ◌++◌, length, take, flat_map, Option, Some}
+use Rattle.std.specs.Prelude.{◌≡◌, ◌≢◌, ◌≤◌, ◌<◌, ◌+◌, ◌-◌, ◌==◌, ◌&&◌, ℕ, nat_lt, Bool, true, false, if◌then◌else◌, List, [], ◌∷◌, ◌++◌, length, take, flat_map, Option, Some}
 use Rattle.std.specs.List.{sum_by, list_any}
 use Rattle.ev_types.specs.declared.upcall.Answer.{Answer}
 use Rattle.cdr_record.specs.declared.record.LogRecord.{LogRecord}
@@ -101,7 +101,8 @@ pub record CameToFail (c : ℕ) (steps : List ScriptStep) (journal : List (Entry
   pub failed : has_failed c steps ≡ true
   pub sound : IsSound c steps journal
 
--- there was no memory for the records of its last turn: that took from 1 to 4,096 bytes and noted none of their records
+-- There was no memory for the records of its last turn: that took from 1 to 4,096 bytes and noted none of their records. So the records are
+-- those of the bytes taken without these.
 pub record LostItsLast (c : ℕ) (steps : List ScriptStep) (journal : List (Entry ServerNote)) : Type 0 where
   pub before : List (Entry ServerNote)
   pub event : ℕ
@@ -112,6 +113,7 @@ pub record LostItsLast (c : ℕ) (steps : List ScriptStep) (journal : List (Entr
   pub last : list_any (is_turn_of c) after ≡ false
   pub some : 1 ≤ bytes
   pub within : bytes ≤ piece_room
+  pub sum : took c journal ≡ took c before + bytes
   pub records : noted c journal ≡ records_taken c steps before
 
 -- it had an idle time, and its last turn, which took nothing, came so long after it was last heard; no bad record is among the bytes taken
