@@ -1,0 +1,11 @@
+pub mod Places
+pub mod Fronts
+pub mod Offers
+pub mod Notes
+pub mod Words
+pub mod Hearing
+pub mod Whole
+pub mod Closing
+pub mod Taking
+pub mod Accepted
+pub mod Offered
