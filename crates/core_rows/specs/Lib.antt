@@ -1,3 +1,4 @@
 pub mod Handlers
 pub mod Idle
+pub mod Play
 pub mod RoundRobin

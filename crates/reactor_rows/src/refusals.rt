@@ -1,12 +1,12 @@
 //! What the calls of a reactor refuse, and what a refusal leaves.
 ghost use Rattle.std.specs.Prelude.{◌≤◌, IfOk};
 ghost use Rattle.core_rows.specs.Idle.{IsIdle};
-ghost use Rattle.reactor_rows.specs.Play.{play_rows};
+ghost use Rattle.core_rows.specs.Play.{play_rows};
 ghost use Rattle.core_rows.specs.RoundRobin.{round_robin_rows};
 
-use core_rows::*;
 use crate::steps::{NONE, PlayRows, READ, Step, in_the_end, play, quiet};
 use crate::tests::returned;
+use core_rows::*;
 use ev_types::{Answer, Handle, Kind};
 use reactor_core::{
     CancelRefused, Core, LiveRefused, NotLive, PollRefused, Polled, PostRefused, RegisterRefused,

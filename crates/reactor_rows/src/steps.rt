@@ -2,7 +2,7 @@
 ghost use Rattle.std.specs.Prelude.{◌≡◌, ◌≤◌, IfOk, length, true};
 ghost use Rattle.demux.specs.PlayNet.{do_not_fall, are_bounded};
 ghost use Rattle.core_rows.specs.Idle.{IsIdle};
-ghost use Rattle.reactor_rows.specs.Play.{play_rows};
+ghost use Rattle.core_rows.specs.Play.{play_rows};
 
 use core_rows::*;
 use demux::PlayNet;

@@ -1,10 +1,10 @@
 //! What becomes of two upcalls that are on their way when the first of them stops the reactor, and which wait was over.
 ghost use Rattle.core_rows.specs.Idle.{IsIdle};
-ghost use Rattle.reactor_rows.specs.Play.{play_rows};
+ghost use Rattle.core_rows.specs.Play.{play_rows};
 
-use core_rows::*;
 use crate::steps::{NONE, PlayRows, READ, Step, in_the_end, play, reactor};
 use crate::tests::{ready, returned};
+use core_rows::*;
 use ev_types::{Answer, Handle, Kind};
 use reactor_core::{PollRefused, Polled, Settled};
 use reactor_journal::Entry;

@@ -1,5 +1,5 @@
 use Rattle.core_rows.specs.Idle.{IsIdle}
-use Rattle.reactor_rows.specs.Play.{play_rows}
+use Rattle.core_rows.specs.Play.{play_rows}
 use Rattle.reactor_rows.proofs.steps.play.Given as goal
 
 abbrev pub invariant-loop-step : goal.invariant-loop-step

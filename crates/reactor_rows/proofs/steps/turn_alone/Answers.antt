@@ -1,6 +1,6 @@
 use Rattle.std.proofs.Common.{Ok, ap, ◌∙◌, subst}
 use Rattle.core_rows.specs.Idle.{IsOut, IsOutOrIdle}
-use Rattle.reactor_rows.specs.Play.{play_rows}
+use Rattle.core_rows.specs.Play.{play_rows}
 use Rattle.core_rows.proofs.Upcalls.{gave_some, gave_none, fits_started, out_same}
 use Rattle.reactor_rows.proofs.steps.turn_alone.Goals as goal
 
