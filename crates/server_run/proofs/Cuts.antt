@@ -23,7 +23,9 @@ use Rattle.reactor_core.specs.Acting.{StopAppends}
 use Rattle.reactor_core.specs.Ends.{AreRetired}
 use Rattle.reactor_core.specs.Removing.{AreRemovals, alive_handles}
 use Rattle.reactor_core.specs.Settling.{IsClosing}
-use Rattle.script_runs.specs.Runs.{first_handle, is_notice, is_refusal}
+use Rattle.script_runs.specs.Runs.{first_handle, is_closing, is_notice, is_refusal}
+use Rattle.script_taken.specs.Laws.{OffersEach}
+use Rattle.script_taken.proofs.Offered.{offers_each}
 use Rattle.tp_reactor.specs.Pool.{HasClosed}
 use Rattle.server_run.specs.Journals.{EndsByNotice, HasNotices, WindsUp, first_entry, is_for_acceptor, notice_for}
 use Rattle.server_run.proofs.Cutting.{turned_before}
@@ -87,6 +89,20 @@ begins_cut list journal rest c is = ⊎_elim
     (λ second. begins_same c.run rest c.closing (sym is ∙ (sym second.0 ∙ c.is)))
     c.how
 
+-- ---- removals
+
+-- what holds of each entry that removes or closes a handler holds of all of them
+module _ {N : Type 0} (test : Entry N → Bool) (removed : (handle : Handle) → test (entry.Removed handle) ≡ true) (closed : (handle : Handle) (note : N) → test (entry.Closed handle note) ≡ true) where
+  all_closing : (b : Bool) (handle : Handle) (es : List (Entry N)) → IsClosing b handle es → list_all test es ≡ true
+  all_closing true handle es c = ap (list_all test) c.1 ∙ and_from _ true (closed handle c.0) refl
+  all_closing false handle es c = ap (list_all test) c
+
+  all_removals : (busy : ℕ → Bool) (hs : List LiveHandle) (es : List (Entry N)) → AreRemovals busy hs es → list_all test es ≡ true
+  all_removals busy [] es r = ap (list_all test) r
+  all_removals busy (a ∷ hs) es r =
+      ap (list_all test) r.4 ∙ and_from _ _ (removed a.handle)
+      (list_all-append test r.0 r.1 ∙ and_from _ _ (all_closing (not (busy a.handle.0)) a.handle r.0 r.2) (all_removals busy hs r.1 r.3))
+
 -- ---- by turns
 
 pub turned_cut : {H E N : Type 0} (means : Handling H E N) (t : Terms) (b : ℕ) (list journal : List (Entry N)) (c : Cut list journal) → DispatchedByTurns means t b list → DispatchedByTurns means t b c.run
@@ -94,6 +110,13 @@ turned_cut {N = N} means t b list journal c turned = ⊎_elim
     (λ first. subst (λ (k : List (Entry N)). DispatchedByTurns means t b k) (sym first.0) turned)
     (λ second. turned_before means t b c.run c.closing (subst (λ (k : List (Entry N)). DispatchedByTurns means t b k) (sym second.0 ∙ c.is) turned))
     c.how
+
+-- Behind the end stand removals alone, or the list goes by turns there too: each handler that a turn installs is registered or refused.
+pub offers_cut : {H E N : Type 0} (means : Handling H E N) (t : Terms) (list journal : List (Entry N)) (c : Cut list journal) → DispatchedByTurns means t 1 list → OffersEach means c.closing
+offers_cut {N = N} means t list journal c turned = offers_each means t c.run c.closing (⊎_elim
+    (λ first. inl (all_removals is_closing (λ handle. refl) (λ handle note. refl) _ _ c.closing first.2))
+    (λ second. inr (subst (λ (k : List (Entry N)). DispatchedByTurns means t 1 k) (sym second.0 ∙ c.is) turned))
+    c.how)
 
 -- ---- notifications
 
@@ -114,21 +137,11 @@ right_closed : {N : Type 0} (until : Option ℕ) (handle : Handle) (note : N) �
 right_closed None handle note = refl
 right_closed (Some n) handle note = refl
 
-right_closing : {N : Type 0} (until : Option ℕ) (b : Bool) (handle : Handle) (es : List (Entry N)) → IsClosing b handle es → list_all (is_right until) es ≡ true
-right_closing until true handle es c = ap (list_all (is_right until)) c.1 ∙ and_from _ true (right_closed until handle c.0) refl
-right_closing until false handle es c = ap (list_all (is_right until)) c
-
-right_removals : {N : Type 0} (until : Option ℕ) (busy : ℕ → Bool) (hs : List LiveHandle) (es : List (Entry N)) → AreRemovals busy hs es → list_all (is_right until) es ≡ true
-right_removals until busy [] es r = ap (list_all (is_right until)) r
-right_removals {N = N} until busy (a ∷ hs) es r =
-    ap (list_all (is_right until)) r.4 ∙ and_from _ _ (right_removed N until a.handle)
-    (list_all-append (is_right until) r.0 r.1 ∙ and_from _ _ (right_closing until (not (busy a.handle.0)) a.handle r.0 r.2) (right_removals until busy hs r.1 r.3))
-
 pub right_cut : {N : Type 0} (until : Option ℕ) (list journal : List (Entry N)) (c : Cut list journal) → list_all (is_right until) list ≡ true → list_all (is_right until) journal ≡ true
 right_cut {N = N} until list journal c q = ⊎_elim
     (λ first.
     ap (list_all (is_right until)) (c.is ∙ ap (λ k. k ++ Ended ∷ c.closing) first.0) ∙ (list_all-append (is_right until) list (Ended ∷ c.closing) ∙ and_from _ _ q
-    (and_from _ _ (right_end N until) (right_removals until _ _ c.closing first.2))))
+    (and_from _ _ (right_end N until) (all_removals (is_right until) (right_removed N until) (right_closed until) _ _ c.closing first.2))))
     (λ second. ap (list_all (is_right until)) second.0 ∙ q)
     c.how
 

@@ -27,7 +27,7 @@ use Rattle.server_run.specs.declared.asked.Asked.{Asked}
 use Rattle.server_run.specs.declared.ending.Ending.{Ending}
 use Rattle.server_run.specs.declared.ending.Ending.TheVariants as ending
 use Rattle.server_run.specs.declared.ending.Served.{Served}
-use Rattle.server_run.proofs.Cuts.{Cut, begins_cut, cut, is_right, notices_of, right_cut, turned_cut}
+use Rattle.server_run.proofs.Cuts.{Cut, begins_cut, cut, is_right, notices_of, offers_cut, right_cut, turned_cut}
 use Rattle.server_run.proofs.Winding.{Breaks, sum, whole_of_over}
 
 -- ---- a watch that failed
@@ -76,6 +76,7 @@ module _ {H M Q W V E : Type 0} (m : Meaning H M Q W V ServerNote E) (armed : Q 
           is = c.is;
           begins = begins_of list fin.journal c begins;
           turned = turned_cut m.means t 1 list fin.journal c turned;
+          offers = offers_cut m.means t list fin.journal c turned;
           faults = omega (arith, fin.stand.net.faults, count-past is_fault fin.journal);
           notices = notices_of asked.until fin.journal (right_cut asked.until list fin.journal c right);
           ends = ends_named asked.until (m.facts served.parts.net) how served.ending (m.is_broken served.parts.watch) c.run c.closing is (ends c);

@@ -17,6 +17,7 @@ use Rattle.reactor_model.specs.Handling.{Handling}
 use Rattle.dispatch_turns.specs.ByTurns.{DispatchedByTurns}
 use Rattle.acceptor.specs.Servers.{read_alone}
 use Rattle.script_runs.specs.Runs.{IsWhole, IsIdle, first_handle, is_notice, is_refusal}
+use Rattle.script_taken.specs.Laws.{OffersEach}
 use Rattle.reactor_core.specs.Acting.{StopAppends}
 use Rattle.reactor_core.specs.Ends.{WhereTold, is_fault}
 use Rattle.reactor_core.specs.Marks.{IsOverAt, answers, is_polled}
@@ -82,7 +83,8 @@ EndsSo until net ending.NoMemory run closing = Unit {0}
 EndsSo until net ending.VolumeFault run closing = Unit {0}
 
 -- The journal of a run that ended so: it is legal, was stopped, and each handle that was opened was closed; before its end it goes by turns
--- alone behind the registration of the acceptor; and no more handlers were refused for a fault than the net failed to attach.
+-- alone behind the registration of the acceptor. Behind its end each handler that a turn installs is registered or refused directly behind
+-- that turn, where one `Closed` may stand between. No more handlers were refused for a fault than the net failed to attach.
 pub record IsRun {H N E : Type 0} (means : Handling H E N) (t : Terms) (until : Option ℕ) (net : NetFacts E) (how : Ending) (journal : List (Entry N)) : Type 0 where
   pub whole : IsWhole t.most journal
   pub run : List (Entry N)
@@ -90,6 +92,7 @@ pub record IsRun {H N E : Type 0} (means : Handling H E N) (t : Terms) (until : 
   pub is : journal ≡ run ++ Ended ∷ closing
   pub begins : BeginsSo run
   pub turned : DispatchedByTurns means t 1 run
+  pub offers : OffersEach means closing
   pub notices : HasNotices until journal
   pub faults : count is_fault journal ≤ net.failed_attaches
   pub ends : EndsSo until net how run closing
