@@ -1,6 +1,6 @@
 -- How a run over a host begins.
 use Rattle.std.proofs.Common.{◌≡◌, ◌≤◌, ◌+◌, arith, ℕ, Bool, List, [], length, Option, Some, None, refl, sym, ap, ◌∙◌, subst}
-use Rattle.std.specs.Prelude.{IfSome, option_map}
+use Rattle.std.specs.Prelude.{IfSome}
 use Rattle.ev_base.specs.Host.{LeavesHostOpen}
 use Rattle.ev_base.specs.Net.{IsNew}
 use Rattle.ev_base.specs.Sink.{SinkFacts}
@@ -11,8 +11,6 @@ use Rattle.reactor_journal.specs.declared.entry.Entry.{Entry}
 use Rattle.reactor_model.specs.Volumes.{VolumesFacts}
 use Rattle.reactor_core.specs.Ends.{WhereTold}
 use Rattle.reactor_core.specs.Stands.{Meaning}
-use Rattle.log_handler.specs.LineSink.{PutsLines}
-use Rattle.log_handler.specs.declared.line_sink.LineSink.{LineSink}
 use Rattle.log_handler.specs.declared.note.ServerNote.{ServerNote}
 use Rattle.acceptor.specs.Idle.{IsIdleTime}
 use Rattle.acceptor.specs.declared.server.ServerHandler.{ServerHandler}

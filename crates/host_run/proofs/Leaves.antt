@@ -1,6 +1,6 @@
 -- From what a run of the server leaves to what one over a host does.
-use Rattle.std.proofs.Common.{◌≡◌, ◌≤◌, ◌+◌, ◌⊎◌, inl, inr, ⊎_elim, arith, ℕ, Bool, true, false, List, [], ◌∷◌, ◌++◌, length, drop, Option, Some, None, refl, sym, ap, ◌∙◌, subst, append-nil}
-use Rattle.std.specs.Prelude.{option_map, min, ◌-◌, ◌^◌}
+use Rattle.std.proofs.Common.{◌≡◌, ◌≤◌, ◌+◌, ◌⊎◌, inl, inr, arith, ℕ, Bool, true, false, List, [], ◌∷◌, ◌++◌, length, drop, Option, Some, None, refl, sym, ap, ◌∙◌, subst, append-nil}
+use Rattle.std.specs.Prelude.{option_map, ◌-◌, ◌^◌}
 use Rattle.std.proofs.Math.Nat.{le_refl, min-le_left}
 use Rattle.ev_base.specs.Counts.{Rose, counted}
 use Rattle.ev_base.specs.Net.{HasNone, IsNew, NetFacts}
@@ -9,7 +9,6 @@ use Rattle.ev_base.specs.Terms.{Terms}
 use Rattle.timer_queue.specs.declared.timer.Timer.{Timer}
 use Rattle.reactor_journal.specs.declared.entry.Entry.{Entry}
 use Rattle.reactor_journal.specs.declared.entry.Entry.TheVariants.{Ended}
-use Rattle.reactor_model.specs.Handling.{Handling}
 use Rattle.reactor_model.specs.Volumes.{VolumesFacts}
 use Rattle.reactor_core.specs.Calls.{AreCalls}
 use Rattle.reactor_core.specs.Ends.{WhereTold}
@@ -28,7 +27,7 @@ use Rattle.server_run.specs.declared.ending.Served.{Served}
 use Rattle.host_run.specs.declared.ending.HostEnd.{HostEnd}
 use Rattle.host_run.specs.declared.ending.HostEnd.TheVariants as end
 use Rattle.host_run.specs.declared.ending.HostServed.{HostServed}
-use Rattle.host_run.specs.Leaving.{IsJournal, IsUntouched, LeavesHost, MayLackNet, NetFailedSo, RunsOver, RunsWhereGiven, TookAll, TookFront, Wrote, end_of, left_by}
+use Rattle.host_run.specs.Leaving.{IsJournal, IsUntouched, LeavesHost, MayLackNet, NetFailedSo, RunsOver, RunsWhereGiven, TookAll, TookFront, OutputTook, end_of, left_by}
 use Rattle.host_run.specs.Starting.{terms_of}
 
 -- ---- the lines
@@ -89,7 +88,7 @@ module _ {K : Type 0} (facts : K → SinkFacts) (options : Options) (o : SinkFac
   sound : (how : Ending) → (is_broken sink ≡ true → how ≡ ending.Broken) → (how ≡ ending.Broken → ⊥) → TookAll o (journal_lines h) (facts (sink_of sink))
   sound how told never = whole (sound-of (is_broken sink) (λ b. never (told b)))
 
-  pub wrote : (how : Ending) → (is_broken sink ≡ true → how ≡ ending.Broken) → (how ≡ ending.Broken → Rose o.faults (line_sink_faults facts sink)) → Wrote (end_of how) o (journal_lines h) (facts (sink_of sink))
+  pub wrote : (how : Ending) → (is_broken sink ≡ true → how ≡ ending.Broken) → (how ≡ ending.Broken → Rose o.faults (line_sink_faults facts sink)) → OutputTook (end_of how) o (journal_lines h) (facts (sink_of sink))
   wrote ending.Broken told rose = failed (is_broken sink) refl (rose refl)
   wrote ending.Over told rose = sound ending.Over told (λ q. cc)
   wrote ending.Notified told rose = sound ending.Notified told (λ q. cc)
@@ -189,16 +188,16 @@ module _ {H M Q V E K : Type 0} (m : Meaning H M Q (LineSink K) V ServerNote E) 
       is = untouched-is served u;
       run = subst (λ (how : HostEnd). RunsWhereGiven m terms until served.net how []) (sym memory)
           (subst (λ (n : Option M). RunsWhereGiven m terms until n end.NoMemory []) (sym given) (untouched-net net new (subst (λ (t : Terms). m.keeps t net) is keeps) until));
-      lines = subst (λ (how : HostEnd). Wrote how (sink output) [] (sink served.output)) (sym memory) (untouched-lines sink output volumes served u);
+      lines = subst (λ (how : HostEnd). OutputTook how (sink output) [] (sink served.output)) (sym memory) (untouched-lines sink output volumes served u);
     }
 
     -- the host gave no net
-    pub leaves-none : (how : HostEnd) → served.end ≡ how → served.net ≡ None → MayLackNet how → Wrote how (sink output) [] (sink served.output) → LeavesHost m sink terms until (sink output) served
+    pub leaves-none : (how : HostEnd) → served.end ≡ how → served.net ≡ None → MayLackNet how → OutputTook how (sink output) [] (sink served.output) → LeavesHost m sink terms until (sink output) served
     leaves-none how is none may lines = record {
       journal = [];
       is = untouched-is served u;
       run = subst (λ (n : Option M). RunsWhereGiven m terms until n served.end []) (sym none) (subst MayLackNet (sym is) may, refl);
-      lines = subst (λ (how : HostEnd). Wrote how (sink output) [] (sink served.output)) (sym is) lines;
+      lines = subst (λ (how : HostEnd). OutputTook how (sink output) [] (sink served.output)) (sym is) lines;
     }
 
   module _ (armed : Q → List Timer) (asked : Asked) (net : M) (served : Served M Q (LineSink K) V) (l : LeavesRun m armed terms asked served) where

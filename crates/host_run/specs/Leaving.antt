@@ -71,13 +71,13 @@ pub record TookFront (o : SinkFacts) (bytes : List ℕ) (p : SinkFacts) : Type 0
   pub once : p.faults ≤ o.faults + 1
 
 -- what became of the bytes that were to be written
-abbrev pub Wrote : HostEnd → SinkFacts → List ℕ → SinkFacts → Type 0
-Wrote end.WriteFault o bytes p = TookFront o bytes p
-Wrote end.Done o bytes p = TookAll o bytes p
-Wrote end.NetFault o bytes p = TookAll o bytes p
-Wrote end.NoMemory o bytes p = TookAll o bytes p
-Wrote end.ListenFault o bytes p = TookAll o bytes p
-Wrote end.VolumeFault o bytes p = TookAll o bytes p
+abbrev pub OutputTook : HostEnd → SinkFacts → List ℕ → SinkFacts → Type 0
+OutputTook end.WriteFault o bytes p = TookFront o bytes p
+OutputTook end.Done o bytes p = TookAll o bytes p
+OutputTook end.NetFault o bytes p = TookAll o bytes p
+OutputTook end.NoMemory o bytes p = TookAll o bytes p
+OutputTook end.ListenFault o bytes p = TookAll o bytes p
+OutputTook end.VolumeFault o bytes p = TookAll o bytes p
 
 -- With a net fault a wait of the net failed; or its attach of the listener did, and the journal is the end alone.
 abbrev pub NetFailedSo : {N E : Type 0} → HostEnd → NetFacts E → List (Entry N) → Type 0
@@ -88,8 +88,8 @@ NetFailedSo end.NoMemory net journal = Unit {0}
 NetFailedSo end.ListenFault net journal = Unit {0}
 NetFailedSo end.VolumeFault net journal = Unit {0}
 
--- The journal is that of a run over the net, or there was no memory for a reactor, so it is empty: and what the run's ending says holds. The net
--- stands for the journal: the ends that were retired or turned away are left as it says.
+-- The run of the server ended in a way of this name, and the journal is that of a run which ended so; or there was no memory for a reactor, and
+-- the journal is empty. The net stands for the journal: the ends that were retired or turned away are left as it says.
 pub record RunsOver {H M Q W V N E : Type 0} (m : Meaning H M Q W V N E) (t : Terms) (until : Option ℕ) (net : M) (how : HostEnd) (journal : List (Entry N)) : Type 0 where
   pub ending : Ending
   pub named : how ≡ end_of ending
@@ -117,7 +117,7 @@ pub record LeavesHost {H M Q W K V E : Type 0} (m : Meaning H M Q W V ServerNote
   pub journal : List (Entry ServerNote)
   pub is : IsJournal t (m.volumes served.volumes).taken served.first served.journal.entries journal
   pub run : RunsWhereGiven m t until served.net served.end journal
-  pub lines : Wrote served.end o (journal_lines journal) (sink served.output)
+  pub lines : OutputTook served.end o (journal_lines journal) (sink served.output)
 
 -- The host's count of faults rose where it could not listen, and then there is no net; and else it is what it was.
 abbrev pub ListensSo : {M : Type 0} → HostEnd → Option M → ℕ → ℕ → Type 0

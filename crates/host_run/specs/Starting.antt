@@ -1,5 +1,5 @@
 -- Under which terms the server runs over a host.
-use Rattle.std.specs.Prelude.{◌+◌, List, length, Some, option_map}
+use Rattle.std.specs.Prelude.{◌+◌, length, Some, option_map}
 use Rattle.ev_base.specs.Sink.{SinkFacts}
 use Rattle.ev_base.specs.Terms.{Terms, open_terms}
 use Rattle.log_handler.specs.declared.note.ServerNote.{ServerNote}

@@ -1,16 +1,16 @@
 //! How a run over a host ended, and what it leaves.
-ghost use Rattle.std.specs.Prelude.{◌≡◌, [], Option};
+ghost use Rattle.std.specs.Prelude.{◌≡◌};
 ghost use Rattle.host_run.specs.Leaving.{IsUntouched, end_of, left_by};
 
 use chosen_timers::ChosenTimers;
+use ev_base::Sink;
 use log_handler::{LineSink, ServerNote};
 use reactor_core::Parts;
 use reactor_model::Journal;
 use server_run::{Ending, Served};
-use ev_base::Sink;
 use std::alloc::Global;
 
-/// How a run over a host ended. Of several causes the first in this order is told, but that a host that does not listen has no other.
+/// How a run over a host ended. Of several causes the first in this order is told; where the host does not listen there is no other.
 #[derive(Clone, Copy, PartialEq, Eq, Debug)]
 pub enum HostEnd {
     /// Nothing could be reported any more, or a notice ended the run.

@@ -33,12 +33,7 @@ const MOST_WAIT: u64 = 1_000;
 /// over. A wait goes on for one second at most. Without `until` in the options it goes on until the net has nothing to report any more.
 ///
 /// `ListenFault` comes exactly where the host could not listen. Then nothing was done.
-pub fn serve_host<
-    R: Threads + Wait + Sync,
-    H: Host,
-    K: Sink + Send,
-    V: Volumes<ServerNote> + Send,
->(
+pub fn serve_host<R: Threads + Wait + Sync, H: Host, K: Sink + Send, V: Volumes<ServerNote> + Send>(
     rt: &R,
     alloc: Global,
     options: Options,
@@ -58,8 +53,7 @@ where
     ensures volumes { result.end ≡ HostEnd.VolumeFault → Rose (V.facts volumes).faults (V.facts result.volumes).faults }
 {
     match host.listen(alloc, port) {
-        Ok((net, listener, waker)) =>
-            serve_net(rt, alloc, options, net, listener, waker, output, volumes),
+        Ok(given) => serve_net(rt, alloc, options, given, output, volumes),
         Err(ListenRefused::Failed) => {
             unserved(alloc, HostEnd::ListenFault, None, output, volumes)
         }
@@ -69,7 +63,8 @@ where
     }
 }
 
-/// Runs the server over a new net with its listener. Where there is no memory for the timers the listener and the waker are dropped.
+/// Runs the server over what a host gave: a new net, its listener, and what wakes the net. Where there is no memory for the timers the listener and
+/// the waker are dropped.
 fn serve_net<
     R: Threads + Wait + Sync,
     E: PeerEnd + Drop + Send,
@@ -81,23 +76,22 @@ fn serve_net<
     rt: &R,
     alloc: Global,
     options: Options,
-    net: M,
-    listener: E,
-    waker: W,
+    given: (M, E, W),
     output: K,
     volumes: V,
 ) -> HostServed<M, K, V>
     ghost terms: { Terms }
     requires ranges { AreInRange options }
     requires terms { terms ≡ terms_of options (K.facts output) (V.facts volumes) }
-    requires listener { GivesListener M.facts E.tells (net, listener) }
-    requires net_keeps { M.keeps terms net }
-    requires listener_keeps { E.keeps terms listener }
+    requires listener { GivesListener M.facts E.tells (given.0, given.1) }
+    requires net_keeps { M.keeps terms given.0 }
+    requires listener_keeps { E.keeps terms given.1 }
     ensures leaves { LeavesHost ⟦<HostCore<E, M, K, V> as Means>⟧.m K.facts (terms_of options (K.facts output) (V.facts volumes)) options.until (K.facts output) result }
     ensures given { result.net ≡ None → ⊥ }
     ensures listened { result.end ≡ HostEnd.ListenFault → ⊥ }
     ensures volumes { result.end ≡ HostEnd.VolumeFault → Rose (V.facts volumes).faults (V.facts result.volumes).faults }
 {
+    let (net, listener, waker) = given;
     let Ok(timers) = ChosenTimers::new(alloc, options.timers) else {
         return unserved(alloc, HostEnd::NoMemory, Some(net), output, volumes);
     };

@@ -12,8 +12,7 @@ serve_net-requires g c κs within =
     let o = g.K.Sink.facts c.args.output in
     let v = g.V.Volumes.facts c.args.volumes in
     let t = terms_of c.args.options o v in
-    let kept = c.in-Ok.ensures.2 t (g.met.H.Host.keeps_open t c.args.host.now (open-terms c.args.options o v)) in
-    (
+    let kept = c.in-Ok.ensures.2 t (g.met.H.Host.keeps_open t c.args.host.now (open-terms c.args.options o v)) in (
       search rules,
       (
         search rules,
@@ -37,7 +36,7 @@ serve_net-requires g c κs within =
                           search (bounds.sync-R, sendable) depth 20,
                           (
                             search (bounds.sync-H-Waker, sendable) depth 20,
-                            (c.requires, (refl, (c.in-Ok.ensures.0, (kept.0, kept.1)))),
+                            (c.requires, (refl {a = t}, (c.in-Ok.ensures.0, (kept.0, kept.1)))),
                           ),
                         ),
                       ),

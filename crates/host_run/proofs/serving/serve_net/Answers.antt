@@ -3,7 +3,6 @@ use denote.Param.Send.{arg_send, param_send, param_sync, sendable}
 use Rattle.std.proofs.Common.{rules, refl}
 use Rattle.chosen_timers.proofs.ChosenTimers.TheSendSync as timers
 use Rattle.log_handler.proofs.line_sink.LineSink.TheSendSync as lines
-use Rattle.log_handler.specs.LineSink.{sink_of}
 use Rattle.host_run.proofs.Begins.{can-start, faults-are, fine, opening-is}
 use Rattle.host_run.proofs.Leaves.{leaves-host, leaves-net, under}
 use Rattle.host_run.proofs.serving.serve_net.Goals as goal
@@ -11,7 +10,7 @@ use Rattle.host_run.proofs.serving.serve_net.Goals as goal
 pub returns-in_default-clause-leaves : goal.returns-in_default-clause-leaves
 returns-in_default-clause-leaves g c =
     let given = c.requires.1.1.1.1.1.1.1.1.1.1.1.1.1 in
-    leaves-net _ g.K.Sink.facts c.args.options c.args.output c.args.volumes c.args.options.until c.unserved.result c.unserved.ensures.untouched g.terms c.args.net given.0 c.unserved.ensures.end c.unserved.ensures.net given.1.0.net given.1.1.0
+    leaves-net _ g.K.Sink.facts c.args.options c.args.output c.args.volumes c.args.options.until c.unserved.result c.unserved.ensures.untouched g.terms c.args.given.0 given.0 c.unserved.ensures.end c.unserved.ensures.net given.1.0.net given.1.1.0
 
 pub serve-requires : goal.serve-requires
 serve-requires g c κs within =
@@ -21,8 +20,7 @@ serve-requires g c κs within =
     let v = g.V.Volumes.facts c.args.volumes in
     let ready = fine _ c.args.options refl refl refl c.volume_size.ensures.within.some given.0 in
     let seen = c.new-2.ensures.stands g.terms (opening-is c.args.options o v g.terms given.1.0) (faults-are c.args.options o v g.terms given.1.0) in
-    let start = can-start c.args.options o v g.terms given.1.0 _ _ _ _ _ refl refl refl refl given.1.1.0.net given.1.1.1.0 c.in-Ok.ensures.timers seen given.1.1.1.1 in
-    (
+    let start = can-start c.args.options o v g.terms given.1.0 _ _ _ _ _ refl refl refl refl given.1.1.0.net given.1.1.1.0 c.in-Ok.ensures.timers seen given.1.1.1.1 in (
       search rules,
       (
         search rules,
@@ -67,4 +65,4 @@ pub returns-clause-leaves : goal.returns-clause-leaves
 returns-clause-leaves g c =
     let given = c.requires.1.1.1.1.1.1.1.1.1.1.1.1.1 in
     let l = under g.terms _ given.0 c.serve.ensures.run in
-    leaves-host _ g.K.Sink.facts c.args.options c.args.output c.args.volumes _ _ c.args.net c.serve.result l c.leave.result c.leave.ensures given.1.0.net c.serve.ensures.causes l.stand.watch c.serve.ensures.causes.told l.broken
+    leaves-host _ g.K.Sink.facts c.args.options c.args.output c.args.volumes _ _ c.args.given.0 c.serve.result l c.leave.result c.leave.ensures given.1.0.net c.serve.ensures.causes l.stand.watch c.serve.ensures.causes.told l.broken
