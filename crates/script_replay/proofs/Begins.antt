@@ -1,5 +1,5 @@
 -- What a host that was given a script gives.
-use Rattle.std.proofs.Common.{◌≡◌, ◌∙◌, ℕ, Bool, true, false, Option, Some, None, Result, Ok, Err, refl, ap, sym, subst}
+use Rattle.std.proofs.Common.{◌≡◌, ◌∙◌, ℕ, Bool, true, false, Option, Some, None, Ok, ap, subst}
 use Rattle.script_net.specs.declared.end.ScriptEnd.{ScriptEnd}
 use Rattle.script_net.specs.declared.script_host.ScriptWake.{ScriptWake}
 use Rattle.script_net.specs.Host.{ArePartsOf, HostGives}

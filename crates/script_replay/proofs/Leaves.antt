@@ -1,5 +1,5 @@
 -- From what a run of the server leaves to what one over a script does.
-use Rattle.std.proofs.Common.{◌≡◌, ◌≢◌, ◌≤◌, ◌+◌, ◌*◌, ◌/◌, ◌-◌, ◌==◌, ◌⊎◌, inl, inr, ⊎_elim, arith, ℕ, suc, Bool, true, false, not, ◌&&◌, List, [], ◌∷◌, ◌++◌, length, drop, Option, Some, None, refl, sym, ap, ◌∙◌, subst, length-append}
+use Rattle.std.proofs.Common.{◌≡◌, ◌≤◌, ◌+◌, ◌*◌, ◌/◌, ◌==◌, ◌⊎◌, inl, inr, ⊎_elim, arith, ℕ, suc, Bool, true, false, not, List, [], ◌∷◌, length, drop, Option, None, refl, sym, ap, ◌∙◌, subst, length-append}
 use Rattle.std.specs.List.{list_all, list_any}
 use Rattle.std.proofs.lemmas.Bool.{and_from, and_parts, eqb-true, false≢true}
 use Rattle.std.proofs.lemmas.List.Folds.{list_all-append}
@@ -7,14 +7,12 @@ use Rattle.ev_base.specs.Counts.{Rose}
 use Rattle.ev_base.specs.Terms.{Terms}
 use Rattle.ev_base.specs.declared.end.PeerEnd.{Ghosts}
 use Rattle.reactor_journal.specs.declared.entry.Entry.{Entry}
-use Rattle.reactor_journal.specs.declared.entry.Entry.TheVariants.{Opened, Removed, Closed, Ended}
 use Rattle.reactor_journal.specs.Past.{past_of}
 use Rattle.reactor_journal.specs.Follow.{follows_ready}
-use Rattle.reactor_summary.specs.Summary.{Summary, summary, is_busy}
+use Rattle.reactor_summary.specs.Summary.{Summary, summary}
 use Rattle.reactor_summary.specs.declared.parts.LiveHandle.{LiveHandle}
 use Rattle.reactor_model.specs.Volumes.{VolumesFacts}
 use Rattle.reactor_core.specs.Acting.{StopAppends}
-use Rattle.reactor_core.specs.Beginning.{PartsStand}
 use Rattle.reactor_core.specs.Removing.{AreRemovals, alive_handles}
 use Rattle.reactor_core.specs.Settling.{IsClosing}
 use Rattle.reactor_core.specs.Stands.{Meaning, meaning, HasTaken}
@@ -30,7 +28,7 @@ use Rattle.script_serial.specs.Serial.{Serial}
 use Rattle.tp_reactor.specs.Alone.{RunsTo}
 use Rattle.tp_reactor.specs.declared.working.Ran.{Ran}
 use Rattle.log_handler.specs.declared.note.ServerNote.{ServerNote}
-use Rattle.acceptor.specs.Servers.{servers, read_alone}
+use Rattle.acceptor.specs.Servers.{servers}
 use Rattle.acceptor.specs.declared.server.ServerHandler.{ServerHandler}
 use Rattle.event_script.specs.Script.{ScriptGroup, steps_of, groups_told}
 use Rattle.script_net.specs.NetContent.{NetContent, script_net_facts, script_net_keeps, is_steady}
@@ -50,7 +48,7 @@ use Rattle.server_run.specs.declared.asked.Asked.{Asked}
 use Rattle.server_run.specs.declared.ending.Ending.{Ending}
 use Rattle.server_run.specs.declared.ending.Ending.TheVariants as ending
 use Rattle.server_run.specs.declared.ending.Served.{Served}
-use Rattle.script_replay.specs.Runs.{ForScript, IsScriptRun, IsOfOneWorker, IsRunOrNone, LeavesScript, EndsScript}
+use Rattle.script_replay.specs.Runs.{ForScript, IsScriptRun, IsOfOneWorker, LeavesScript, EndsScript, FailsNet}
 
 -- ---- removals
 
@@ -105,14 +103,8 @@ failed-none net steady =
 none-rose : (now : ℕ) → now ≡ 0 → Rose 0 now → ⊥
 none-rose now none rose = omega (arith, none, rose)
 
--- a fault of the net
-abbrev pub IsNetFault : Ending → Type 0
-IsNetFault ending.NotAttached = Unit {0}
-IsNetFault ending.NetFault = Unit {0}
-IsNetFault _ = ⊥
-
 pub no-net-fault : (net : NetContent) (v w : VolumesFacts ServerNote) (groups : List Group) (how : Ending) → is_steady net ≡ true
-    → FaultRose how (script_net_facts (new_net groups)) (script_net_facts net) v w → IsNetFault how → ⊥
+    → FaultRose how (script_net_facts (new_net groups)) (script_net_facts net) v w → FailsNet how → ⊥
 no-net-fault net v w groups ending.NotAttached steady rose is = none-rose net.failed_attaches (failed-none net steady).1 rose
 no-net-fault net v w groups ending.NetFault steady rose is = none-rose net.failed_waits (failed-none net steady).0 rose
 no-net-fault net v w groups ending.Broken steady rose is = absurd is
@@ -144,7 +136,7 @@ module _ {G : Ghosts ScriptEnd} {W V Q : Type 0} (shows : ReactorState Q → Sum
 
   module _ (armed : Q → List Timer) (t : Terms) (asked : Asked) (groups : List ScriptGroup) (served : Served NetContent Q W V)
       (f : ForScript asked groups t) (unlimited : asked.limit ≡ None) (l : LeavesRun script_meaning armed t asked served)
-      (rose : (how : Ending) → served.ending ≡ how → IsNetFault how → ⊥) where
+      (rose : (how : Ending) → served.ending ≡ how → FailsNet how → ⊥) where
     abbrev net : NetContent
     net = served.parts.net
 

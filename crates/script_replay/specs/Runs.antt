@@ -1,5 +1,5 @@
 -- What the journal of a run of the server over a script says.
-use Rattle.std.specs.Prelude.{◌≡◌, ◌≤◌, ◌⊎◌, ◌+◌, ◌*◌, ◌/◌, ℕ, List, [], ◌∷◌, ◌++◌, drop, length, Bool, true, Option, Some, None}
+use Rattle.std.specs.Prelude.{◌≡◌, ◌≤◌, ◌⊎◌, ◌+◌, ◌*◌, ◌/◌, ℕ, List, [], ◌∷◌, ◌++◌, drop, length, true, Some, None}
 use Rattle.ev_base.specs.Terms.{Terms}
 use Rattle.ev_base.specs.declared.end.PeerEnd.{Ghosts}
 use Rattle.reactor_journal.specs.declared.entry.Entry.{Entry}
@@ -40,6 +40,12 @@ EndsScript asked groups ending.NetFault journal run = ⊥
 EndsScript asked groups ending.Broken journal run = Unit {0}
 EndsScript asked groups ending.NoMemory journal run = Unit {0}
 EndsScript asked groups ending.VolumeFault journal run = Unit {0}
+
+-- an ending by a fault of the net
+abbrev pub FailsNet : Ending → Type 0
+FailsNet ending.NotAttached = Unit {0}
+FailsNet ending.NetFault = Unit {0}
+FailsNet _ = ⊥
 
 -- The journal of a run over a script that ended so: it is legal, was stopped, and each handle that was opened was closed; it began with the
 -- registration of the acceptor, if a handler was registered at all, and before its end it goes by turns alone; notifications are for the

@@ -2,6 +2,11 @@
 //! chapter 4; scripts are this project's own).
 #![tactic(auto)]
 
+mod ends;
+mod forms;
 mod playing;
+mod replaying;
 
+pub use ends::{Played, ReplayEnd, Replayed};
 pub use playing::play;
+pub use replaying::{replay, run_script};

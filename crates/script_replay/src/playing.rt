@@ -1,5 +1,5 @@
 //! A run of the server over a script.
-ghost use Rattle.std.specs.Prelude.{◌≡◌, List, None, true};
+ghost use Rattle.std.specs.Prelude.{◌≡◌, List, None, Some, true};
 ghost use Rattle.ev_base.specs.Terms.{Terms};
 ghost use Rattle.ev_base.specs.Counts.{Rose};
 ghost use Rattle.event_script.specs.Script.{ScriptGroup};
@@ -9,7 +9,7 @@ ghost use Rattle.script_net.specs.Hosts.{new_net};
 ghost use Rattle.script_net.specs.NetContent.{script_net_facts};
 ghost use Rattle.script_net.specs.ScriptEnd.{script_end_facts, ScriptEndKeeps};
 ghost use Rattle.script_replay.specs.Playing.{CanPlay};
-ghost use Rattle.script_replay.specs.Runs.{ForScript, LeavesScript};
+ghost use Rattle.script_replay.specs.Runs.{FailsNet, ForScript, LeavesScript};
 
 use acceptor::ServerHandler;
 use chosen_timers::ChosenTimers;
@@ -65,7 +65,7 @@ fn ground<W: Watch<ServerNote>, V: Volumes<ServerNote>>(
     }
 }
 
-/// Runs the server over a net that plays the script of a text.
+/// Runs the server over a net that plays a script. What it leaves is said of each text that the script is of.
 pub fn play<R: Threads + Wait + Sync, W: Watch<ServerNote> + Send, V: Volumes<ServerNote> + Send>(
     rt: &R,
     alloc: Global,
@@ -75,12 +75,13 @@ pub fn play<R: Threads + Wait + Sync, W: Watch<ServerNote> + Send, V: Volumes<Se
     watch: W,
     volumes: V,
 ) -> Served<ScriptNet, ChosenTimers, W, V>
-    ghost given: { Terms × List ScriptGroup }
+    ghost terms: { Terms }
     requires fine { IsFine asked }
-    requires can { CanPlay W.stands V.facts asked script timers watch volumes given.0 }
-    requires script { ForScript asked given.1 given.0 }
+    requires can { CanPlay W.stands V.facts asked script timers watch volumes terms }
+    requires steady { terms.steady ≡ Some true }
     requires limit { asked.limit ≡ None }
-    ensures leaves { LeavesScript ⟦<ScriptEnd as PeerEnd>⟧ W.stands V.facts given.0 asked given.1 result }
+    ensures leaves { (groups : List ScriptGroup) → ForScript asked groups terms → LeavesScript ⟦<ScriptEnd as PeerEnd>⟧ W.stands V.facts terms asked groups result }
+    ensures net { FailsNet result.ending → ⊥ }
     ensures broken { W.is_broken result.parts.watch ≡ true → result.ending ≡ Ending.Broken }
     ensures volumes { result.ending ≡ Ending.VolumeFault → Rose (V.facts volumes).faults (V.facts result.parts.volumes).faults }
 {

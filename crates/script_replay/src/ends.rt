@@ -1,0 +1,49 @@
+//! How a replay ends, and what it leaves.
+use log_handler::ServerNote;
+use reactor_model::Journal;
+
+/// How a replay ended. Of several faults of a run the first in this order is told.
+#[derive(Clone, Copy, PartialEq, Eq, Debug)]
+pub enum ReplayEnd {
+    /// The run ended as it was asked to: nothing could be reported any more, or by its notice. All was written.
+    Done,
+    /// This line, from 1, is the first that is none of a script's text. Nothing was served.
+    BadText {
+        /// The number of the line.
+        line: u64,
+    },
+    /// A read failed. Nothing was served.
+    ReadFault,
+    /// A write failed, behind which nothing was written.
+    WriteFault,
+    /// There was no memory.
+    NoMemory,
+    /// As many bytes as the limit were read, and one more was there. Nothing was served.
+    TooLong,
+    /// A volume of the journal was not taken.
+    VolumeFault,
+}
+
+/// What a run over a script leaves.
+#[derive(Drop)]
+pub struct Played<K, V> {
+    /// How it ended.
+    pub end: ReplayEnd,
+    /// The entries of its journal that were not handed over, from number `first` on.
+    pub journal: Journal<ServerNote>,
+    /// How many entries were handed over.
+    pub first: u64,
+    /// The sink that was handed in.
+    pub output: K,
+    /// The keeper of volumes that was handed in.
+    pub volumes: V,
+}
+
+/// What a replay leaves.
+#[derive(Drop)]
+pub struct Replayed<S, K, V> {
+    /// The source that was handed in.
+    pub input: S,
+    /// What the run over the script leaves, or, where nothing was served, an empty journal and all that was handed in.
+    pub played: Played<K, V>,
+}
