@@ -37,6 +37,9 @@ use Rattle.script_net.specs.declared.end.ScriptEnd.{ScriptEnd}
 use Rattle.script_runs.specs.Runs as runs
 use Rattle.script_served.specs.Served.{ServesScript, FollowsScript, EndsWithOver}
 use Rattle.script_served.proofs.Following.{follows-script, ends-over, runs-over}
+use Rattle.script_served.proofs.Scripts.{text-steps}
+use Rattle.script_taken.specs.Laws.{RunsSomehow}
+use Rattle.script_taken.proofs.Connections.{connections_taken}
 use Rattle.serial_rounds.specs.Alone.{RunsAlone}
 use Rattle.serial_rounds.proofs.Whole.{serial}
 use Rattle.few_entries.specs.Few.{all_bytes, quiet_groups}
@@ -178,6 +181,20 @@ module _ {G : Ghosts ScriptEnd} {W V Q : Type 0} (shows : ReactorState Q → Sum
       no-notice : asked.until ≡ None → list_any runs.is_notice l.journal ≡ false
       no-notice none = subst (λ (until : Option ℕ). HasNotices until l.journal) none r.notices
 
+      runs-somehow : RunsSomehow {H = ServerHandler ScriptEnd G} (servers {G = G} script_end_facts ScriptEndKeeps) t asked.idle groups l.journal
+      runs-somehow = record {
+        script = text-steps f.text groups f.is_text;
+        whole = r.whole;
+        run = r.run;
+        closing = r.closing;
+        is = r.is;
+        begins = r.begins;
+        acts = record { asks = λ up deed may. may; installs = λ said. refl };
+        turned = r.turned;
+        offers = r.offers;
+        turns = follows.turns;
+      }
+
       pub is-run : IsScriptRun G t asked groups served.ending l.journal
       is-run = record {
         whole = subst (λ (n : ℕ). IsWhole n l.journal) f.most r.whole;
@@ -186,8 +203,10 @@ module _ {G : Ghosts ScriptEnd} {W V Q : Type 0} (shows : ReactorState Q → Sum
         is = r.is;
         begins = r.begins;
         turned = r.turned;
+        offers = r.offers;
         notices = r.notices;
         follows = follows;
+        taken = connections_taken (servers {G = G} script_end_facts ScriptEndKeeps) t asked.idle groups l.journal runs-somehow;
         ends = ends-so served.ending refl r.ends;
         over = λ over none. runs-over G t groups asked.idle l.journal net (serves r.whole) (ended-over (subst (λ (how : Ending). EndsSo asked.until (script_net_facts net) how r.run r.closing) over r.ends)) (no-notice none);
       }

@@ -1,5 +1,6 @@
 -- What the journal of a run of the server over a script says.
 use Rattle.std.specs.Prelude.{◌≡◌, ◌≤◌, ◌⊎◌, ◌+◌, ◌*◌, ◌/◌, ℕ, List, [], ◌∷◌, ◌++◌, drop, length, true, Some, None}
+use Rattle.std.specs.List.{list_any}
 use Rattle.ev_base.specs.Terms.{Terms}
 use Rattle.ev_base.specs.declared.end.PeerEnd.{Ghosts}
 use Rattle.reactor_journal.specs.declared.entry.Entry.{Entry}
@@ -21,6 +22,8 @@ use Rattle.script_runs.specs.Runs.{IsWhole}
 use Rattle.script_runs.specs.Runs as runs
 use Rattle.script_serial.specs.Serial.{Serial}
 use Rattle.script_served.specs.Served.{FollowsScript}
+use Rattle.script_taken.specs.Laws.{OffersEach}
+use Rattle.script_taken.specs.Taken.{accepts_connection, IsTaken}
 use Rattle.script_served.specs.Terms.{HaveScript}
 use Rattle.few_entries.specs.Few.{all_bytes, quiet_groups}
 use Rattle.server_run.specs.Journals.{BeginsSo, EndsByNotice, HasNotices}
@@ -48,9 +51,11 @@ FailsNet ending.NetFault = Unit {0}
 FailsNet _ = ⊥
 
 -- The journal of a run over a script that ended so: it is legal, was stopped, and each handle that was opened was closed; it began with the
--- registration of the acceptor, if a handler was registered at all, and before its end it goes by turns alone; notifications are for the
--- acceptor, and stand only where a notice was asked for; it follows the script, and no handler was refused for a fault. Where no notice was
--- asked for and nothing could be reported any more, it ran over the whole script.
+-- registration of the acceptor, if a handler was registered at all, and before its end it goes by turns alone; behind its end each handler
+-- that a turn installs is registered or refused directly behind that turn, where one `Closed` may stand between; notifications are for the
+-- acceptor, and stand only where a notice was asked for; it follows the script, and no handler was refused for a fault; each connection that
+-- it notes as accepted took a front of its bytes, noted the records of these, and was closed once, with a word that has its cause. Where no notice
+-- was asked for and nothing could be reported any more, it ran over the whole script.
 pub record IsScriptRun (G : Ghosts ScriptEnd) (t : Terms) (asked : Asked) (groups : List ScriptGroup) (how : Ending) (journal : List (Entry ServerNote)) : Type 0 where
   pub whole : IsWhole (asked.connections + 1) journal
   pub run : List (Entry ServerNote)
@@ -58,8 +63,10 @@ pub record IsScriptRun (G : Ghosts ScriptEnd) (t : Terms) (asked : Asked) (group
   pub is : journal ≡ run ++ Ended ∷ closing
   pub begins : BeginsSo run
   pub turned : DispatchedByTurns {H = ServerHandler ScriptEnd G} (servers script_end_facts ScriptEndKeeps) t 1 run
+  pub offers : OffersEach {H = ServerHandler ScriptEnd G} (servers script_end_facts ScriptEndKeeps) closing
   pub notices : HasNotices asked.until journal
   pub follows : FollowsScript groups asked.idle journal
+  pub taken : (c : ℕ) → list_any (accepts_connection c) journal ≡ true → IsTaken (steps_of groups) asked.idle journal c
   pub ends : EndsScript asked groups how journal run
   pub over : how ≡ ending.Over → asked.until ≡ None → RunsOver {H = ServerHandler ScriptEnd G} (servers script_end_facts ScriptEndKeeps) t asked.idle groups journal
 

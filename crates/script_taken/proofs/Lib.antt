@@ -7,5 +7,6 @@ pub mod Hearing
 pub mod Whole
 pub mod Closing
 pub mod Taking
+pub mod Connections
 pub mod Accepted
 pub mod Offered
