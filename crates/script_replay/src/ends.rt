@@ -16,7 +16,7 @@ pub enum ReplayEnd {
     ReadFault,
     /// A write failed, behind which nothing was written.
     WriteFault,
-    /// There was no memory.
+    /// There was no memory. Text that is grouped was not written then; nor is it where entries were handed over, of which it is made too.
     NoMemory,
     /// As many bytes as the limit were read, and one more was there. Nothing was served.
     TooLong,
