@@ -99,7 +99,11 @@ fn scripts_are_replayed(rt: HostRuntime) -> Result<(), Fail> {
         };
         let input = SteadySource::new(text);
         let replayed = replay(&rt, rt.alloc(), options, input, sink, DropVolumes, 1_000);
-        assert_eq!(rt; replayed.played.output.bytes(), output.as_bytes(), "{script}");
+        assert_eq!(rt;
+            replayed.played.output.bytes(),
+            output.as_bytes(),
+            "{script}"
+        );
         assert_eq!(rt; replayed.played.end, end, "{script}");
     }
     Ok(())
