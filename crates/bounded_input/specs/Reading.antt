@@ -48,3 +48,18 @@ ReadsWhole limit i bytes ending.Over j = IsReadToEnd j × TakesInput limit false
 ReadsWhole limit i bytes ending.Failed j = TakesInput limit true i j bytes []
 ReadsWhole limit i bytes ending.TooLong j = IsTooLong limit i j bytes
 ReadsWhole limit i bytes ending.NoMemory j = (taken : List ℕ) × TakesInput limit false i j taken []
+
+-- the input was read to its end, and these are its bytes
+pub record IsReadWhole (limit : ℕ) (i j : SourceFacts) (text : List ℕ) : Type 0 where
+  pub takes : TakesInput limit false i j text []
+  pub over : IsReadToEnd j
+
+-- some bytes were read, and no read failed; or the read behind them failed; or one byte more than the limit was there
+abbrev pub ReadsSome : ℕ → SourceFacts → SourceFacts → Type 0
+ReadsSome limit i j = (taken : List ℕ) × TakesInput limit false i j taken []
+
+abbrev pub ReadsUpToFault : ℕ → SourceFacts → SourceFacts → Type 0
+ReadsUpToFault limit i j = (taken : List ℕ) × TakesInput limit true i j taken []
+
+abbrev pub ReadsTooLong : ℕ → SourceFacts → SourceFacts → Type 0
+ReadsTooLong limit i j = (taken : List ℕ) × IsTooLong limit i j taken

@@ -51,7 +51,12 @@ abbrev pub GaveNoOffer : Option Offering → Type 0
 GaveNoOffer None = Unit {0}
 GaveNoOffer (Some o) = o.given ≡ []
 
--- an end that has made no call and given nothing
+-- nothing was written yet, where it is told
+abbrev pub WroteNothing : Option (List ℕ) → Type 0
+WroteNothing None = Unit {0}
+WroteNothing (Some written) = written ≡ []
+
+-- an end that has made no call, given nothing and written nothing
 pub record IsFresh (e : EndFacts) : Type 0 where
   pub reads : e.reads ≡ 0
   pub last_read : e.last_read ≡ None
@@ -61,6 +66,7 @@ pub record IsFresh (e : EndFacts) : Type 0 where
   pub gave : e.gave ≡ 0
   pub over : e.over ≡ false
   pub bytes : HasGiven e.bytes []
+  pub written : WroteNothing e.written
   pub telling : GaveNoPart e.telling
   pub offering : GaveNoOffer e.offering
 
