@@ -63,6 +63,14 @@ decode t = record {
   stop = stop_at (taken_of t) (length (left_of t)) (first_of (left_of t));
 }
 
+-- the record of a list that is read as one record, with nothing left behind it
+abbrev pub record_alone : List LogRecord → List ℕ → Option LogRecord
+record_alone (entry ∷ []) [] = Some entry
+record_alone _ _ = None
+
+abbrev pub only_record : List ℕ → Option LogRecord
+only_record t = record_alone (records_of t) (left_of t)
+
 -- the bad record at a place where this stands first
 abbrev pub bad_at : ℕ → First → Option Bad
 bad_at place (first.Bad why) = Some (record { at = told place; why = why })

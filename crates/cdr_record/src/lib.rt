@@ -16,6 +16,7 @@ mod decoder;
 mod encoding;
 mod grammar;
 pub mod laws;
+mod one_record;
 mod record;
 
 pub use bad::{Bad, BadWhy};
@@ -23,4 +24,5 @@ pub use bytes::Bytes;
 pub use decoder::{Decoder, Fed};
 pub use encoding::{EncodeRefused, encode, encode_2};
 pub use grammar::{First, first_in};
+pub use one_record::only_record;
 pub use record::{LogRecord, Order, Records};

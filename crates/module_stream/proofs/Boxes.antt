@@ -1,51 +1,55 @@
 -- What came back through a line.
 use Rattle.std.proofs.Common.{◌≡◌, Bool, true, false, true≢false, List, [], ◌∷◌, ◌++◌, refl, sym, ap, ◌∙◌, append_assoc, append-nil}
-use Rattle.std.proofs.lemmas.List.{map-append}
+use Rattle.std.proofs.lemmas.List.{map-append, flat_map_more}
 use Rattle.message_block.specs.Messages.{MessageState}
 use Rattle.module_stream.specs.declared.line.Item.{Item}
 use Rattle.module_stream.specs.declared.line.Item.TheVariants.{One, Stop}
 use Rattle.module_stream.specs.declared.inbox.Inbox.{Inbox}
-use Rattle.module_stream.specs.Boxes.{ones, stop_if, IsIn}
+use Rattle.module_stream.specs.Boxes.{ones, each_of, singly, stop_if, IsIn}
 
 -- one more message goes through
 pub ones_more : (messages : List MessageState) (message : MessageState) → ones messages ++ One message ∷ [] ≡ ones (messages ++ message ∷ [])
 ones_more messages message = sym (map-append One messages (message ∷ []))
 
--- one more message came, where the end did not
-one_came : (got : List Item) (messages all : List MessageState) (message : MessageState) (over : Bool) → over ≡ false →
-    got ≡ ones messages ++ stop_if over → messages ++ message ∷ [] ≡ all → got ++ One message ∷ [] ≡ ones all ++ stop_if over
-one_came got messages all message true going is more = absurd (true≢false going)
-one_came got messages all message false going is more =
-    ap (λ l. l ++ One message ∷ []) (is ∙ append-nil (ones messages)) ∙ ones_more messages message ∙ ap ones more ∙ sym (append-nil (ones all))
+-- one item more, message by message
+pub singly_more : (items : List Item) (item : Item) → singly (items ++ item ∷ []) ≡ singly items ++ each_of item
+singly_more items item = sym (flat_map_more each_of [] items item)
 
--- it is dropped, since one before it was
-pub in_dropped : (got : List Item) (base : List MessageState) (inbox : Inbox) (message : MessageState) → inbox.over ≡ false → inbox.lost ≡ true →
-    IsIn got base inbox → IsIn (got ++ One message ∷ []) base inbox
-in_dropped got base inbox message going lost h = record {
-  dropped = h.dropped ++ message ∷ [];
+-- more messages came, where the end did not
+more_came : (got : List Item) (messages more all : List MessageState) (over : Bool) → over ≡ false →
+    got ≡ ones messages ++ stop_if over → messages ++ more ≡ all → got ++ ones more ≡ ones all ++ stop_if over
+more_came got messages more all true going is joined = absurd (true≢false going)
+more_came got messages more all false going is joined =
+    ap (λ l. l ++ ones more) (is ∙ append-nil (ones messages)) ∙ sym (map-append One messages more) ∙ ap ones joined ∙ sym (append-nil (ones all))
+
+-- they are dropped, since one before them was
+pub in_dropped : (got : List Item) (base : List MessageState) (inbox : Inbox) (more : List MessageState) → inbox.over ≡ false → inbox.lost ≡ true →
+    IsIn got base inbox → IsIn (got ++ ones more) base inbox
+in_dropped got base inbox more going lost h = record {
+  dropped = h.dropped ++ more;
   none = λ e. absurd (true≢false (sym lost ∙ e));
-  all = one_came got ((base ++ inbox.messages.items) ++ h.dropped) _ message inbox.over going h.all (append_assoc (base ++ inbox.messages.items) h.dropped (message ∷ []));
+  all = more_came got ((base ++ inbox.messages.items) ++ h.dropped) more _ inbox.over going h.all (append_assoc (base ++ inbox.messages.items) h.dropped more);
 }
 
--- it is dropped for want of memory
-pub in_lost : (got : List Item) (base : List MessageState) (old new : Inbox) (message : MessageState) → old.over ≡ false → old.lost ≡ false → new.lost ≡ true →
-    new.messages.items ≡ old.messages.items → new.over ≡ old.over → IsIn got base old → IsIn (got ++ One message ∷ []) base new
-in_lost got base old new message going whole lost same over h = record {
-  dropped = message ∷ [];
+-- they are dropped for want of memory
+pub in_lost : (got : List Item) (base : List MessageState) (old new : Inbox) (more : List MessageState) → old.over ≡ false → old.lost ≡ false → new.lost ≡ true →
+    new.messages.items ≡ old.messages.items → new.over ≡ old.over → IsIn got base old → IsIn (got ++ ones more) base new
+in_lost got base old new more going whole lost same over h = record {
+  dropped = more;
   none = λ e. absurd (true≢false (sym lost ∙ e));
-  all = rw (same, over) (one_came got ((base ++ old.messages.items) ++ h.dropped) ((base ++ old.messages.items) ++ message ∷ []) message old.over going h.all
-      (ap (λ l. ((base ++ old.messages.items) ++ l) ++ message ∷ []) (h.none whole) ∙ ap (λ l. l ++ message ∷ []) (append-nil (base ++ old.messages.items))));
+  all = rw (same, over) (more_came got ((base ++ old.messages.items) ++ h.dropped) more ((base ++ old.messages.items) ++ more) old.over going h.all
+      (ap (λ l. ((base ++ old.messages.items) ++ l) ++ more) (h.none whole) ∙ ap (λ l. l ++ more) (append-nil (base ++ old.messages.items))));
 }
 
--- it is kept
-pub in_kept : (got : List Item) (base : List MessageState) (old new : Inbox) (message : MessageState) → old.over ≡ false → old.lost ≡ false → new.lost ≡ false →
-    new.messages.items ≡ old.messages.items ++ message ∷ [] → new.over ≡ old.over → IsIn got base old → IsIn (got ++ One message ∷ []) base new
-in_kept got base old new message going whole lost more over h = record {
+-- they are kept
+pub in_kept : (got : List Item) (base : List MessageState) (old new : Inbox) (more : List MessageState) → old.over ≡ false → old.lost ≡ false → new.lost ≡ false →
+    new.messages.items ≡ old.messages.items ++ more → new.over ≡ old.over → IsIn got base old → IsIn (got ++ ones more) base new
+in_kept got base old new more going whole lost joined over h = record {
   dropped = [];
   none = λ _. refl;
-  all = rw (more, over) (one_came got ((base ++ old.messages.items) ++ h.dropped) ((base ++ (old.messages.items ++ message ∷ [])) ++ []) message old.over going h.all
-      (ap (λ l. ((base ++ old.messages.items) ++ l) ++ message ∷ []) (h.none whole) ∙ ap (λ l. l ++ message ∷ []) (append-nil (base ++ old.messages.items))
-      ∙ append_assoc base old.messages.items (message ∷ []) ∙ sym (append-nil (base ++ (old.messages.items ++ message ∷ [])))));
+  all = rw (joined, over) (more_came got ((base ++ old.messages.items) ++ h.dropped) more ((base ++ (old.messages.items ++ more)) ++ []) old.over going h.all
+      (ap (λ l. ((base ++ old.messages.items) ++ l) ++ more) (h.none whole) ∙ ap (λ l. l ++ more) (append-nil (base ++ old.messages.items))
+      ∙ append_assoc base old.messages.items more ∙ sym (append-nil (base ++ (old.messages.items ++ more)))));
 }
 
 -- the end came

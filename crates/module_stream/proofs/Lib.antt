@@ -3,5 +3,6 @@ pub mod Alone
 pub mod Moves
 pub mod Steps
 pub mod Boxes
+pub mod Giving
 pub mod Passes
 pub mod Settling

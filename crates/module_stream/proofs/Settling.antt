@@ -2,7 +2,7 @@
 use Rattle.std.proofs.Common.{◌≡◌, Bool, true, false, true≢false, List, [], ◌∷◌, ◌++◌, get_or, drop, refl, sym, ap, ◌∙◌, subst}
 use Rattle.message_block.specs.Messages.{MessageState}
 use Rattle.module_stream.specs.declared.line.Item.{Item}
-use Rattle.module_stream.specs.declared.line.Item.TheVariants.{One, Stop}
+use Rattle.module_stream.specs.declared.line.Item.TheVariants.{One, Many, Stop}
 use Rattle.module_stream.specs.Boxes.{ones, stop_if}
 use Rattle.module_stream.specs.Progress.{Gives, Progress}
 use Rattle.module_stream.proofs.Steps.{progress_dropped}
@@ -10,10 +10,12 @@ use Rattle.module_stream.proofs.Steps.{progress_dropped}
 is_stop : Item → Bool
 is_stop Stop = true
 is_stop (One message) = false
+is_stop (Many batch) = false
 
 message_or : MessageState → Item → MessageState
 message_or other Stop = other
 message_or other (One message) = message
+message_or other (Many batch) = other
 
 first_is : (x y : Item) (xs ys : List Item) → x ∷ xs ≡ y ∷ ys → x ≡ y
 first_is x y xs ys e = ap (λ l. get_or l 0 x) e

@@ -6,15 +6,15 @@ use Rattle.module_stream.specs.declared.active.ActiveTask.{ActiveTask}
 use Rattle.module_stream.specs.declared.active.Beside.{Beside}
 use Rattle.module_stream.specs.declared.active.Runner.{Runner}
 use Rattle.module_stream.specs.declared.active.Runner.TheVariants as runner
-use Rattle.module_stream.specs.Boxes.{ones, IsIn}
+use Rattle.module_stream.specs.Boxes.{ones, singly, IsIn}
 use Rattle.module_stream.specs.Progress.{Gives, Progress}
 
 -- A thread works on a task that gave `first` when it began. These messages were sent to it, and of those that came back these were
 -- answered, the rest is in the inbox, and none was lost.
 pub record RunsBeside {T : Type 0} (gives : T → Gives) (first : Gives) (put answered : List MessageState) (beside : Beside T) : Type 0 where
   pub task : gives beside.child.promise.task.value ≡ first
-  pub sent : (view beside.lines.puts).sent ≡ ones put
-  pub came : IsIn (view beside.lines.takes).got answered beside.lines.inbox
+  pub sent : singly (view beside.lines.puts).sent ≡ ones put
+  pub came : IsIn (singly (view beside.lines.takes).got) answered beside.lines.inbox
   pub whole : beside.lines.inbox.lost ≡ false
 
 -- A task that gave `first` when it began runs: these messages were put, and these were answered.

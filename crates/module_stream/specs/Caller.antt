@@ -5,7 +5,7 @@ use Rattle.message_block.specs.Messages.{MessageState}
 use Rattle.module_stream.specs.declared.line.Item.{Item}
 use Rattle.module_stream.specs.declared.line.Item.TheVariants.{Stop}
 use Rattle.module_stream.specs.declared.lines.Lines.{Lines}
-use Rattle.module_stream.specs.Boxes.{ones, IsIn}
+use Rattle.module_stream.specs.Boxes.{ones, singly, IsIn}
 
 -- the lines are the same two
 abbrev pub AreSame : Lines → Lines → Type 0
@@ -17,9 +17,9 @@ HasSent old item new = (view new.puts).sent ≡ (view old.puts).sent ++ item ∷
 
 -- what came in between is in the inbox
 abbrev pub KeepsWhatCame : Lines → Lines → Type 0
-KeepsWhatCame old new = (answered : List MessageState) → IsIn (view old.takes).got answered old.inbox → IsIn (view new.takes).got answered new.inbox
+KeepsWhatCame old new = (answered : List MessageState) → IsIn (singly (view old.takes).got) answered old.inbox → IsIn (singly (view new.takes).got) answered new.inbox
 
 -- These messages were sent and then the end, and what came back is the messages that were answered and those in the inbox, to the end.
 pub record HasStopped (put answered : List MessageState) (lines : Lines) : Type 0 where
-  pub sent : (view lines.puts).sent ≡ ones put ++ Stop ∷ []
-  pub came : IsIn (view lines.takes).got answered lines.inbox
+  pub sent : singly (view lines.puts).sent ≡ ones put ++ Stop ∷ []
+  pub came : IsIn (singly (view lines.takes).got) answered lines.inbox

@@ -1,4 +1,5 @@
 pub mod Composition
+pub mod Flows
 pub mod Passing
 pub mod Tasks
 pub mod Growing

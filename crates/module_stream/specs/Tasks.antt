@@ -1,25 +1,13 @@
 -- What the tasks of this crate give for a message.
 use Rattle.std.specs.Prelude.{ℕ, nat_lt, if◌then◌else◌, List, [], ◌∷◌, ◌++◌, length, Option, Some, None}
-use Rattle.message_block.specs.Messages.{BlockState, MessageState, bytes_of}
+use Rattle.message_block.specs.Messages.{MessageState, block_of, bytes_of}
 use Rattle.cdr_record.specs.declared.record.LogRecord.{LogRecord}
-use Rattle.cdr_record.specs.Decoding.{decode, left_of}
+use Rattle.cdr_record.specs.Decoding.{only_record}
 use Rattle.log_lines.specs.Texts.{record_text}
-
--- a block of these bytes, without space
-abbrev pub block_of : List ℕ → BlockState
-block_of bytes = record { bytes = bytes; space = 0 }
 
 -- the text of a record as a message of one block
 abbrev pub text_message : ℕ → LogRecord → MessageState
 text_message priority entry = record { priority = priority; blocks = block_of (record_text entry) ∷ [] }
-
--- the record of bytes that are read as one record, with nothing left behind it
-abbrev pub record_alone : List LogRecord → List ℕ → Option LogRecord
-record_alone (entry ∷ []) [] = Some entry
-record_alone _ _ = None
-
-abbrev pub only_record : List ℕ → Option LogRecord
-only_record bytes = record_alone (decode bytes).records (left_of bytes)
 
 -- the text of a record, with the priority of the message that it was; a message that is no record stays as it is
 abbrev pub text_or : MessageState → Option LogRecord → MessageState

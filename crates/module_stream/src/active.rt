@@ -1,10 +1,11 @@
 //! Active tasks.
-ghost use Rattle.std.specs.Prelude.{◌≡◌, [], ◌∷◌, ◌++◌, List, IfOk, OnOk, OnErr, IfErr, false};
+ghost use Rattle.std.specs.Prelude.{◌≡◌, ◌≤◌, [], ◌∷◌, ◌++◌, List, length, IfOk, OnOk, OnErr, IfErr, false};
 ghost use Rattle.crossbeam_queue.specs.Passes.{view, IsPassOf};
 ghost use Rattle.message_block.specs.Messages.{MessageState};
 ghost use Rattle.module_stream.specs.Progress.{Gives, Begins, Progress};
 ghost use Rattle.module_stream.specs.Works.{HasWorked};
 
+use crate::batch::Batch;
 use crate::here::{Here, settle};
 use crate::line::Item;
 use crate::lines::{Lines, open};
@@ -17,7 +18,8 @@ use std::snapshot::Snapshot;
 use std::sync::Wait;
 use std::thread::{self, PromisedHandle, Threads};
 
-/// A task that runs on a thread of its own. Messages go to it through a queue of 64, and what comes out comes back through another.
+/// A task that runs on a thread of its own. Messages go to it through a queue of 64 places, one by one or some together, and what comes
+/// out comes back through another.
 /// Whoever waits for the other looks a few times and then sleeps.
 /// Where no thread can be started, the caller runs the task inside `put` and `finish`. An active task is ended by `finish` and
 /// cannot be let go otherwise, so that no thread is left behind.
@@ -67,7 +69,7 @@ impl<T: Task + Send + 'static> ActiveTask<T> {
             ensures { HasWorked T.gives task side.takes side.puts result }
         {
             let (side, task) = (side, task);
-            work(&own, side, task)
+            work(&own, alloc, side, task)
         };
         match thread::spawn_with(rt, promise, there) {
             Ok(child) => Ok(ActiveTask {
@@ -98,6 +100,26 @@ impl<T: Task + Send + 'static> ActiveTask<T> {
         match &mut self.runner {
             Runner::Beside(beside) => beside.put(rt, m),
             Runner::Here(here) => Ok(Messages::new(here.put(m))),
+        }
+    }
+
+    /// Puts messages in order, at most 256, as `put` does one: they go to the thread together.
+    pub fn put_all<R: Wait>(
+        &mut self,
+        rt: &R,
+        messages: Messages,
+    ) -> Result<Messages, (Messages, NoMemory)>
+        requires { length messages ≤ 256 }
+        ensures given { (first : Gives) (put answered : List MessageState) → Runs T.gives first put answered self.old
+            → IfOk result (λ out. Runs T.gives first (put ++ messages) (answered ++ out) self.new) }
+        ensures none_kept { OnOk result (KeepsNone self.new) }
+        ensures refused { IfErr result (λ refusal. refusal.0 ≡ messages) }
+        ensures unchanged { (first : Gives) (put answered : List MessageState) → Runs T.gives first put answered self.old
+            → OnErr result (Runs T.gives first put answered self.new) }
+    {
+        match &mut self.runner {
+            Runner::Beside(beside) => beside.put_all(rt, messages),
+            Runner::Here(here) => Ok(Messages::new(here.put_all(messages.into_vec()))),
         }
     }
 
@@ -133,7 +155,32 @@ impl<T: Task> Beside<T> {
         match self.lines.put(rt, Item::One(m)) {
             Ok(()) => Ok(Messages::new(self.lines.inbox.take())),
             Err(Item::One(back)) => Err((back, NoMemory)),
-            Err(Item::Stop) => unreachable!("what is given back is what was put"),
+            Err(_) => unreachable!("what is given back is what was put"),
+        }
+    }
+
+    /// Sends messages together, and gives what has come back.
+    fn put_all<R: Wait>(
+        &mut self,
+        rt: &R,
+        messages: Messages,
+    ) -> Result<Messages, (Messages, NoMemory)>
+        requires { length messages ≤ 256 }
+        ensures given { (first : Gives) (put answered : List MessageState) → RunsBeside T.gives first put answered self.old
+            → IfOk result (λ out. RunsBeside T.gives first (put ++ messages) (answered ++ out) self.new) }
+        ensures none_kept { OnOk result (self.new.lines.inbox.messages.items ≡ []) }
+        ensures refused { IfErr result (λ refusal. refusal.0 ≡ messages) }
+        ensures unchanged { (first : Gives) (put answered : List MessageState) → RunsBeside T.gives first put answered self.old
+            → OnErr result (RunsBeside T.gives first put answered self.new) }
+    {
+        let batch = Batch::new(messages.into_vec());
+        match self.lines.put(rt, Item::Many(batch)) {
+            Ok(()) => {
+                let came = self.lines.inbox.take();
+                Ok(Messages::new(came))
+            }
+            Err(Item::Many(back)) => Err((Messages::new(back.messages), NoMemory)),
+            Err(_) => unreachable!("what is given back is what was put"),
         }
     }
 

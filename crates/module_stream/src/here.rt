@@ -48,6 +48,7 @@ pub(crate) fn settle<T: Task>(lines: Lines, worker: Worker<T>) -> Here<T>
         takes: their_takes,
         puts: mut their_puts,
         lost,
+        gathered: _,
     } = worker;
     feed.absorb::<Ends>(&mut puts, their_takes);
     feed.learn_as::<Total>(&mut puts);
@@ -68,6 +69,19 @@ impl<T: Task> Here<T> {
         ensures held { self.new.held.items ≡ [] }
     {
         self.take(message);
+        let none = Vec::new(*self.held.allocator());
+        mem::replace(&mut self.held, none)
+    }
+
+    /// Puts messages into the task in order, and gives what has come out.
+    pub(crate) fn put_all(&mut self, messages: Vec<Message>) -> Vec<Message>
+        ensures given { (first : Gives) (put answered : List MessageState) → Progress first put (answered ++ self.old.held.items) self.old.lost (T.gives self.old.task)
+            → Progress first (put ++ messages.items) (answered ++ result.items) self.new.lost (T.gives self.new.task) }
+        ensures held { self.new.held.items ≡ [] }
+    {
+        for message in messages {
+            self.take(message);
+        }
         let none = Vec::new(*self.held.allocator());
         mem::replace(&mut self.held, none)
     }

@@ -1,9 +1,10 @@
 //! What came back.
-ghost use Rattle.std.specs.Prelude.{◌≡◌, ◌<◌, [], ◌∷◌, ◌++◌, List, true, false, vec_len, vec_capacity};
+ghost use Rattle.std.specs.Prelude.{◌≡◌, ◌<◌, ◌≤◌, ◌+◌, [], ◌∷◌, ◌++◌, List, true, false, vec_len, vec_capacity};
 ghost use Rattle.message_block.specs.Messages.{MessageState};
 ghost use Rattle.module_stream.specs.declared.line.Item.{Item};
-ghost use Rattle.module_stream.specs.Boxes.{IsIn};
+ghost use Rattle.module_stream.specs.Boxes.{IsIn, each_of, ones};
 
+use crate::batch::Batch;
 use crate::line::Item;
 use message_block::Message;
 use std::alloc::Global;
@@ -36,12 +37,13 @@ impl Inbox {
     /// Accepts what came. Where there is no memory for a message it is lost, and all behind it.
     pub(crate) fn accept(&mut self, item: Item)
         requires { self.old.over ≡ false }
-        ensures accepted { (got : List Item) (base : List MessageState) → IsIn got base self.old → IsIn (got ++ item ∷ []) base self.new }
-        ensures kept { vec_len self.old.messages < vec_capacity self.old.messages → self.new.lost ≡ self.old.lost }
+        ensures accepted { (got : List Item) (base : List MessageState) → IsIn got base self.old → IsIn (got ++ each_of item) base self.new }
+        ensures kept { vec_len self.old.messages + 256 ≤ vec_capacity self.old.messages → self.new.lost ≡ self.old.lost }
     {
         match item {
             Item::Stop => self.over = true,
             Item::One(message) => self.keep(message),
+            Item::Many(batch) => self.keep_all(batch),
         }
     }
 
@@ -55,6 +57,22 @@ impl Inbox {
             return;
         }
         match self.messages.push(message) {
+            Ok(()) => return,
+            Err(_) => self.lost = true,
+        }
+    }
+
+    /// Keeps messages behind the others.
+    fn keep_all(&mut self, batch: Batch)
+        requires { self.old.over ≡ false }
+        ensures accepted { (got : List Item) (base : List MessageState) → IsIn got base self.old → IsIn (got ++ ones batch.messages.items) base self.new }
+        ensures kept { vec_len self.old.messages + 256 ≤ vec_capacity self.old.messages → self.new.lost ≡ self.old.lost }
+    {
+        if self.lost {
+            return;
+        }
+        let Batch { mut messages } = batch;
+        match self.messages.append(&mut messages) {
             Ok(()) => return,
             Err(_) => self.lost = true,
         }

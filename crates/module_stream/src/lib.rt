@@ -6,6 +6,7 @@
 #![tactic(auto)]
 
 mod active;
+mod batch;
 mod format;
 mod here;
 mod inbox;
@@ -24,6 +25,7 @@ mod wait;
 mod work;
 
 pub use active::ActiveTask;
+pub use batch::MOST_TOGETHER;
 pub use format::FormatTask;
 pub use laws::formats_what_spells_a_record;
 pub use messages::Messages;

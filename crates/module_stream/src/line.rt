@@ -3,6 +3,7 @@ ghost use Rattle.std.specs.Prelude.{◌≡◌, [], ◌∷◌, ◌++◌, true, fa
 ghost use Rattle.crossbeam_queue.specs.Passes.{view, IsSamePass, IsPassOf};
 ghost use Rattle.module_stream.specs.Lines.{log};
 
+use crate::batch::Batch;
 use crate::wait::{Looks, Waits};
 use crossbeam_queue::protocol::{Join, Lesson, Outcome, Protocol, Split};
 use crossbeam_queue::{Pass, RuledArrayQueue};
@@ -15,6 +16,8 @@ use std::sync::Wait;
 pub enum Item {
     /// A message.
     One(Message),
+    /// Messages in order.
+    Many(Batch),
     /// There are no more messages.
     Stop,
 }

@@ -1,8 +1,9 @@
 //! The two lines between the caller and the thread.
-ghost use Rattle.std.specs.Prelude.{◌≡◌, ◌<◌, [], ◌∷◌, ◌++◌, List, true, false, IfOk, OnOk, IfErr, vec_len, vec_capacity};
+ghost use Rattle.std.specs.Prelude.{◌≡◌, ◌≤◌, ◌+◌, [], ◌∷◌, ◌++◌, List, true, false, IfOk, OnOk, IfErr, vec_len, vec_capacity};
 ghost use Rattle.crossbeam_queue.specs.Passes.{view, IsPassOf};
 ghost use Rattle.module_stream.specs.Lines.{log};
 
+use crate::batch::MOST_TOGETHER;
 use crate::inbox::Inbox;
 use crate::line::{End, Ends, Got, Item, Line, Sent};
 use crate::wait::{Looks, Waits};
@@ -79,7 +80,7 @@ impl Lines {
     ghost use Rattle.module_stream.specs.Caller.{KeepsWhatCame, HasSent, AreSame};
 
     /// Puts an item, and takes in what comes while there is no room for it. `Err` gives it back: there was no memory for a
-    /// message that may come. Nothing is lost.
+    /// messages that may come. Nothing is lost.
     pub(crate) fn put<R: Wait>(&mut self, rt: &R, item: Item) -> Result<(), Item>
         ensures put { OnOk result (HasSent self.old item self.new) }
         ensures refused { IfErr result (λ back. (back ≡ item) × ((view self.new.puts).sent ≡ (view self.old.puts).sent)) }
@@ -107,7 +108,7 @@ impl Lines {
         unreachable!()
     }
 
-    /// Takes in what has come. It stops where there is no memory for a message that may come. Nothing is lost.
+    /// Takes in what has come. It stops where there is no memory for the messages that may come. Nothing is lost.
     fn take_all<R: Wait>(&mut self, rt: &R) -> Result<(), NoMemory>
         ensures came { KeepsWhatCame self.old self.new }
         ensures lost { self.new.inbox.lost ≡ self.old.inbox.lost }
@@ -115,7 +116,7 @@ impl Lines {
         ensures same { AreSame self.old self.new }
     {
         for _ in rt.forever() {
-            if self.inbox.messages.reserve(1).is_err() {
+            if self.inbox.messages.reserve(MOST_TOGETHER).is_err() {
                 return Err(NoMemory);
             }
             if !self.take_one() {
@@ -128,7 +129,7 @@ impl Lines {
     /// Takes in one item, if one has come, and tells whether it did. Where there is no memory for a message it is lost.
     fn take_one(&mut self) -> bool
         ensures came { KeepsWhatCame self.old self.new }
-        ensures kept { vec_len self.old.inbox.messages < vec_capacity self.old.inbox.messages → self.new.inbox.lost ≡ self.old.inbox.lost }
+        ensures kept { vec_len self.old.inbox.messages + 256 ≤ vec_capacity self.old.inbox.messages → self.new.inbox.lost ≡ self.old.inbox.lost }
         ensures puts { self.new.puts ≡ self.old.puts }
         ensures same { AreSame self.old self.new }
     {

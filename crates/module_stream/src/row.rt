@@ -1,6 +1,7 @@
 //! Tasks that stand one behind another.
 ghost use Rattle.std.specs.Prelude.{◌≡◌, [], ◌∷◌, ◌++◌, IfOk, vec_len};
-ghost use Rattle.module_stream.specs.Composition.{Comes, through};
+ghost use Rattle.module_stream.specs.Composition.{Comes};
+ghost use Rattle.module_stream.specs.Flows.{flow};
 ghost use Rattle.module_stream.specs.Passing.{passed_on};
 
 use crate::messages::Messages;
@@ -85,8 +86,8 @@ fn finish_with(task: &mut Box<dyn Task>, messages: Vec<Message>) -> Result<Vec<M
 
 /// Puts a message into the first task, what comes out of it into the next, and so on, and gives what comes out of the last.
 fn put_through(tasks: &mut [Box<dyn Task>], message: Message) -> Result<Passed, NoMemory>
-    ensures { IfOk result (λ out. Comes (through (λ task. (⟦<dyn Task as Task>⟧ task.vtable).gives task.value) tasks.old) (message ∷ []) (passed_on out)
-        (through (λ task. (⟦<dyn Task as Task>⟧ task.vtable).gives task.value) tasks.new)) }
+    ensures { IfOk result (λ out. Comes (flow ⟦<dyn Task as Task>⟧ tasks.old) (message ∷ []) (passed_on out)
+        (flow ⟦<dyn Task as Task>⟧ tasks.new)) }
 {
     let mut passed = Passed::One(message);
     for place in 0..tasks.len() {
@@ -100,7 +101,7 @@ pub(crate) fn finish_through(
     tasks: &mut [Box<dyn Task>],
     messages: Vec<Message>,
 ) -> Result<Vec<Message>, NoMemory>
-    ensures { IfOk result (λ out. out.items ≡ through (λ task. (⟦<dyn Task as Task>⟧ task.vtable).gives task.value) tasks.old messages.items) }
+    ensures { IfOk result (λ out. out.items ≡ flow ⟦<dyn Task as Task>⟧ tasks.old messages.items) }
 {
     let mut messages = messages;
     for place in 0..tasks.len() {
@@ -111,8 +112,8 @@ pub(crate) fn finish_through(
 
 /// Passes one message through tasks.
 pub(crate) fn pass_one(tasks: &mut Vec<Box<dyn Task>>, message: Message) -> Result<Passed, NoMemory>
-    ensures given { IfOk result (λ out. Comes (through (λ task. (⟦<dyn Task as Task>⟧ task.vtable).gives task.value) tasks.old.items) (message ∷ []) (passed_on out)
-        (through (λ task. (⟦<dyn Task as Task>⟧ task.vtable).gives task.value) tasks.new.items)) }
+    ensures given { IfOk result (λ out. Comes (flow ⟦<dyn Task as Task>⟧ tasks.old.items) (message ∷ []) (passed_on out)
+        (flow ⟦<dyn Task as Task>⟧ tasks.new.items)) }
     ensures count { vec_len tasks.new ≡ vec_len tasks.old }
 {
     let passed = put_through(tasks, message)?;

@@ -5,7 +5,6 @@ ghost use Rattle.module_stream.specs.Tasks.{separated};
 use crate::messages::Messages;
 use crate::passed::Passed;
 use crate::task::Task;
-use crate::text::full_block;
 use ev_types::NoMemory;
 use message_block::Message;
 use std::alloc::Global;
@@ -51,9 +50,6 @@ fn end_line(alloc: Global, message: Message) -> Result<Message, NoMemory>
     if message.blocks().len() >= MOST_BLOCKS {
         return Ok(message);
     }
-    let line_feed = full_block(alloc, b"\n")?;
-    match message.cont(line_feed) {
-        Ok(()) => Ok(message),
-        Err((_, refused)) => Err(refused),
-    }
+    message.cont_bytes(alloc, b"\n")?;
+    Ok(message)
 }

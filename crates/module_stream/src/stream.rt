@@ -1,6 +1,7 @@
 //! Streams of modules.
 ghost use Rattle.std.specs.Prelude.{◌≡◌, ◌≤◌, ◌+◌, true, false, [], ◌∷◌, IfOk, OnOk, IfErr, IfSome, IfNone, vec_len, vec_capacity};
-ghost use Rattle.module_stream.specs.Composition.{Comes, through};
+ghost use Rattle.module_stream.specs.Composition.{Comes};
+ghost use Rattle.module_stream.specs.Flows.{flow};
 ghost use Rattle.module_stream.specs.Passing.{passed_on};
 
 use crate::messages::Messages;
@@ -147,8 +148,8 @@ impl Stream {
     /// changed stream gives the rest. `Spent` comes exactly where there was no memory in an earlier `put`, `put_up` or `finish`,
     /// or where the stream was finished; the message is dropped then. After `NoMemory` the stream is spent.
     pub fn put(&mut self, m: Message) -> Result<Messages, StreamRefused>
-        ensures given { IfOk result (λ out. Comes (through (λ task. (⟦<dyn Task as Task>⟧ task.vtable).gives task.value) (writers_of self.old)) (m ∷ [])
-            out (through (λ task. (⟦<dyn Task as Task>⟧ task.vtable).gives task.value) (writers_of self.new))) }
+        ensures given { IfOk result (λ out. Comes (flow ⟦<dyn Task as Task>⟧ (writers_of self.old)) (m ∷ [])
+            out (flow ⟦<dyn Task as Task>⟧ (writers_of self.new))) }
         ensures names { names_of self.new ≡ names_of self.old }
         ensures readers { readers_of self.new ≡ readers_of self.old }
         ensures started { has_started self.new ≡ true }
@@ -167,8 +168,8 @@ impl Stream {
 
     /// Puts a message at the head as `put` does. Where one message leaves the last task, no list is made for it.
     pub fn pass(&mut self, m: Message) -> Result<Passed, StreamRefused>
-        ensures given { IfOk result (λ out. Comes (through (λ task. (⟦<dyn Task as Task>⟧ task.vtable).gives task.value) (writers_of self.old)) (m ∷ [])
-            (passed_on out) (through (λ task. (⟦<dyn Task as Task>⟧ task.vtable).gives task.value) (writers_of self.new))) }
+        ensures given { IfOk result (λ out. Comes (flow ⟦<dyn Task as Task>⟧ (writers_of self.old)) (m ∷ [])
+            (passed_on out) (flow ⟦<dyn Task as Task>⟧ (writers_of self.new))) }
         ensures names { names_of self.new ≡ names_of self.old }
         ensures readers { readers_of self.new ≡ readers_of self.old }
         ensures started { has_started self.new ≡ true }
@@ -190,8 +191,8 @@ impl Stream {
 
     /// Puts a message at the tail. It goes through the readers up to the head. Refusals are those of `put`.
     pub fn put_up(&mut self, m: Message) -> Result<Messages, StreamRefused>
-        ensures given { IfOk result (λ out. Comes (through (λ task. (⟦<dyn Task as Task>⟧ task.vtable).gives task.value) (readers_of self.old)) (m ∷ [])
-            out (through (λ task. (⟦<dyn Task as Task>⟧ task.vtable).gives task.value) (readers_of self.new))) }
+        ensures given { IfOk result (λ out. Comes (flow ⟦<dyn Task as Task>⟧ (readers_of self.old)) (m ∷ [])
+            out (flow ⟦<dyn Task as Task>⟧ (readers_of self.new))) }
         ensures names { names_of self.new ≡ names_of self.old }
         ensures writers { writers_of self.new ≡ writers_of self.old }
         ensures started { has_started self.new ≡ true }
@@ -210,8 +211,8 @@ impl Stream {
 
     /// Puts a message at the tail as `put_up` does. Where one message leaves the last task, no list is made for it.
     pub fn pass_up(&mut self, m: Message) -> Result<Passed, StreamRefused>
-        ensures given { IfOk result (λ out. Comes (through (λ task. (⟦<dyn Task as Task>⟧ task.vtable).gives task.value) (readers_of self.old)) (m ∷ [])
-            (passed_on out) (through (λ task. (⟦<dyn Task as Task>⟧ task.vtable).gives task.value) (readers_of self.new))) }
+        ensures given { IfOk result (λ out. Comes (flow ⟦<dyn Task as Task>⟧ (readers_of self.old)) (m ∷ [])
+            (passed_on out) (flow ⟦<dyn Task as Task>⟧ (readers_of self.new))) }
         ensures names { names_of self.new ≡ names_of self.old }
         ensures writers { writers_of self.new ≡ writers_of self.old }
         ensures started { has_started self.new ≡ true }
@@ -234,7 +235,7 @@ impl Stream {
     /// Ends the writer side: finishes its tasks from the head to the tail, and gives all that still comes out. After it the stream
     /// is spent. Refusals are those of `put`.
     pub fn finish(&mut self) -> Result<Messages, StreamRefused>
-        ensures given { IfOk result (λ out. out ≡ through (λ task. (⟦<dyn Task as Task>⟧ task.vtable).gives task.value) (writers_of self.old) []) }
+        ensures given { IfOk result (λ out. out ≡ flow ⟦<dyn Task as Task>⟧ (writers_of self.old) []) }
         ensures names { names_of self.new ≡ names_of self.old }
         ensures readers { readers_of self.new ≡ readers_of self.old }
         ensures started { has_started self.new ≡ true }

@@ -76,6 +76,44 @@ fn two_hundred_come_back_in_order(rt: HostRuntime) -> Result<(), Fail> {
     Ok(())
 }
 
+/// Puts messages of the priorities from 0 on together, and adds those of the messages that are given.
+fn put_together<T: Task + Send + 'static, R: Wait>(
+    rt: &R,
+    alloc: Global,
+    active: &mut ActiveTask<T>,
+    numbers: &mut Vec<u32>,
+) -> Result<(), NoMemory> {
+    let mut messages = Vec::new(alloc);
+    for priority in 0..3u32 {
+        messages.push(message_of(alloc, priority)?)?;
+    }
+    if messages.len() > 256 {
+        return Ok(());
+    }
+    match active.put_all(rt, Messages::new(messages)) {
+        Ok(given) => note(given, numbers),
+        Err((_, refused)) => Err(refused),
+    }
+}
+
+#[test]
+fn messages_that_are_put_together_come_back(rt: HostRuntime) -> Result<(), Fail> {
+    let alloc = rt.alloc();
+    let mut numbers = Vec::new(alloc);
+    let Ok(mut active) = ActiveTask::begin(&rt, alloc, PassTask::new(alloc)) else {
+        return Err("no memory".into());
+    };
+    let put = put_together(&rt, alloc, &mut active, &mut numbers);
+    let rest = active.finish(&rt);
+    put?;
+    match rest {
+        Ok(rest) => note(rest, &mut numbers)?,
+        Err(_) => return Err("a message was lost".into()),
+    }
+    assert_eq!(rt; numbers.as_slice(), [0, 1, 2].as_slice());
+    Ok(())
+}
+
 #[test]
 fn nothing_comes_of_nothing(rt: HostRuntime) -> Result<(), Fail> {
     assert_eq!(rt;

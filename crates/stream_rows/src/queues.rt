@@ -99,3 +99,20 @@ fn blocks(rt: HostRuntime) -> Result<(), Fail> {
     assert_eq!(rt; message.total_length(), 8);
     Ok(())
 }
+
+#[test]
+fn a_message_is_written_anew(rt: HostRuntime) -> Result<(), Fail> {
+    let alloc = rt.alloc();
+    let mut message = message_of(alloc, b"hi", 3)?;
+    if message.blocks().len() < 1024 {
+        message.cont_bytes(alloc, b"\n")?;
+    }
+    assert_eq!(rt; (message.blocks().len(), message.total_length()), (2, 3));
+    message.rewrite(b"again", 7)?;
+    assert_eq!(rt; (message.blocks().len(), message.total_length()), (1, 5));
+    assert_eq!(rt; message.priority(), 7);
+    let memory = message.put_alone(Block::from_vec(Vec::from_slice(alloc, b"now")?));
+    assert!(rt; memory.is_empty());
+    assert_eq!(rt; message.total_length(), 3);
+    Ok(())
+}

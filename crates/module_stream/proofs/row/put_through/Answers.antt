@@ -1,6 +1,6 @@
 use Rattle.std.proofs.Common.{◌<◌, ◌+◌, [], ◌∷◌, length, get_or, set, refl, ap, arith}
 use Rattle.module_stream.specs.Passing.{passed_on}
-use Rattle.module_stream.proofs.Rows.{passed_more}
+use Rattle.module_stream.proofs.Rows.{passed_all, passed_more}
 use Rattle.module_stream.proofs.row.put_through.Goals as goal
 
 -- one more task was gone through
@@ -10,3 +10,9 @@ loop-place-preserved g c =
     passed_more (λ task. (goal.Task-dyn g (task.vtable, task.value)).gives task.value) c.args.tasks.now c.loop-place.tasks
     (set c.loop-place.tasks c.loop-place.place c.put_on.new.task) c.loop-place.place (c.loop-place.place + 1) (c.args.message ∷ []) (passed_on c.loop-place.passed)
     (passed_on c.in_ok-passed.passed) (get_or c.loop-place.tasks c.loop-place.place c.index-tasks-place.result) c.put_on.new.task refl (omega arith) c.loop-place.invariant within (ap (λ task. get_or c.loop-place.tasks c.loop-place.place task) c.index-tasks-place.is) c.in_ok-passed.ensures
+
+-- all tasks were gone through
+pub returns : goal.returns
+returns g c =
+    passed_all (λ task. (goal.Task-dyn g (task.vtable, task.value)).gives task.value) c.args.tasks.now c.loop-place.tasks c.loop-place.place
+    (c.args.message ∷ []) (passed_on c.loop-place.passed) c.loop-place.invariant (omega arith)

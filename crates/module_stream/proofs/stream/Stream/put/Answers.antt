@@ -1,4 +1,4 @@
-use Rattle.std.proofs.Common.{◌≡◌, ◌++◌, List, sym, ap, ◌∙◌}
+use Rattle.std.proofs.Common.{◌++◌, List, sym, ap, ◌∙◌}
 use Rattle.message_block.specs.Messages.{MessageState}
 use Rattle.module_stream.specs.Composition.{through}
 use Rattle.module_stream.proofs.stream.Stream.put.Goals as goal
