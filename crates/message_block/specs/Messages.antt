@@ -7,6 +7,10 @@ pub record BlockState : Type 0 where
   pub bytes : List ℕ
   pub space : ℕ
 
+-- a block of these bytes, without space
+abbrev pub block_of : List ℕ → BlockState
+block_of bytes = record { bytes = bytes; space = 0 }
+
 -- a message: its priority, and its blocks in order
 pub record MessageState : Type 0 where
   pub priority : ℕ

@@ -59,6 +59,15 @@ impl Block {
         }
     }
 
+    /// The memory of the block, without its bytes.
+    pub fn into_memory(self) -> Vec<u8>
+        ensures { result.items ≡ [] }
+    {
+        let mut memory = self.written;
+        memory.clear();
+        memory
+    }
+
     /// Writes bytes at the write place. `NoSpace` comes exactly where they are more than the space; it tells the space,
     /// and the block is as before.
     pub fn write(&mut self, bytes: &[u8]) -> Result<(), NoSpace>

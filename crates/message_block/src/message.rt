@@ -1,11 +1,15 @@
 //! Messages of blocks.
-ghost use Rattle.std.specs.Prelude.{◌≡◌, ◌≤◌, ◌<◌, ◌^◌, [], ◌∷◌, ◌++◌, length, OnOk, IfOk, IfErr};
-ghost use Rattle.message_block.specs.Messages.{bytes_of};
+ghost use Rattle.std.specs.Prelude.{◌≡◌, ◌≤◌, ◌<◌, ◌^◌, [], ◌∷◌, ◌++◌, length, vec_len, OnOk, OnErr, IfOk, IfErr};
+ghost use Rattle.message_block.specs.Messages.{block_of, bytes_of};
 
 use crate::block::Block;
 use ev_types::NoMemory;
 use std::alloc::Global;
 use std::marker::Model;
+use std::mem;
+
+/// For how many blocks a new message has places: its own, and one that is added.
+const USUAL_BLOCKS: usize = 2;
 
 /// A message: a priority, and one to 1,024 blocks in order (ACE's chain of `ACE_Message_Block`s by `cont`). Its bytes are
 /// those of its blocks, joined.
@@ -21,6 +25,22 @@ struct Content {
     blocks: Vec<Block>,
     priority: u32,
     total: u64,
+    // A block that was taken off, whose memory is used for the next that is added.
+    spare: Option<Block>,
+}
+
+impl Content {
+    /// Takes all blocks off but the first, of which the last is kept as the spare one.
+    fn keep_first(&mut self)
+        requires { 1 ≤ vec_len self.old.blocks }
+        ensures one { vec_len self.new.blocks ≡ 1 }
+        ensures priority { self.new.priority ≡ self.old.priority }
+    {
+        if self.blocks.len() > 1 {
+            self.spare = self.blocks.pop();
+            self.blocks.truncate(1);
+        }
+    }
 }
 
 impl Model for Message {
@@ -42,7 +62,7 @@ impl Message {
         ensures refused { IfErr result (λ refusal. refusal.0 ≡ first) }
     {
         let total = first.length() as u64;
-        let blocks = match Vec::with_capacity(alloc, 1) {
+        let blocks = match Vec::with_capacity(alloc, USUAL_BLOCKS) {
             Ok(blocks) => blocks,
             Err(_) => return Err((first, NoMemory)),
         };
@@ -50,6 +70,7 @@ impl Message {
             blocks,
             priority,
             total,
+            spare: None,
         };
         let mut content = match Box::new(alloc, content) {
             Ok(content) => content,
@@ -76,6 +97,57 @@ impl Message {
             }
             Err(refused) => Err((refused.value, NoMemory)),
         }
+    }
+
+    /// Puts a block of these bytes, at most 1,048,576, without space behind the others, of which there are fewer than 1,024. After
+    /// `NoMemory` the message is as before.
+    pub fn cont_bytes(&mut self, alloc: Global, bytes: &[u8]) -> Result<(), NoMemory>
+        requires blocks { length self.old.blocks < 1024 }
+        requires bytes { length bytes.now ≤ 1048576 }
+        ensures continued { OnOk result (self.new ≡ record self.old { blocks = self.old.blocks ++ block_of bytes.now ∷ [] }) }
+        ensures unchanged { OnErr result (self.new ≡ self.old) }
+    {
+        let mut memory = self.spare_memory(alloc);
+        memory.extend_from_slice(bytes)?;
+        match self.cont(Block::from_vec(memory)) {
+            Ok(()) => Ok(()),
+            Err((_, refused)) => Err(refused),
+        }
+    }
+
+    /// The memory of the block that was taken off, or none.
+    fn spare_memory(&mut self, alloc: Global) -> Vec<u8>
+        ensures none { result.items ≡ [] }
+        ensures unchanged { self.new ≡ self.old }
+    {
+        match mem::replace(&mut self.content.spare, None) {
+            Some(block) => block.into_memory(),
+            None => Vec::new(alloc),
+        }
+    }
+
+    /// Puts a block in the place of all, and gives the memory of the first that was there, without its bytes.
+    pub fn put_alone(&mut self, b: Block) -> Vec<u8>
+        ensures alone { self.new ≡ record self.old { blocks = b ∷ [] } }
+        ensures memory { result.items ≡ [] }
+    {
+        self.content.keep_first();
+        self.content.total = b.length() as u64;
+        mem::replace(&mut self.content.blocks[0], b).into_memory()
+    }
+
+    /// Makes it a message of this priority and of one block of these bytes, at most 1,048,576, without space. The memory that it has is
+    /// used again. After `NoMemory` it has one block without bytes.
+    pub fn rewrite(&mut self, bytes: &[u8], priority: u32) -> Result<(), NoMemory>
+        requires { length bytes.now ≤ 1048576 }
+        ensures rewritten { OnOk result (self.new ≡ record { priority = priority; blocks = block_of bytes.now ∷ [] }) }
+    {
+        let none = Vec::new(*self.content.blocks.allocator());
+        let mut memory = self.put_alone(Block::from_vec(none));
+        memory.extend_from_slice(bytes)?;
+        let _ = self.put_alone(Block::from_vec(memory));
+        self.content.priority = priority;
+        Ok(())
     }
 
     /// How many bytes the message has, at most 2^30.

@@ -1,5 +1,5 @@
 -- How displaying ends, by why no more records were read.
-use Rattle.std.proofs.Common.{◌≡◌, ◌≢◌, ◌≤◌, ◌-◌, ◌==◌, ◌^◌, inl, inr, ℕ, Bool, true, false, List, [], ◌∷◌, ◌++◌, length, refl, ap, sym, ◌∙◌, subst, arith}
+use Rattle.std.proofs.Common.{◌≡◌, ◌≢◌, ◌≤◌, ◌-◌, ◌==◌, ◌^◌, inl, inr, ℕ, zero, suc, Bool, true, false, List, [], ◌∷◌, ◌++◌, length, refl, ap, sym, ◌∙◌, subst, arith}
 use Rattle.std.proofs.lemmas.List.{length-append}
 use Rattle.std.proofs.lemmas.Bool.{eqb-true, eqb-false}
 use Rattle.ev_base.specs.Source.{SourceFacts}
@@ -24,7 +24,7 @@ use Rattle.record_display.specs.declared.showing.DisplayEnd.TheVariants as end
 use Rattle.record_display.specs.Windows.{rest_of}
 use Rattle.record_display.specs.Pipelines.{HasEnded}
 use Rattle.record_display.specs.Shown.{IsCut, IsStuck, StopsAt, shown_of}
-use Rattle.record_display.specs.Displays.{Displays}
+use Rattle.record_display.specs.Displays.{HasNoBadRecord, Displays}
 use Rattle.record_display.specs.Endings.{format_gives, separate_gives, ending_by, ending_of, found_at_end}
 use Rattle.record_display.proofs.Records.{decodes-behind, stuck-is-left}
 use Rattle.record_display.proofs.Texts.{IsText, text-of-run, text-taken, text-broken, broken-of}
@@ -39,6 +39,16 @@ stop-of whole rest left = ap (λ r. stop_at (length whole - length r) (length r)
 
 left-behind : DecodeCuts → (cut : List ℕ) (put : List MessageState) (rest : List ℕ) → IsCut cut put → IsStuck rest → left_of (cut ++ rest) ≡ rest
 left-behind law cut put rest h stuck = ap (λ xs. left_of (xs ++ rest)) h.whole ∙ (decodes-behind law h.pieces h.records rest h.spells).left ∙ (stuck-is-left law rest stuck).all
+
+-- where the rest is the beginning of a record or nothing, no record is bad
+unfinished-is-sound : (n at : ℕ) → ¬ (unfinished n ≡ Malformed at)
+unfinished-is-sound zero at e = absurd (cc e)
+unfinished-is-sound (suc n) at e = absurd (cc e)
+
+no-bad : DecodeCuts → (cut : List ℕ) (put : List MessageState) (rest : List ℕ) → IsCut cut put → first_of rest ≡ front.More → HasNoBadRecord (cut ++ rest)
+no-bad law cut put rest h more = λ at e.
+    let left = left-behind law cut put rest h (more-is-stuck rest more) in
+    unfinished-is-sound (length rest) at (sym (stop-of (cut ++ rest) rest left ∙ ap (stop_at (length (cut ++ rest) - length rest) (length rest)) more) ∙ e)
 
 -- bytes are none exactly where their count is 0
 pub empty-or-not : (xs ys : List ℕ) (b : Bool) → b ≡ (length xs == 0) → xs ≡ ys → (b ≡ true → ys ≡ []) × (b ≡ false → ys ≢ [])
@@ -77,9 +87,9 @@ partly [] some = absurd (some refl)
 partly (x ∷ rest) some = refl
 
 read-fault : {K : Type 0} (facts : K → SinkFacts) (limit : ℕ) (i : SourceFacts) (o : SinkFacts) (j : SourceFacts) (taken : List ℕ) (all : Type 0) (sink : SinkBuffer K) (broken : Bool)
-    → TakesInput limit true i j taken [] → IsText facts o taken all sink → is_broken sink ≡ broken → Displays limit i o j (facts (output_of sink)) end.ReadFault
-read-fault facts limit i o j taken all sink true takes t is = record { taken = taken; takes = takes; text = t.text; front = t.front; written = inr (text-broken facts o taken all sink t is) }
-read-fault facts limit i o j taken all sink false takes t is = record { taken = taken; takes = takes; text = t.text; front = t.front; written = inl (text-taken facts o taken all sink t is) }
+    → TakesInput limit true i j taken [] → HasNoBadRecord taken → IsText facts o taken all sink → is_broken sink ≡ broken → Displays limit i o j (facts (output_of sink)) end.ReadFault
+read-fault facts limit i o j taken all sink true takes sound t is = record { taken = taken; takes = takes; sound = sound; text = t.text; front = t.front; written = inr (text-broken facts o taken all sink t is) }
+read-fault facts limit i o j taken all sink false takes sound t is = record { taken = taken; takes = takes; sound = sound; text = t.text; front = t.front; written = inl (text-taken facts o taken all sink t is) }
 
 -- the end of the input was found
 at-end : {K : Type 0} (facts : K → SinkFacts) (limit : ℕ) (i : SourceFacts) (o : SinkFacts) (j : SourceFacts) (cut rest : List ℕ) (put : List MessageState) (sink : SinkBuffer K) (place : ℕ) (none_left : Bool)
@@ -137,15 +147,17 @@ displays sources facts i o window sink cut put stop.Bad w broken place none_left
     by-fault facts (limit_of window.input) i o (sources (input_of window.input)) (cut ++ rest) [] ((w ≡ true) × IsStuck rest) sink broken w (end.BadRecord place) windows.gave.takes t is
     (λ sound whole. at-bad facts (limit_of window.input) i o (sources (input_of window.input)) cut rest put sink place why law h windows.gave.takes bad
     (all-taken facts o (cut ++ rest) ((w ≡ true) × IsStuck rest) sink t (whole, stuck) sound) (at ∙ ap (λ n. n - length rest) windows.gave.counts) within)
-displays sources facts i o window sink cut put stop.Failed w broken place none_left formats law h (rest, stuck, takes) ended is is_broken' at within none some =
-    read-fault facts (limit_of window.input) i o (sources (input_of window.input)) (cut ++ rest) ((w ≡ true) × IsStuck rest) sink broken takes (text-of-run facts o cut rest put w sink formats law h ended) is
-displays sources facts i o window sink cut put stop.TooLong w broken place none_left formats law h (rest, stuck, long) ended is is_broken' at within none some =
+displays sources facts i o window sink cut put stop.Failed w broken place none_left formats law h (rest, more, takes) ended is is_broken' at within none some =
+    read-fault facts (limit_of window.input) i o (sources (input_of window.input)) (cut ++ rest) ((w ≡ true) × IsStuck rest) sink broken takes (no-bad law cut put rest h more) (text-of-run facts o cut rest put w sink formats law h ended) is
+displays sources facts i o window sink cut put stop.TooLong w broken place none_left formats law h (rest, more, long) ended is is_broken' at within none some =
+    let stuck = more-is-stuck rest more in
     let t = text-of-run facts o cut rest put w sink formats law h ended in
     by-fault facts (limit_of window.input) i o (sources (input_of window.input)) (cut ++ rest) (long.more ∷ []) ((w ≡ true) × IsStuck rest) sink broken w end.TooLong long.takes t is
     (λ sound whole. record {
       taken = cut ++ rest;
       more = long.more;
       takes = long.takes;
+      sound = no-bad law cut put rest h more;
       written = all-taken facts o (cut ++ rest) ((w ≡ true) × IsStuck rest) sink t (whole, stuck) sound;
     })
 displays sources facts i o window sink cut put stop.NoMemory w broken place none_left formats law h (rest, takes) ended is is_broken' at within none some =

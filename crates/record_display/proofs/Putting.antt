@@ -3,8 +3,6 @@ use Rattle.std.proofs.Common.{◌≡◌, false, Result, OnOk, OnErr, List, ◌++
 use Rattle.std.specs.declared.result.Result.TheVariants.{Ok, Err}
 use Rattle.ev_base.specs.Source.{SourceFacts}
 use Rattle.ev_base.specs.Sink.{SinkFacts}
-use Rattle.cdr_record.specs.declared.record.LogRecord.{LogRecord}
-use Rattle.cdr_record.specs.Grammar.{Spells}
 use Rattle.message_block.specs.Messages.{MessageState}
 use Rattle.module_stream.specs.declared.active.ActiveTask.{ActiveTask}
 use Rattle.module_stream.specs.Progress.{Gives, Begins}
@@ -12,12 +10,12 @@ use Rattle.module_stream.specs.Active.{Runs}
 use Rattle.record_display.specs.declared.second.Second.{Second}
 use Rattle.record_display.specs.declared.pipeline.Pipeline.{Pipeline}
 use Rattle.record_display.specs.declared.window.Window.{Window}
-use Rattle.record_display.specs.declared.showing.Stop.TheVariants as stop
+use Rattle.record_display.specs.declared.showing.Cut.{Cut}
+use Rattle.record_display.specs.declared.showing.Cut.TheVariants as cut
 use Rattle.record_display.specs.Pipelines.{Writes, Shows, ShowsFront}
-use Rattle.record_display.specs.Windows.{Windows, rest_of}
-use Rattle.record_display.specs.Shown.{IsCut, IsShowing, Leaves, message_of}
+use Rattle.record_display.specs.Windows.{rest_of}
+use Rattle.record_display.specs.Shown.{HasCut, Cuts, Stops}
 use Rattle.record_display.proofs.Lists.{begins-all, begins-behind}
-use Rattle.record_display.proofs.Records.{cut-one}
 
 -- ---- one message more
 
@@ -53,30 +51,19 @@ front-of gives gives' facts first second o put pipeline h = record {
   writes = h.writes;
 }
 
--- ---- one record more
+-- ---- records that are cut off
 
-pub record-on : {S F G K T E : Type 0} (sources : S → SourceFacts) (gives : F → Gives) (gives' : G → Gives) (facts : K → SinkFacts) (i : SourceFacts) (first second : Gives) (o : SinkFacts)
-    (window : Window S) (pipeline : Pipeline F G K) (r : Result T E) (cut f : List ℕ) (put : List MessageState) (entry : LogRecord) (m : MessageState)
-    → IsCut cut put → Spells f entry → m ≡ message_of f → Windows sources i window (cut ++ f) → OnOk r (Shows gives gives' facts first second o (put ++ m ∷ []) pipeline)
-    → OnOk r (IsShowing sources gives gives' facts i first second o window pipeline)
-record-on sources gives gives' facts i first second o window pipeline (Ok x) cut f put entry m h spells is windows shows = record {
-  cut = cut ++ f;
-  put = put ++ m ∷ [];
-  is_cut = cut-one cut put f entry m h spells is;
-  windows = windows;
-  shows = shows;
-}
-record-on sources gives gives' facts i first second o window pipeline (Err e) cut f put entry m h spells is windows shows = tt
-
-pub record-lost : {S F G K T E : Type 0} (sources : S → SourceFacts) (gives : F → Gives) (gives' : G → Gives) (facts : K → SinkFacts) (i : SourceFacts) (first second : Gives) (o : SinkFacts)
-    (window : Window S) (pipeline : Pipeline F G K) (r : Result T E) (cut f : List ℕ) (put : List MessageState) (entry : LogRecord) (m : MessageState)
-    → IsCut cut put → Spells f entry → m ≡ message_of f → Windows sources i window (cut ++ f) → OnErr r (ShowsFront gives gives' facts first second o (put ++ m ∷ []) pipeline)
-    → OnErr r (Leaves sources gives gives' facts i first second o stop.NoMemory false window pipeline)
-record-lost sources gives gives' facts i first second o window pipeline (Ok x) cut f put entry m h spells is windows shows = tt
-record-lost sources gives gives' facts i first second o window pipeline (Err e) cut f put entry m h spells is windows shows = record {
-  cut = cut ++ f;
-  put = put ++ m ∷ [];
-  is_cut = cut-one cut put f entry m h spells is;
-  stops = (rest_of window, windows.gave.takes);
-  are_put = shows;
+pub cuts-of : {S F G K : Type 0} (sources : S → SourceFacts) (gives : F → Gives) (gives' : G → Gives) (facts : K → SinkFacts) (i : SourceFacts) (first second : Gives) (o : SinkFacts)
+    (window : Window S) (pipeline : Pipeline F G K) (put : List MessageState) (why : Cut) → HasCut sources i put window → Shows gives gives' facts first second o put pipeline → Stops why window
+    → Cuts sources gives gives' facts i first second o why window pipeline
+cuts-of sources gives gives' facts i first second o window pipeline put cut.More h shows stops =
+    (record { cut = h.cut; put = put; is_cut = h.is_cut; windows = h.windows; shows = shows }, stops)
+cuts-of sources gives gives' facts i first second o window pipeline put cut.Bad h shows stops =
+    record { cut = h.cut; put = put; is_cut = h.is_cut; stops = (h.windows, stops); are_put = shows }
+cuts-of sources gives gives' facts i first second o window pipeline put cut.NoMemory h shows stops = record {
+  cut = h.cut;
+  put = put;
+  is_cut = h.is_cut;
+  stops = (rest_of window, h.windows.gave.takes);
+  are_put = front-of gives gives' facts first second o put pipeline shows;
 }

@@ -23,6 +23,10 @@ abbrev pub StopsAtRecord : SourceFacts → List ℕ → ℕ → Type 0
 StopsAtRecord j taken at = ((decode taken).stop ≡ Malformed at)
     ⊎ (IsReadToEnd j × ((n : ℕ) × ((decode taken).stop ≡ Partial n) × (at + n ≡ length taken)))
 
+-- no bad record stands in these bytes
+abbrev pub HasNoBadRecord : List ℕ → Type 0
+HasNoBadRecord taken = (at : ℕ) → ¬ ((decode taken).stop ≡ Malformed at)
+
 -- the records before a bad or an unfinished one, at this place, were shown
 pub record IsBadRecord (limit : ℕ) (i : SourceFacts) (o : SinkFacts) (j : SourceFacts) (p : SinkFacts) (at : ℕ) : Type 0 where
   pub taken : List ℕ
@@ -30,10 +34,11 @@ pub record IsBadRecord (limit : ℕ) (i : SourceFacts) (o : SinkFacts) (j : Sour
   pub stop : StopsAtRecord j taken at
   pub written : TakesAll o (shown_of taken) p
 
--- a read failed: a front of what is shown of the bytes before was written, unless a write failed too
+-- A read failed behind bytes in which no record is bad: a front of what is shown of them was written, unless a write failed too.
 pub record IsReadFault (limit : ℕ) (i : SourceFacts) (o : SinkFacts) (j : SourceFacts) (p : SinkFacts) : Type 0 where
   pub taken : List ℕ
   pub takes : TakesInput limit true i j taken []
+  pub sound : HasNoBadRecord taken
   pub text : List ℕ
   pub front : IsPrefixOf text (shown_of taken)
   pub written : TakesAll o text p ⊎ BreaksOff o text p
@@ -59,6 +64,7 @@ pub record IsTooLong (limit : ℕ) (i : SourceFacts) (o : SinkFacts) (j : Source
   pub taken : List ℕ
   pub more : ℕ
   pub takes : TakesInput limit false i j taken (more ∷ [])
+  pub sound : HasNoBadRecord taken
   pub written : TakesAll o (shown_of taken) p
 
 abbrev pub Displays : ℕ → SourceFacts → SinkFacts → SourceFacts → SinkFacts → DisplayEnd → Type 0

@@ -10,8 +10,7 @@ use Rattle.cdr_record.specs.Decoding.{decode}
 use Rattle.cdr_record.specs.Feeding.{joined}
 use Rattle.cdr_record.specs.Laws.{SpellsEach}
 use Rattle.log_lines.specs.Texts.{record_text}
-use Rattle.message_block.specs.Messages.{MessageState}
-use Rattle.module_stream.specs.Tasks.{block_of}
+use Rattle.message_block.specs.Messages.{MessageState, block_of}
 use Rattle.module_stream.specs.Progress.{Gives}
 use Rattle.bounded_input.specs.Input.{TakesInput, IsReadToEnd}
 use Rattle.bounded_input.specs.Reading.{IsTooLong, input_of, limit_of}
@@ -48,13 +47,14 @@ pub record IsCut (cut : List ℕ) (put : List MessageState) : Type 0 where
 abbrev pub IsStuck : List ℕ → Type 0
 IsStuck bytes = (n : ℕ) → ¬ (first_of bytes ≡ front.One n)
 
--- The bytes of the input were cut so far. It stopped there: at the end of the input, where no record stands first in the rest, or at a
--- bad record; at a failed read or a byte behind the limit, behind such a rest; for want of memory; or because a write failed.
+-- The bytes of the input were cut so far. It stopped there: at the end of the input, where the rest is the beginning of a record or nothing,
+-- or at a bad record; at a failed read or a byte behind the limit, behind a rest of the first kind; for want of memory; or because a write
+-- failed.
 abbrev pub StopsAt : {S : Type 0} → (S → SourceFacts) → SourceFacts → Window S → List ℕ → Stop → Type 0
 StopsAt facts i window cut stop.Over = Windows facts i window cut × IsReadToEnd (facts (input_of window.input)) × (first_of (rest_of window) ≡ front.More)
 StopsAt facts i window cut stop.Bad = Windows facts i window cut × ((why : BadWhy) × (first_of (rest_of window) ≡ front.Bad why))
-StopsAt facts i window cut stop.Failed = (rest : List ℕ) × IsStuck rest × TakesInput (limit_of window.input) true i (facts (input_of window.input)) (cut ++ rest) []
-StopsAt facts i window cut stop.TooLong = (rest : List ℕ) × IsStuck rest × IsTooLong (limit_of window.input) i (facts (input_of window.input)) (cut ++ rest)
+StopsAt facts i window cut stop.Failed = (rest : List ℕ) × (first_of rest ≡ front.More) × TakesInput (limit_of window.input) true i (facts (input_of window.input)) (cut ++ rest) []
+StopsAt facts i window cut stop.TooLong = (rest : List ℕ) × (first_of rest ≡ front.More) × IsTooLong (limit_of window.input) i (facts (input_of window.input)) (cut ++ rest)
 StopsAt facts i window cut stop.NoMemory = (rest : List ℕ) × TakesInput (limit_of window.input) false i (facts (input_of window.input)) (cut ++ rest) []
 StopsAt facts i window cut stop.Broken = Windows facts i window cut
 
@@ -75,6 +75,18 @@ pub record Leaves {S F G K : Type 0} (sources : S → SourceFacts) (gives : F �
   pub is_cut : IsCut cut put
   pub stops : StopsAt sources i window cut stop
   pub are_put : ArePut gives gives' sinks first second o put whole pipeline
+
+-- the bytes of these messages' records were cut
+pub record HasCut {S : Type 0} (sources : S → SourceFacts) (i : SourceFacts) (put : List MessageState) (window : Window S) : Type 0 where
+  pub cut : List ℕ
+  pub is_cut : IsCut cut put
+  pub windows : Windows sources i window cut
+
+-- why no more records are cut off: more bytes are needed, or a bad record stands first, or there was no memory
+abbrev pub Stops : {S : Type 0} → Cut → Window S → Type 0
+Stops cut.More window = first_of (rest_of window) ≡ front.More
+Stops cut.Bad window = (why : BadWhy) × (first_of (rest_of window) ≡ front.Bad why)
+Stops cut.NoMemory window = Unit {0}
 
 -- what cutting the records off that are there leaves
 abbrev pub Cuts : {S F G K : Type 0} → (S → SourceFacts) → (F → Gives) → (G → Gives) → (K → SinkFacts) → SourceFacts → Gives → Gives → SinkFacts → Cut → Window S → Pipeline F G K → Type 0

@@ -1,5 +1,5 @@
 //! Two active tasks one behind the other, and the sink behind them.
-ghost use Rattle.std.specs.Prelude.{◌≡◌, ◌++◌, ◌∷◌, [], List, OnOk, OnErr, IfOk, IfErr};
+ghost use Rattle.std.specs.Prelude.{◌≡◌, ◌≤◌, ◌++◌, [], List, length, OnOk, OnErr, IfOk, IfErr};
 ghost use Rattle.ev_base.specs.Sink.{SinkFacts};
 ghost use Rattle.sink_buffer.specs.Gathers.{Gathers, is_broken};
 ghost use Rattle.message_block.specs.Messages.{MessageState};
@@ -10,7 +10,7 @@ use crate::second::Second;
 use ev_base::Sink;
 use ev_types::NoMemory;
 use message_block::Message;
-use module_stream::{ActiveTask, Task};
+use module_stream::{ActiveTask, Messages, Task};
 use sink_buffer::SinkBuffer;
 use std::alloc::Global;
 use std::sync::Wait;
@@ -42,7 +42,11 @@ impl<F: Task + Send + 'static, G: Task + Send + 'static, K: Sink> Pipeline<F, G,
         match ActiveTask::begin(rt, alloc, second) {
             Ok(task) => {
                 let lines = SinkBuffer::new(output);
-                let second = Second { task, lines };
+                let second = Second {
+                    task,
+                    lines,
+                    spares: Vec::new(alloc),
+                };
                 Ok(Pipeline { first, second })
             }
             Err(_) => {
@@ -52,18 +56,27 @@ impl<F: Task + Send + 'static, G: Task + Send + 'static, K: Sink> Pipeline<F, G,
         }
     }
 
-    /// Puts a message. After `NoMemory` no message is to be put any more: this one, or what came out before it, was lost.
-    pub(crate) fn put<R: Wait>(&mut self, rt: &R, message: Message) -> Result<(), NoMemory>
+    /// Puts messages, at most 256. After `NoMemory` no message is to be put any more: these, or what came out before them, were lost.
+    pub(crate) fn put_all<R: Wait>(&mut self, rt: &R, messages: Messages) -> Result<(), NoMemory>
+        requires { length messages ≤ 256 }
         ensures put { (first second : Gives) (o : SinkFacts) (put : List MessageState) → Shows F.gives G.gives K.facts first second o put self.old
-            → OnOk result (Shows F.gives G.gives K.facts first second o (put ++ message ∷ []) self.new) }
+            → OnOk result (Shows F.gives G.gives K.facts first second o (put ++ messages) self.new) }
         ensures front { (first second : Gives) (o : SinkFacts) (put : List MessageState) → Shows F.gives G.gives K.facts first second o put self.old
-            → OnErr result (ShowsFront F.gives G.gives K.facts first second o (put ++ message ∷ []) self.new) }
+            → OnErr result (ShowsFront F.gives G.gives K.facts first second o (put ++ messages) self.new) }
         ensures broken { StaysBroken self.old.second.lines self.new.second.lines }
     {
-        match self.first.put(rt, message) {
+        match self.first.put_all(rt, messages) {
             Ok(texts) => self.second.put_all(rt, texts),
             Err((_, refused)) => Err(refused),
         }
+    }
+
+    /// A message whose memory is used again, if there is one.
+    pub(crate) fn spare(&mut self) -> Option<Message>
+        ensures { (first second : Gives) (o : SinkFacts) (put : List MessageState) → Shows F.gives G.gives K.facts first second o put self.old
+            → Shows F.gives G.gives K.facts first second o put self.new }
+    {
+        self.second.spares.pop()
     }
 
     /// Writes what the sink gathered.

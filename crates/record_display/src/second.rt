@@ -1,5 +1,5 @@
 //! The second of two active tasks, and the sink behind it.
-ghost use Rattle.std.specs.Prelude.{◌≡◌, ◌++◌, ◌∷◌, [], ℕ, List, true, false, OnOk, OnErr};
+ghost use Rattle.std.specs.Prelude.{◌≡◌, ◌≤◌, ◌++◌, ◌∷◌, [], ℕ, List, length, true, false, OnOk, OnErr};
 ghost use Rattle.ev_base.specs.Sink.{SinkFacts};
 ghost use Rattle.sink_buffer.specs.Gathers.{Gathers, held_of, is_broken};
 ghost use Rattle.message_block.specs.Messages.{MessageState, bytes_of};
@@ -9,7 +9,7 @@ ghost use Rattle.record_display.specs.Pipelines.{text_of, Writes, PutsLast, Writ
 use ev_base::Sink;
 use ev_types::NoMemory;
 use message_block::Message;
-use module_stream::{ActiveTask, Messages, Task};
+use module_stream::{ActiveTask, MOST_TOGETHER, Messages, Task};
 use sink_buffer::{SinkBuffer, TextOut};
 use std::sync::Wait;
 use std::thread::Threads;
@@ -18,6 +18,8 @@ use std::thread::Threads;
 pub(crate) struct Second<G: Task, K> {
     pub(crate) task: ActiveTask<G>,
     pub(crate) lines: SinkBuffer<K>,
+    // Messages that were written, whose memory is used again.
+    pub(crate) spares: Vec<Message>,
 }
 
 impl<G: Task + Send + 'static, K: Sink> Second<G, K> {
@@ -31,7 +33,7 @@ impl<G: Task + Send + 'static, K: Sink> Second<G, K> {
     {
         match self.task.put(rt, message) {
             Ok(came) => {
-                write_messages(&mut self.lines, came);
+                write_messages(&mut self.lines, &mut self.spares, came);
                 Ok(())
             }
             Err((_, refused)) => Err(refused),
@@ -40,6 +42,38 @@ impl<G: Task + Send + 'static, K: Sink> Second<G, K> {
 
     /// Puts messages into the task, up to the first for which there is no memory.
     pub(crate) fn put_all<R: Wait>(&mut self, rt: &R, messages: Messages) -> Result<(), NoMemory>
+        ensures put { (second : Gives) (o : SinkFacts) (fed : List MessageState) → Writes G.gives K.facts second o fed self.old
+            → OnOk result (Writes G.gives K.facts second o (fed ++ messages) self.new) }
+        ensures front { (second : Gives) (o : SinkFacts) (fed : List MessageState) → Writes G.gives K.facts second o fed self.old
+            → OnErr result ((front : List MessageState) × Begins front messages × Writes G.gives K.facts second o (fed ++ front) self.new) }
+        ensures broken { StaysBroken self.old.lines self.new.lines }
+    {
+        if messages.as_slice().len() > MOST_TOGETHER {
+            return self.put_each(rt, messages);
+        }
+        self.put_some(rt, messages)
+    }
+
+    /// Puts messages into the task together. After `NoMemory` all is as it was, and they are lost.
+    fn put_some<R: Wait>(&mut self, rt: &R, messages: Messages) -> Result<(), NoMemory>
+        requires { length messages ≤ 256 }
+        ensures put { (second : Gives) (o : SinkFacts) (fed : List MessageState) → Writes G.gives K.facts second o fed self.old
+            → OnOk result (Writes G.gives K.facts second o (fed ++ messages) self.new) }
+        ensures front { (second : Gives) (o : SinkFacts) (fed : List MessageState) → Writes G.gives K.facts second o fed self.old
+            → OnErr result ((front : List MessageState) × Begins front messages × Writes G.gives K.facts second o (fed ++ front) self.new) }
+        ensures broken { StaysBroken self.old.lines self.new.lines }
+    {
+        match self.task.put_all(rt, messages) {
+            Ok(came) => {
+                write_messages(&mut self.lines, &mut self.spares, came);
+                Ok(())
+            }
+            Err((_, refused)) => Err(refused),
+        }
+    }
+
+    /// Puts messages into the task one by one, up to the first for which there is no memory.
+    fn put_each<R: Wait>(&mut self, rt: &R, messages: Messages) -> Result<(), NoMemory>
         ensures put { (second : Gives) (o : SinkFacts) (fed : List MessageState) → Writes G.gives K.facts second o fed self.old
             → OnOk result (Writes G.gives K.facts second o (fed ++ messages) self.new) }
         ensures front { (second : Gives) (o : SinkFacts) (fed : List MessageState) → Writes G.gives K.facts second o fed self.old
@@ -84,40 +118,54 @@ impl<G: Task + Send + 'static, K: Sink> Second<G, K> {
     {
         let mut last = self;
         let put = last.put_last(rt, messages, follow);
-        let Second { task, lines } = last;
+        let Second {
+            task,
+            lines,
+            spares,
+        } = last;
         match task.finish(rt) {
-            Ok(came) => (write_last(lines, came), put),
-            Err((came, _)) => (write_last(lines, came), false),
+            Ok(came) => (write_last(lines, spares, came), put),
+            Err((came, _)) => (write_last(lines, spares, came), false),
         }
     }
 }
 
 /// Puts the bytes of the last messages into a sink, and writes all that it gathered.
-fn write_last<K: Sink>(lines: SinkBuffer<K>, messages: Messages) -> SinkBuffer<K>
+fn write_last<K: Sink>(
+    lines: SinkBuffer<K>,
+    spares: Vec<Message>,
+    messages: Messages,
+) -> SinkBuffer<K>
     ensures text { (o : SinkFacts) (put : List ℕ) → Gathers K.facts o lines put → Gathers K.facts o result (put ++ text_of messages) }
     ensures nothing_held { is_broken result ≡ false → held_of result ≡ [] }
     ensures broken { StaysBroken lines result }
 {
-    let mut lines = lines;
+    let (mut lines, mut spares) = (lines, spares);
     if lines.is_broken() {
         return lines;
     }
-    write_messages(&mut lines, messages);
+    write_messages(&mut lines, &mut spares, messages);
     lines.flush();
     lines
 }
 
 /// Puts the bytes of messages into a sink, unless a write failed.
-fn write_messages<K: Sink>(lines: &mut SinkBuffer<K>, messages: Messages)
+fn write_messages<K: Sink>(lines: &mut SinkBuffer<K>, spares: &mut Vec<Message>, messages: Messages)
     ensures broken { StaysBroken lines.old lines.new }
     ensures text { (o : SinkFacts) (put : List ℕ) → Gathers K.facts o lines.old put → Gathers K.facts o lines.new (put ++ text_of messages) }
 {
     if lines.is_broken() {
         return;
     }
-    for message in messages.as_slice() {
-        write_message(lines, message);
+    for message in messages.into_vec() {
+        write_message(lines, &message);
+        keep(spares, message);
     }
+}
+
+/// Keeps a message for its memory, where there is memory for its place.
+fn keep(spares: &mut Vec<Message>, message: Message) {
+    let _ = spares.push(message);
 }
 
 /// Puts the bytes of a message into a sink.

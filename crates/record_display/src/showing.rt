@@ -1,5 +1,5 @@
 //! The run of the command.
-ghost use Rattle.std.specs.Prelude.{◌≡◌, ◌≤◌, ◌<◌, ◌+◌, true, false, length, OnOk, OnErr, IfOk};
+ghost use Rattle.std.specs.Prelude.{◌≡◌, ◌≤◌, ◌<◌, ◌+◌, ◌++◌, ◌∷◌, [], List, true, false, length, vec_len, OnOk, OnErr, IfOk, IfSome, IfNone};
 ghost use Rattle.ev_base.specs.Source.{SourceFacts};
 ghost use Rattle.ev_base.specs.Sink.{SinkFacts};
 ghost use Rattle.sink_buffer.specs.Gathers.{is_broken};
@@ -9,7 +9,9 @@ ghost use Rattle.record_display.specs.Displays.{Displays};
 ghost use Rattle.record_display.specs.Windows.{rest_of};
 ghost use Rattle.record_display.specs.Endings.{ending_of, format_gives, separate_gives};
 ghost use Rattle.record_display.specs.Shown as S;
-ghost use Rattle.record_display.specs.Shown.{IsShowing, Leaves, Cuts};
+ghost use Rattle.record_display.specs.Shown.{IsShowing, HasCut, Leaves, Cuts, Stops};
+ghost use Rattle.record_display.specs.Pipelines.{Shows};
+ghost use Rattle.message_block.specs.Messages.{MessageState};
 ghost use Rattle.cdr_record.specs.Grammar.{first_of};
 ghost use Rattle.cdr_record.specs.declared.grammar.First.TheVariants as first;
 
@@ -20,10 +22,13 @@ use cdr_record::{First, first_in};
 use ev_base::{Sink, Source};
 use ev_types::NoMemory;
 use message_block::{Block, Message};
-use module_stream::{FormatTask, SeparateTask, Task, formats_what_spells_a_record};
+use module_stream::{FormatTask, Messages, SeparateTask, Task, formats_what_spells_a_record};
 use std::alloc::Global;
 use std::sync::Wait;
 use std::thread::Threads;
+
+/// How many records are put together at most.
+const TOGETHER: usize = 64;
 
 /// How displaying the records of an input ended. Of several faults it is the one that stands first here.
 #[derive(Clone, Copy, PartialEq, Eq, Debug)]
@@ -201,46 +206,79 @@ fn put_records<R: Wait, S: Source, F: Task + Send + 'static, G: Task + Send + 's
     ensures input { window.new.input ≡ window.old.input }
 {
     loop {
-        match first_in(window.rest()) {
-            First::More => return Cut::More,
-            First::Bad(_) => return Cut::Bad,
-            First::One(count) => match put_record(rt, alloc, window, pipeline, count) {
-                Ok(()) => {}
-                Err(NoMemory) => return Cut::NoMemory,
-            },
+        let (messages, cut) = cut_records(alloc, window, pipeline);
+        match pipeline.put_all(rt, Messages::new(messages)) {
+            Ok(()) => {}
+            Err(NoMemory) => return Cut::NoMemory,
+        }
+        if let Some(cut) = cut {
+            return cut;
         }
     }
 }
 
-/// Cuts off the record of so many bytes that stands first, and puts its message into a pipeline.
-fn put_record<R: Wait, S: Source, F: Task + Send + 'static, G: Task + Send + 'static, K: Sink>(
-    rt: &R,
+/// Cuts off some of the records that are there, and gives the message of each, and why there are no more, unless there are as many as are
+/// put together.
+fn cut_records<S: Source, F: Task + Send + 'static, G: Task + Send + 'static, K: Sink>(
+    alloc: Global,
+    window: &mut Window<S>,
+    pipeline: &mut Pipeline<F, G, K>,
+) -> (Vec<Message>, Option<Cut>)
+    ensures cut { (i : SourceFacts) (put : List MessageState) → HasCut S.facts i put window.old → HasCut S.facts i (put ++ result.0.items) window.new }
+    ensures stops { IfSome result.1 (λ why. Stops why window.new) }
+    ensures shows { (first second : Gives) (o : SinkFacts) (put : List MessageState) → Shows F.gives G.gives K.facts first second o put pipeline.old
+        → Shows F.gives G.gives K.facts first second o put pipeline.new }
+    ensures few { vec_len result.0 ≤ 64 }
+    ensures input { window.new.input ≡ window.old.input }
+    ensures shorter { IfNone result.1 (length (rest_of window.new) < length (rest_of window.old)) }
+{
+    let mut messages = Vec::new(alloc);
+    while messages.len() < TOGETHER {
+        if messages.reserve(TOGETHER).is_err() {
+            return (messages, Some(Cut::NoMemory));
+        }
+        match first_in(window.rest()) {
+            First::More => return (messages, Some(Cut::More)),
+            First::Bad(_) => return (messages, Some(Cut::Bad)),
+            First::One(count) => match cut_record(alloc, window, pipeline, count) {
+                Ok(message) => messages.push(message).unwrap(),
+                Err(NoMemory) => return (messages, Some(Cut::NoMemory)),
+            },
+        }
+    }
+    (messages, None)
+}
+
+/// Cuts off the record of so many bytes that stands first, and gives its message. After `NoMemory` the window is as before.
+fn cut_record<S: Source, F: Task + Send + 'static, G: Task + Send + 'static, K: Sink>(
     alloc: Global,
     window: &mut Window<S>,
     pipeline: &mut Pipeline<F, G, K>,
     count: usize,
-) -> Result<(), NoMemory>
+) -> Result<Message, NoMemory>
     requires { first_of (rest_of window.old) ≡ first.One count }
-    ensures put { (i : SourceFacts) (first second : Gives) (o : SinkFacts) → IsShowing S.facts F.gives G.gives K.facts i first second o window.old pipeline.old
-        → OnOk result (IsShowing S.facts F.gives G.gives K.facts i first second o window.new pipeline.new) }
-    ensures lost { (i : SourceFacts) (first second : Gives) (o : SinkFacts) → IsShowing S.facts F.gives G.gives K.facts i first second o window.old pipeline.old
-        → OnErr result (Leaves S.facts F.gives G.gives K.facts i first second o Stop.NoMemory false window.new pipeline.new) }
+    ensures cut { (i : SourceFacts) (put : List MessageState) → HasCut S.facts i put window.old → IfOk result (λ message. HasCut S.facts i (put ++ message ∷ []) window.new) }
+    ensures unchanged { OnErr result (window.new ≡ window.old) }
+    ensures shows { (first second : Gives) (o : SinkFacts) (put : List MessageState) → Shows F.gives G.gives K.facts first second o put pipeline.old
+        → Shows F.gives G.gives K.facts first second o put pipeline.new }
     ensures input { window.new.input ≡ window.old.input }
     ensures shorter { OnOk result (length (rest_of window.new) < length (rest_of window.old)) }
 {
     one_is_a_record();
-    let Ok(message) = message_of(alloc, &window.rest()[..count]) else {
-        return Err(NoMemory);
-    };
+    let message = message_of(alloc, pipeline.spare(), &window.rest()[..count])?;
     window.skip(count);
-    pipeline.put(rt, message)
+    Ok(message)
 }
 
-/// The bytes of a record as a message of one block.
-fn message_of(alloc: Global, bytes: &[u8]) -> Result<Message, NoMemory>
+/// The bytes of a record as a message of one block, in the memory of another where there is one.
+fn message_of(alloc: Global, spare: Option<Message>, bytes: &[u8]) -> Result<Message, NoMemory>
     requires { length bytes.now ≤ 1048576 }
     ensures { IfOk result (λ message. message ≡ S.message_of bytes.now) }
 {
+    if let Some(mut message) = spare {
+        message.rewrite(bytes, 0)?;
+        return Ok(message);
+    }
     let block = Block::from_vec(Vec::from_slice(alloc, bytes)?);
     match Message::new(alloc, block, 0) {
         Ok(message) => Ok(message),

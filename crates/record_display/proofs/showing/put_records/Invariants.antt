@@ -6,11 +6,11 @@ use Rattle.record_display.specs.Windows.{rest_of}
 use Rattle.record_display.specs.Shown.{IsShowing}
 use Rattle.record_display.proofs.showing.put_records.Given as goal
 
-abbrev pub invariant-loop-count : goal.invariant-loop-count
-invariant-loop-count g l =
+abbrev pub invariant-loop-cut : goal.invariant-loop-cut
+invariant-loop-cut g l =
     ((i : SourceFacts) (first second : Gives) (o : SinkFacts) → IsShowing g.S.Source.facts g.F.Task.gives g.G.Task.gives g.K.Sink.facts i first second o l.fn.window l.fn.pipeline
     → IsShowing g.S.Source.facts g.F.Task.gives g.G.Task.gives g.K.Sink.facts i first second o l.window l.pipeline)
     × (l.window.input ≡ l.fn.window.input)
 
-abbrev pub decreases-loop-count : goal.decreases-loop-count
-decreases-loop-count g l = length (rest_of l.window)
+abbrev pub decreases-loop-cut : goal.decreases-loop-cut
+decreases-loop-cut g l = length (rest_of l.window)

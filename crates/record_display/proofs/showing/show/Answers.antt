@@ -3,7 +3,6 @@ use Rattle.bounded_input.specs.Input.{TakesInput}
 use Rattle.bounded_input.specs.Reading.{limit_of, input_of}
 use Rattle.cdr_record.specs.Grammar.{first_of}
 use Rattle.record_display.specs.Windows.{rest_of}
-use Rattle.record_display.proofs.Endings.{more-is-stuck}
 use Rattle.record_display.proofs.showing.show.Goals as goal
 
 pub returns-then-is_broken-clause-leaves : goal.returns-then-is_broken-clause-leaves
@@ -48,7 +47,7 @@ returns-in-Failed-clause-leaves g c = λ i first second o h.
       cut = s.cut;
       put = s.put;
       is_cut = s.is_cut;
-      stops = (rest_of c.put_records.new.window, more-is-stuck (rest_of c.put_records.new.window) both.1, c.in-Failed.ensures.fills i s.cut s.windows);
+      stops = (rest_of c.put_records.new.window, both.1, c.in-Failed.ensures.fills i s.cut s.windows);
       are_put = c.flush.ensures.shows first second o s.put s.shows;
     }
 
@@ -59,7 +58,7 @@ returns-in-TooLong-clause-leaves g c = λ i first second o h.
       cut = s.cut;
       put = s.put;
       is_cut = s.is_cut;
-      stops = (rest_of c.put_records.new.window, more-is-stuck (rest_of c.put_records.new.window) both.1, c.in-TooLong.ensures.fills i s.cut s.windows);
+      stops = (rest_of c.put_records.new.window, both.1, c.in-TooLong.ensures.fills i s.cut s.windows);
       are_put = c.flush.ensures.shows first second o s.put s.shows;
     }
 

@@ -3,7 +3,7 @@ use Rattle.ev_base.specs.Sink.{SinkFacts}
 use Rattle.message_block.specs.Messages.{MessageState}
 use Rattle.module_stream.specs.Progress.{Gives}
 use Rattle.record_display.specs.Pipelines.{Writes, StaysBroken}
-use Rattle.record_display.proofs.second.Second.put_all.Given as goal
+use Rattle.record_display.proofs.second.Second.put_each.Given as goal
 
 abbrev pub invariant-loop-message : goal.invariant-loop-message
 invariant-loop-message g l =
