@@ -6,7 +6,7 @@ use Rattle.log_handler.specs.declared.note.ServerNote.{ServerNote}
 use Rattle.journal_check.specs.Refusal.{RefusesAt}
 use Rattle.journal_check.specs.declared.reading.CheckRefused.{CheckRefused}
 use Rattle.journal_check.specs.declared.reading.CheckRefused.TheVariants as refused
-use Rattle.journal_text.specs.Journals.{IsJournalText}
+use Rattle.journal_reader.specs.Journals.{IsJournalText}
 use Rattle.journal_audit.specs.Audits.{AuditsText, ended_by}
 
 pub audits-refused : (text : List ℕ) (most : ℕ) (journal : List (Entry ServerNote)) (o : SinkFacts) (why : CheckRefused)

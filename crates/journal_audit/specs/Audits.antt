@@ -1,29 +1,23 @@
 -- What `logd audit` did, by how it ended. The input told the facts i before and tells j now, the output o and p; `limit` is how many bytes may be
 -- read.
-use Rattle.std.specs.Prelude.{◌≡◌, ℕ, true, false, List, [], ◌∷◌, ◌++◌, length, codes, decimal}
+use Rattle.std.specs.Prelude.{◌≡◌, ℕ, List, [], ◌∷◌, ◌++◌, length, codes, decimal}
 use Rattle.ev_base.specs.Source.{SourceFacts}
 use Rattle.ev_base.specs.Sink.{SinkFacts}
 use Rattle.sink_buffer.specs.Written.{TakesAll, BreaksOff}
-use Rattle.bounded_input.specs.Input.{TakesInput, IsReadToEnd}
-use Rattle.bounded_input.specs.Reading.{IsTooLong}
+use Rattle.bounded_input.specs.Reading.{IsReadWhole, ReadsSome, ReadsUpToFault, ReadsTooLong}
 use Rattle.reactor_journal.specs.declared.entry.Entry.{Entry}
 use Rattle.reactor_journal.specs.Follow.{Legal}
 use Rattle.log_handler.specs.declared.note.ServerNote.{ServerNote}
 use Rattle.journal_check.specs.Refusal.{RefusesAt}
 use Rattle.journal_check.specs.declared.reading.CheckRefused.{CheckRefused}
 use Rattle.journal_check.specs.declared.reading.CheckRefused.TheVariants as refused
-use Rattle.journal_text.specs.Journals.{IsJournalText, IsBadAt}
+use Rattle.journal_reader.specs.Journals.{IsJournalText, IsBadAt}
 use Rattle.journal_audit.specs.declared.auditing.AuditEnd.{AuditEnd}
 use Rattle.journal_audit.specs.declared.auditing.AuditEnd.TheVariants as end
 
 -- the line of a legal journal of so many entries
 abbrev pub legal_line : ℕ → List ℕ
 legal_line entries = codes "legal " ++ decimal entries ++ 10 ∷ []
-
--- the input was read to its end, and these are its bytes
-pub record IsReadWhole (limit : ℕ) (i j : SourceFacts) (text : List ℕ) : Type 0 where
-  pub takes : TakesInput limit false i j text []
-  pub over : IsReadToEnd j
 
 -- a text spells a legal journal
 pub record SpellsLegal (text : List ℕ) (journal : List (Entry ServerNote)) : Type 0 where
@@ -61,16 +55,6 @@ pub record IsIllegal (limit : ℕ) (i j : SourceFacts) (at : ℕ) : Type 0 where
   pub journal : List (Entry ServerNote)
   pub spells : IsJournalText text most journal
   pub refuses : RefusesAt journal most at
-
--- some bytes were read, and the read behind them failed or did not
-abbrev pub ReadsSome : ℕ → SourceFacts → SourceFacts → Type 0
-ReadsSome limit i j = (taken : List ℕ) × TakesInput limit false i j taken []
-
-abbrev pub ReadsUpToFault : ℕ → SourceFacts → SourceFacts → Type 0
-ReadsUpToFault limit i j = (taken : List ℕ) × TakesInput limit true i j taken []
-
-abbrev pub ReadsTooLong : ℕ → SourceFacts → SourceFacts → Type 0
-ReadsTooLong limit i j = (taken : List ℕ) × IsTooLong limit i j taken
 
 -- the line of a legal journal of so many entries was written, or a write of it failed
 abbrev pub WritesLegal : SinkFacts → ℕ → SinkFacts → AuditEnd → Type 0

@@ -5,7 +5,7 @@ ghost use Rattle.journal_audit.specs.Audits.{Audits, AuditsText, WritesLegal, en
 use bounded_input::{Ending, Whole, read_whole};
 use ev_base::{Sink, Source};
 use journal_check::{CheckRefused, check};
-use journal_text::{JournalRefused, read_journal};
+use journal_reader::{JournalRefused, read_journal};
 use log_lines::put_unsigned;
 use sink_buffer::{SinkBuffer, TextOut};
 use std::alloc::Global;

@@ -6,7 +6,7 @@ use Rattle.std.specs.BTreeMap.{is_at, insert_entry}
 use Rattle.std.specs.List.{AllByRecursion}
 use Rattle.std.specs.List.Sorted.{IsStrictlySortedBy}
 use Rattle.std.specs.Map.{keys_of, lookup, remove_entry}
-use Rattle.std.specs.Prelude.{Ok, Err, OnErr}
+use Rattle.std.specs.Prelude.{Ok, Err, OnErr, IsSome}
 use Rattle.std.specs.declared.result.Result.{Result}
 use Rattle.std.specs.Ordering.{nat_cmp, is_eq, match_ordering}
 use Rattle.std.specs.declared.cmp.Ordering.{Ordering}
@@ -162,6 +162,17 @@ module _ {V : Type 0} where
     where
       none : ◌≡◌ {A = Option V} None (Some v) → ⊥
       none q = cc
+
+  -- and that place has a value
+  pub some_there : (places : List (Option V)) (i : ℕ) (v : V) → lookup (is_at (nat_cmp i)) (entries_from 0 places) ≡ Some v → IsSome (get_or places i None)
+  some_there places i v is = some (get_or places i None) (sym (looked_up places i) ∙ is)
+    where
+      some : (o : Option V) → o ≡ Some v → IsSome o
+      some None q = absurd (none q)
+        where
+          none : ◌≡◌ {A = Option V} None (Some v) → ⊥
+          none r = cc
+      some (Some w) q = refl
 
   -- nothing stands behind the last place
   pub nothing_past : (places : List (Option V)) (i : ℕ) (es : List (ℕ × V)) → length places ≤ i → entries_from 0 places ≡ es → lookup (is_at (nat_cmp i)) es ≡ None

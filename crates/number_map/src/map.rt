@@ -6,15 +6,16 @@ ghost use Rattle.std.specs.Map.{keys_of, remove_entry};
 ghost use Rattle.std.specs.Ordering.{nat_cmp};
 ghost use Rattle.number_map.specs.Content.{found, Updates, entries_from};
 
+use crate::place_list::Places;
 use ev_types::NoMemory;
 use std::alloc::Global;
 use std::marker::Model;
 
-/// A map from numbers to values: each value stands in the place of its number. So a look-up takes one step, and the memory is that of the
-/// greatest number.
+/// A map from numbers to values: each number below the greatest has a place, which leads to its value. So a look-up takes two steps, and the
+/// memory is four bytes for each number up to the greatest, and that of the most values that there were at once.
 #[derive(Drop)]
 pub struct NumberMap<V: Copy> {
-    places: Vec<Option<V>>,
+    places: Places<V>,
 }
 
 impl<V: Copy> Model for NumberMap<V> {
@@ -22,7 +23,7 @@ impl<V: Copy> Model for NumberMap<V> {
 
     ghost Value = { Content V };
 
-    ghost view = { λ m. record { entries = entries_from 0 m.places.items } };
+    ghost view = { λ m. record { entries = entries_from 0 m.places } };
 }
 
 impl<V: Copy> NumberMap<V> {
@@ -32,7 +33,7 @@ impl<V: Copy> NumberMap<V> {
         ensures ordered { IsStrictlySortedBy nat_cmp (keys_of result.entries) }
     {
         NumberMap {
-            places: Vec::new(alloc),
+            places: Places::new(alloc),
         }
     }
 
@@ -40,13 +41,11 @@ impl<V: Copy> NumberMap<V> {
     pub fn get(&self, number: u64) -> Option<V>
         ensures value { result ≡ found self.now number }
     {
-        match self.places.get(number as usize) {
-            Some(place) => *place,
-            None => None,
-        }
+        self.places.get(number as usize)
     }
 
-    /// Gives a number a value, in place of one that it had. `NoMemory` comes only where it had none, and then all is as before.
+    /// Gives a number a value, in place of one that it had. `NoMemory` comes only where it had none, and then all is as before. More values at
+    /// once than 32 bits count are answered so too.
     pub fn insert(&mut self, number: u64, value: V) -> Result<(), NoMemory>
         ensures entries { OnOk result (self.new.entries ≡ insert_entry nat_cmp self.old.entries number value) }
         ensures updates { OnOk result (Updates self.old self.new number (Some value)) }
@@ -55,7 +54,7 @@ impl<V: Copy> NumberMap<V> {
         ensures ordered { IsStrictlySortedBy nat_cmp (keys_of self.new.entries) }
     {
         make_place(&mut self.places, number as usize)?;
-        self.places[number as usize] = Some(value);
+        self.places.put(number as usize, value)?;
         Ok(())
     }
 
@@ -68,7 +67,7 @@ impl<V: Copy> NumberMap<V> {
         ensures ordered { IsStrictlySortedBy nat_cmp (keys_of self.new.entries) }
     {
         let value = self.get(number)?;
-        self.places[number as usize] = None;
+        self.places.take(number as usize);
         Some(value)
     }
 
@@ -82,10 +81,10 @@ impl<V: Copy> NumberMap<V> {
 }
 
 /// Makes a place of this number, where there is none.
-fn make_place<V: Copy>(places: &mut Vec<Option<V>>, place: usize) -> Result<(), NoMemory>
-    ensures entries { entries_from 0 places.new.items ≡ entries_from 0 places.old.items }
-    ensures there { OnOk result (place < length places.new.items) }
-    ensures full { OnErr result (length places.old.items ≤ place) }
+fn make_place<V: Copy>(places: &mut Places<V>, place: usize) -> Result<(), NoMemory>
+    ensures entries { entries_from 0 places.new ≡ entries_from 0 places.old }
+    ensures there { OnOk result (place < length places.new) }
+    ensures full { OnErr result (length places.old ≤ place) }
 {
     if place < places.len() {
         return Ok(());
@@ -93,6 +92,6 @@ fn make_place<V: Copy>(places: &mut Vec<Option<V>>, place: usize) -> Result<(), 
     let Some(len) = place.checked_add(1) else {
         return Err(NoMemory);
     };
-    places.resize(len, None)?;
+    places.lengthen(len)?;
     Ok(())
 }

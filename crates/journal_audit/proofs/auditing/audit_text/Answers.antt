@@ -1,5 +1,5 @@
 use Rattle.std.proofs.Common.{subst, sym, ap, ◌∙◌, Err}
-use Rattle.journal_text.specs.Journals.{IsJournalText}
+use Rattle.journal_reader.specs.Journals.{IsJournalText}
 use Rattle.journal_audit.specs.Audits.{AuditsText}
 use Rattle.journal_audit.proofs.Refused.{audits-refused}
 use Rattle.journal_audit.proofs.auditing.audit_text.Goals as goal

@@ -2,4 +2,4 @@ use Rattle.number_map.proofs.Places.{in_order}
 use Rattle.number_map.proofs.map.NumberMap.clear.Goals as goal
 
 pub returns-clause-ordered : goal.returns-clause-ordered
-returns-clause-ordered g c = in_order 0 c.clear.new.self.items
+returns-clause-ordered g c = in_order 0 c.clear.new.self
