@@ -1,6 +1,7 @@
 //! Texts of journals that are read, and texts that are none with their first bad line.
 use ev_base::MemSink;
-use journal_text::{JournalRefused, read_journal, write_journal};
+use journal_reader::{JournalRefused, read_journal};
+use journal_text::write_journal;
 use log_handler::ServerNote;
 use reactor_model::Journal;
 use std::alloc::Global;

@@ -1,10 +1,4 @@
 pub mod Texts
 pub mod JournalSink
 pub mod Faults
-pub mod Limits
-pub mod Journals
-pub mod Reading
-pub mod Parts
-pub mod Records
-pub mod FirstLines
 pub mod Names

@@ -3,25 +3,13 @@
 
 mod entries;
 mod journal_sink;
-mod laws;
-mod lines;
 mod notes;
-mod parts;
-mod read_entries;
-mod read_notes;
-mod read_records;
-mod reading;
-mod refusal;
 mod tables;
-mod values;
 mod words;
 mod writing;
 
 pub use code_table::CodeTable;
 pub use entries::{put_entry_line, put_most_line};
 pub use journal_sink::JournalSink;
-pub use laws::texts_have_one_reading;
-pub use reading::read_journal;
-pub use refusal::JournalRefused;
 pub use tables::{entry_kinds, priorities};
 pub use writing::{WriteFailed, write_journal};

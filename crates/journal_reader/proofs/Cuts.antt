@@ -1,0 +1,49 @@
+-- The parts of a text at its first separator.
+use Rattle.std.proofs.Common.{◌≡◌, ℕ, suc, ◌+◌, ◌<◌, ◌≤◌, Bool, true, false, not, cond, ltb, ◌==◌, List, [], ◌∷◌, length, take, drop, Option, Some, None, refl, sym, ap, arith}
+use Rattle.std.specs.List.{position_or_len, onto_first}
+use Rattle.std.proofs.lemmas.Bool.Decides.{nat_tests}
+use Rattle.std.proofs.lemmas.List.Splits.{slice_split_first}
+use Rattle.std.specs.Prelude.{is_some}
+use Rattle.std.specs.Borrow.{Bor}
+use Rattle.journal_reader.specs.Reading.{parts, no_more}
+use Rattle.journal_reader.specs.Parts.{parts_behind}
+
+none_step : (b : Bool) (c x : ℕ) (xs : List ℕ) → (length xs ≤ position_or_len (λ b. b == c) xs → parts c xs ≡ xs ∷ []) → suc (length xs) ≤ cond (not b) (1 + position_or_len (λ b. b == c) xs) 0
+    → cond b ([] ∷ parts c xs) (onto_first x (parts c xs)) ≡ (x ∷ xs) ∷ []
+none_step true c x xs rest h = absurd (omega (arith, h))
+none_step false c x xs rest h = ap (onto_first x) (rest (omega (arith, h)))
+
+parts_none : (c : ℕ) (xs : List ℕ) → length xs ≤ position_or_len (λ b. b == c) xs → parts c xs ≡ xs ∷ []
+parts_none c [] h = refl
+parts_none c (x ∷ xs) h = none_step (x == c) c x xs (parts_none c xs) h
+
+-- the part in front, by the answer of `position`
+abbrev pub AreCut : ℕ → List ℕ → Option ℕ → Type 0
+AreCut c xs None = parts c xs ≡ xs ∷ []
+AreCut c xs (Some at) = (at < length xs) × (parts c xs ≡ take at xs ∷ parts c (drop (at + 1) xs))
+
+by_test : (b : Bool) (c : ℕ) (xs : List ℕ) → ltb (position_or_len (λ b. b == c) xs) (length xs) ≡ b → AreCut c xs (cond b (Some (position_or_len (λ b. b == c) xs)) None)
+by_test true c xs e = let lt : position_or_len (λ b. b == c) xs < length xs = grind (arith, nat_tests) in (lt, slice_split_first (λ b. b == c) xs 0 lt)
+by_test false c xs e = parts_none c xs (grind (arith, nat_tests))
+
+pub are_cut : (c : ℕ) (xs : List ℕ) → AreCut c xs (cond (ltb (position_or_len (λ b. b == c) xs) (length xs)) (Some (position_or_len (λ b. b == c) xs)) None)
+are_cut c xs = by_test _ c xs refl
+
+-- there is always a part
+joined : (x : ℕ) (ps : List (List ℕ)) → no_more (onto_first x ps) ≡ false
+joined x [] = refl
+joined x (p ∷ ps) = refl
+
+one_step : (b : Bool) (c x : ℕ) (xs : List ℕ) → no_more (cond b ([] ∷ parts c xs) (onto_first x (parts c xs))) ≡ false
+one_step true c x xs = refl
+one_step false c x xs = joined x (parts c xs)
+
+pub one_part : (c : ℕ) (xs : List ℕ) → no_more (parts c xs) ≡ false
+one_part c [] = refl
+one_part c (x ∷ xs) = one_step (x == c) c x xs
+
+pub none_left : (c : ℕ) (rest : Option (Bor (List ℕ))) (over : Bool) → is_some rest ≡ not over → over ≡ no_more (parts_behind c rest)
+none_left c None true is = refl
+none_left c None false is = cc
+none_left c (Some r) true is = cc
+none_left c (Some r) false is = sym (one_part c r.now)

@@ -1,0 +1,12 @@
+pub mod Cuts
+pub mod Numbers
+pub mod RecordsRead
+pub mod Joins
+pub mod Spelled
+pub mod Messages
+pub mod RecordWords
+pub mod NoteWords
+pub mod EntryWords
+pub mod FirstLines
+pub mod JournalRead
+pub mod OneReading
