@@ -1,0 +1,5 @@
+pub mod Chains
+pub mod Marking
+pub mod Lanes
+pub mod Bars
+pub mod Handles

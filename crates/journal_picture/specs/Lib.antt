@@ -1,0 +1,10 @@
+pub mod Layouts
+pub mod Places
+pub mod Rooms
+pub mod Shapes
+pub mod Pieces
+pub mod Legends
+pub mod Headers
+pub mod Marks
+pub mod Pictures
+pub mod Laws
