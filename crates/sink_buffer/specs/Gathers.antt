@@ -4,7 +4,10 @@ use Rattle.ev_base.specs.Sink.{SinkFacts}
 use Rattle.sink_buffer.specs.Written.{TakesAll, BreaksOff}
 use Rattle.sink_buffer.specs.declared.buffer.SinkBuffer.{SinkBuffer}
 
--- the bytes that are held back
+-- how many bytes are held back, and which
+abbrev pub held_count : {K : Type 0} → SinkBuffer K → ℕ
+held_count buffer = buffer.held
+
 abbrev pub held_of : {K : Type 0} → SinkBuffer K → List ℕ
 held_of buffer = take buffer.held buffer.bytes
 

@@ -1,5 +1,5 @@
 -- Texts that a sink took, whole or in part.
-use Rattle.std.specs.Prelude.{◌≡◌, ℕ, List, ◌++◌, Bool, true, false}
+use Rattle.std.specs.Prelude.{◌≡◌, ℕ, List, ◌++◌, Bool, true, false, Some}
 use Rattle.ev_base.specs.Counts.{counted}
 use Rattle.ev_base.specs.Sink.{SinkFacts, GrowsBy}
 
@@ -23,3 +23,17 @@ pub record BreaksOff (old : SinkFacts) (bytes : List ℕ) (new : SinkFacts) : Ty
 abbrev pub WritesAll : SinkFacts → List ℕ → Bool → SinkFacts → Type 0
 WritesAll old bytes true new = TakesAll old bytes new
 WritesAll old bytes false new = BreaksOff old bytes new
+
+-- Where a sink told its text, that is the text at the start and behind it all of these bytes. No write failed. (A sink that did not tell its
+-- text at the start may do so now.)
+pub record TookAll (old : SinkFacts) (bytes : List ℕ) (new : SinkFacts) : Type 0 where
+  pub text : (start : List ℕ) → old.text ≡ Some start → new.text ≡ Some (start ++ bytes)
+  pub faults : new.faults ≡ old.faults
+
+-- Where a sink told its text, that is the text at the start and behind it a front of these bytes. Then one write failed, and none was tried
+-- behind it.
+pub record TookFront (old : SinkFacts) (bytes : List ℕ) (new : SinkFacts) : Type 0 where
+  pub front : List ℕ
+  pub is_front : IsPrefixOf front bytes
+  pub text : (start : List ℕ) → old.text ≡ Some start → new.text ≡ Some (start ++ front)
+  pub one_failed : new.faults ≡ counted old.faults

@@ -22,7 +22,7 @@ pub struct SinkBuffer<K> {
 }
 
 impl<K: Sink> SinkBuffer<K> {
-    ghost use Rattle.sink_buffer.specs.Gathers.{Gathers, held_of, is_broken, output_of, HasPut};
+    ghost use Rattle.sink_buffer.specs.Gathers.{Gathers, held_count, held_of, is_broken, output_of, HasPut};
     ghost use Rattle.sink_buffer.specs.Texts.{Puts};
 
     /// A buffer before this sink, which holds nothing.
@@ -95,7 +95,7 @@ impl<K: Sink> SinkBuffer<K> {
     pub fn flush(&mut self)
         ensures text { (start : SinkFacts) (put : List ℕ) → Gathers K.facts start self.old put → Gathers K.facts start self.new put }
         ensures held { held_of self.new ≡ [] }
-        ensures empty { self.new.held ≡ 0 }
+        ensures empty { held_count self.new ≡ 0 }
         ensures idle { length (held_of self.old) ≡ 0 → output_of self.new ≡ output_of self.old }
         ensures quiet { is_broken self.old ≡ true → output_of self.new ≡ output_of self.old }
     {
