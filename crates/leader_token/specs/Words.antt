@@ -1,4 +1,5 @@
 -- What contracts name of a token, of a pass and of a value that is out.
+use Rattle.std.specs.Box.{with_value}
 use Rattle.atomic_table.specs.Seated.{TableId}
 use Rattle.leader_token.specs.declared.held.Held.{Held}
 use Rattle.leader_token.specs.declared.kept.Kept.{Ghosts as Keeping}
@@ -22,3 +23,7 @@ module _ {T E Q : Type 0} where
 -- The value that a pass got.
 abbrev pub value_of : {T : Type 0} → Held T → T
 value_of held = held.value.value
+
+-- The same with another value.
+abbrev pub held_with : {T : Type 0} → Held T → T → Held T
+held_with held value = record held { value = with_value held.value value }

@@ -1,8 +1,7 @@
 // The value while it is out.
 ghost use Rattle.std.specs.Prelude.{◌≡◌};
 ghost use Rattle.std.specs.Borrow.{Lends, sem};
-ghost use Rattle.std.specs.Box.{with_value};
-ghost use Rattle.leader_token.specs.Words.{value_of};
+ghost use Rattle.leader_token.specs.Words.{held_with, value_of};
 ghost use Rattle.leader_token.specs.contracts.held.Held.{the_row};
 
 /// The value of a token, which its pass got. It has no `Drop`, so it has to end in `Token::put`.
@@ -15,7 +14,7 @@ impl<T> Held<T> {
     /// The value, lent for reading and writing.
     pub fn value(&mut self) -> &mut T
         ensures value { result.now ≡ value_of self.old }
-        ensures* writes_back { sem 𝓛 (Lends (the_row T.row) T.row self.entry result (λ w. record self.old { value = with_value self.old.value w })) }
+        ensures* writes_back { sem 𝓛 (Lends (the_row T.row) T.row self.entry result (λ w. held_with self.old w)) }
     {
         self.value.as_mut()
     }

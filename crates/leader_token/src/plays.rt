@@ -13,10 +13,10 @@ pub struct TokenRule<T> {
 }
 
 impl<T: Kept> TableRule<Option<Box<T>>, View<T::Entry, T::Terms>, Key<T>> for TokenRule<T> {
-    ghost use Rattle.leader_token.specs.Rule.{RuleHolds, named};
-    ghost use Rattle.leader_token.specs.Boxed.{boxed, boxed_marks};
+    ghost use Rattle.leader_token.specs.Rule.{named};
+    ghost use Rattle.leader_token.specs.Boxed.{RuleHoldsBoxed};
 
-    ghost holds = { λ key. RuleHolds (boxed T.stands) T.opens (boxed_marks T.marks) (named T.blank key.log).terms };
+    ghost holds = { λ key. RuleHoldsBoxed T.stands T.opens T.marks (named T.blank key.log).terms };
 
     ghost first = { λ key. named T.blank key.log };
 }
@@ -27,10 +27,9 @@ pub struct Claim<T> {
 }
 
 impl<T: Kept> Play<Option<Box<T>>, View<T::Entry, T::Terms>> for Claim<T> {
-    ghost use Rattle.leader_token.specs.Rule.{Claimed};
-    ghost use Rattle.leader_token.specs.Boxed.{boxed, boxed_marks};
+    ghost use Rattle.leader_token.specs.Boxed.{ClaimedBoxed};
 
-    ghost then = { λ st m r n. Claimed (boxed T.stands) T.opens (boxed_marks T.marks) m r n };
+    ghost then = { λ st m r n. ClaimedBoxed T.stands T.opens T.marks m r n };
 }
 
 /// The token is free again.
@@ -39,10 +38,9 @@ pub struct Release<T> {
 }
 
 impl<T: Kept> Play<Option<Box<T>>, View<T::Entry, T::Terms>> for Release<T> {
-    ghost use Rattle.leader_token.specs.Rule.{Released};
-    ghost use Rattle.leader_token.specs.Boxed.{boxed, boxed_marks};
+    ghost use Rattle.leader_token.specs.Boxed.{ReleasedBoxed};
 
-    ghost then = { λ st m r n. Released (boxed T.stands) T.opens (boxed_marks T.marks) m n };
+    ghost then = { λ st m r n. ReleasedBoxed T.stands T.opens T.marks m n };
 }
 
 /// The root makes a pass.

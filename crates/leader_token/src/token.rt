@@ -1,9 +1,9 @@
 // The calls of a token.
 ghost use Rattle.std.specs.Prelude.{◌≡◌, ◌+◌, ◌-◌, ◌<◌, true, false, Option, None, Some, List, [], ◌∷◌, IfOk, IfErr, IfSome, IfNone, MatchOption, ℕ};
-ghost use Rattle.leader_token.specs.Boxed.{boxed, boxed_marks};
+ghost use Rattle.leader_token.specs.Boxed.{IsGotBoxed, IsPutBoxed, MayPutBoxed, OwnEventsDifferBoxed};
 ghost use Rattle.leader_token.specs.Lists.{Begins};
 ghost use Rattle.leader_token.specs.Passes.{IsGot, IsLast, MayPut, IsPut, first_view, split_left, split_right, joined, IsOpenLater};
-ghost use Rattle.leader_token.specs.Rule.{MayStart, OwnEventsDiffer};
+ghost use Rattle.leader_token.specs.Rule.{MayStart};
 ghost use Rattle.leader_token.specs.Words.{id_of, token_of, value_of, view_of};
 
 use crate::held::Held;
@@ -19,8 +19,8 @@ use std::marker::Brand;
 use std::sync::Wait;
 use std::sync::atomic::{AtomicU64, Ordering};
 
-// How often a thread looks at a token that is held before it sleeps.
-const LOOKS: u32 = 40;
+// How often a thread looks at a token that is held before it sleeps: some 40 microseconds, in which a few holds with a write each end.
+const LOOKS: u32 = 1000;
 
 impl<T: Kept> Token<T> {
     /// Makes a token for a value that stands for a list without open events. Its root pass has seen that
@@ -40,7 +40,7 @@ impl<T: Kept> Token<T> {
         requires table { seat.old.table_id ≡ id_of self.now }
         requires free { (seat.old.me.0.spent ≡ false) × (seat.old.me.0.base ≡ None) × (seat.old.me.1 ≡ []) }
         ensures table { (seat.new.table_id ≡ seat.old.table_id) × (seat.new.id ≡ seat.old.id) }
-        ensures got { MatchOption result (seat.new.me ≡ seat.old.me) (λ t. (seat.new.me.1 ≡ (0, None) ∷ []) × IsGot (boxed T.stands) T.opens (boxed_marks T.marks) seat.old.me.0 t seat.new.me.0) }
+        ensures got { MatchOption result (seat.new.me ≡ seat.old.me) (λ t. (seat.new.me.1 ≡ (0, None) ∷ []) × IsGotBoxed T.stands T.opens T.marks seat.old.me.0 t seat.new.me.0) }
     {
         let shared = &self.table.shared;
         let found = shared.compare_exchange::<Claim<T>>(seat, 0, 0, 1);
@@ -97,9 +97,9 @@ impl<T: Kept> Token<T> {
         requires table { seat.old.table_id ≡ id_of self.now }
         requires live { seat.old.me.0.spent ≡ false }
         requires out { seat.old.me.1 ≡ (0, None) ∷ [] }
-        requires may { MayPut (boxed T.stands) T.opens (boxed_marks T.marks) seat.old.me.0 value }
+        requires may { MayPutBoxed T.stands T.opens T.marks seat.old.me.0 value }
         ensures table { seat.new.table_id ≡ seat.old.table_id }
-        ensures put { IsPut (boxed T.stands) T.opens (boxed_marks T.marks) seat.old.me.0 value seat.new.me.0 × (seat.new.me.1 ≡ []) }
+        ensures put { IsPutBoxed T.stands T.opens T.marks seat.old.me.0 value seat.new.me.0 × (seat.new.me.1 ≡ []) }
     {
         let shared = &self.table.shared;
         let empty = shared.exchange(seat, 0, Some(value));
@@ -202,5 +202,5 @@ fn started<T: Kept, B: FirstView<T::Entry, T::Terms>>(
 /// A law of every token at any moment: the own events of its passes are, together, the open events of the
 /// list that its value stands for, and no two passes have the same one.
 pub fn own_events_differ<T: Kept>()
-    ensures { OwnEventsDiffer (boxed T.stands) T.opens (boxed_marks T.marks) }
+    ensures { OwnEventsDifferBoxed T.stands T.opens T.marks }
 {}

@@ -1,2 +1,3 @@
+pub mod Passes
 pub mod Logs
 pub mod Events

@@ -1,6 +1,7 @@
 // A desk under a token: its notes begin and end events, and it counts its faults.
 ghost use Rattle.std.specs.Prelude.{◌≡◌, ◌++◌, ◌≤◌, ◌+◌, [], ◌∷◌, None, Some, IfSome, IfNone, true, false, length};
 ghost use Rattle.leader_token.specs.Words.{id_of, token_of, view_of};
+ghost use Rattle.token_rows.specs.Passes.{HasKinOf, IsFree};
 ghost use Rattle.token_rows.specs.Events.{Adds};
 
 use leader_token::{Kept, Pass, Token};
@@ -56,10 +57,10 @@ fn push(desk: &mut Desk, note: Note) -> bool
 /// want of memory it counts a fault.
 pub fn begin<R: Wait>(rt: &R, token: &Token<Desk>, pass: &mut Pass<Desk>) -> Option<u64>
     requires token { token_of pass.old ≡ id_of token.now }
-    requires free { ((view_of pass.old).base ≡ None) × ((view_of pass.old).mine ≡ None) }
+    requires free { IsFree (view_of pass.old) }
     ensures token { token_of pass.new ≡ token_of pass.old }
     ensures free { (view_of pass.new).base ≡ None }
-    ensures kin { ((view_of pass.new).root ≡ (view_of pass.old).root) × ((view_of pass.new).children ≡ (view_of pass.old).children) }
+    ensures kin { HasKinOf (view_of pass.old) (view_of pass.new) }
     ensures mine { (view_of pass.new).mine ≡ result }
     ensures begun { IfSome result (λ event. Adds (Note.Begun event) (view_of pass.old).seen (view_of pass.new).seen × (length (view_of pass.new).seen ≡ event + 1)) }
 {
@@ -81,7 +82,7 @@ pub fn settle<R: Wait>(rt: &R, token: &Token<Desk>, pass: &mut Pass<Desk>, event
     requires own { ((view_of pass.old).base ≡ None) × ((view_of pass.old).mine ≡ Some event) }
     ensures token { token_of pass.new ≡ token_of pass.old }
     ensures free { (view_of pass.new).base ≡ None }
-    ensures kin { ((view_of pass.new).root ≡ (view_of pass.old).root) × ((view_of pass.new).children ≡ (view_of pass.old).children) }
+    ensures kin { HasKinOf (view_of pass.old) (view_of pass.new) }
     ensures yes { result ≡ true → ((view_of pass.new).mine ≡ None) × Adds (Note.Ended event) (view_of pass.old).seen (view_of pass.new).seen }
     ensures no { result ≡ false → (view_of pass.new).mine ≡ Some event }
 {

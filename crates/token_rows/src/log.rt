@@ -1,6 +1,7 @@
 // A log and who adds to it.
-ghost use Rattle.std.specs.Prelude.{◌≡◌, ◌++◌, None, true, IfSome};
+ghost use Rattle.std.specs.Prelude.{◌≡◌, ◌++◌, true, IfSome};
 ghost use Rattle.leader_token.specs.Words.{id_of, token_of, view_of};
+ghost use Rattle.token_rows.specs.Passes.{HasKinOf, IsFree};
 ghost use Rattle.token_rows.specs.Logs.{Adds, HasInOrder, if_added};
 
 use leader_token::{Kept, Pass, Token};
@@ -46,10 +47,10 @@ impl Kept for Log {
 /// Adds one entry, or says that there was no memory.
 pub fn add<R: Wait>(rt: &R, token: &Token<Log>, pass: &mut Pass<Log>, entry: Entry) -> bool
     requires token { token_of pass.old ≡ id_of token.now }
-    requires free { ((view_of pass.old).base ≡ None) × ((view_of pass.old).mine ≡ None) }
+    requires free { IsFree (view_of pass.old) }
     ensures token { token_of pass.new ≡ token_of pass.old }
-    ensures free { ((view_of pass.new).base ≡ None) × ((view_of pass.new).mine ≡ None) }
-    ensures kin { ((view_of pass.new).root ≡ (view_of pass.old).root) × ((view_of pass.new).children ≡ (view_of pass.old).children) }
+    ensures free { IsFree (view_of pass.new) }
+    ensures kin { HasKinOf (view_of pass.old) (view_of pass.new) }
     ensures seen { result ≡ true → Adds entry (view_of pass.old).seen (view_of pass.new).seen }
 {
     let mut held = token.get(rt, pass);
@@ -72,10 +73,10 @@ pub fn add_many<R: Wait>(
     by: u64,
 ) -> (Pass<Log>, bool)
     requires token { token_of pass ≡ id_of token.now }
-    requires free { ((view_of pass).base ≡ None) × ((view_of pass).mine ≡ None) }
+    requires free { IsFree (view_of pass) }
     ensures token { token_of result.0 ≡ token_of pass }
-    ensures free { ((view_of result.0).base ≡ None) × ((view_of result.0).mine ≡ None) }
-    ensures kin { ((view_of result.0).root ≡ (view_of pass).root) × ((view_of result.0).children ≡ (view_of pass).children) }
+    ensures free { IsFree (view_of result.0) }
+    ensures kin { HasKinOf (view_of pass) (view_of result.0) }
     ensures seen { result.1 ≡ true → HasInOrder by 1000 (view_of result.0).seen }
 {
     for seq in 0..1000 {
@@ -106,12 +107,12 @@ pub fn two_writers<R: Threads + Wait + Sync>(rt: &R, alloc: Global) -> Option<Lo
     let (first, second) = join(
         rt,
         move || -> (Pass<Log>, bool)
-            requires { (token_of first ≡ id_of shared.now) × ((view_of first).base ≡ None) × ((view_of first).mine ≡ None) }
-            ensures { (token_of result.0 ≡ id_of shared.entry.now) × ((view_of result.0).root ≡ (view_of first).root) × ((view_of result.0).base ≡ None) × ((view_of result.0).mine ≡ None) × (result.1 ≡ true → HasInOrder 0 1000 (view_of result.0).seen) }
+            requires { (token_of first ≡ id_of shared.now) × IsFree (view_of first) }
+            ensures { (token_of result.0 ≡ id_of shared.entry.now) × ((view_of result.0).root ≡ (view_of first).root) × IsFree (view_of result.0) × (result.1 ≡ true → HasInOrder 0 1000 (view_of result.0).seen) }
         { add_many(rt, shared, first, 0) },
         move || -> (Pass<Log>, bool)
-            requires { (token_of second ≡ id_of shared.now) × ((view_of second).base ≡ None) × ((view_of second).mine ≡ None) }
-            ensures { (token_of result.0 ≡ id_of shared.entry.now) × ((view_of result.0).root ≡ (view_of second).root) × ((view_of result.0).base ≡ None) × ((view_of result.0).mine ≡ None) × (result.1 ≡ true → HasInOrder 1 1000 (view_of result.0).seen) }
+            requires { (token_of second ≡ id_of shared.now) × IsFree (view_of second) }
+            ensures { (token_of result.0 ≡ id_of shared.entry.now) × ((view_of result.0).root ≡ (view_of second).root) × IsFree (view_of result.0) × (result.1 ≡ true → HasInOrder 1 1000 (view_of result.0).seen) }
         { add_many(rt, shared, second, 1) },
     );
     let (first, first_added) = first;
