@@ -1,7 +1,7 @@
 // Posting from four threads and draining in a fifth.
 ghost use Rattle.std.specs.Prelude.{◌≡◌, ◌+◌, ◌^◌, ◌<◌, ◌≤◌, true, false, IfSome};
 ghost use Rattle.notify_ring.specs.Words.{id_of, poster_ring, poster_view, drainer_ring, drainer_view};
-ghost use Rattle.ring_rows.specs.Rows.{IsTaken};
+ghost use Rattle.ring_rows.specs.Rows.{IsTaken, HasKinOf};
 
 use ev_types::{Handle, Kind};
 use notify_ring::{Drainer, Poster, Posting, Ring};
@@ -22,7 +22,7 @@ pub fn post_many(ring: &Ring, mut poster: Poster, base: u64, count: u64, tries: 
     requires ring { poster_ring poster ≡ id_of ring.now }
     requires count { (count ≤ 2 ^ 56) × (base + count < 2 ^ 64) }
     ensures ring { poster_ring result ≡ id_of ring.now }
-    ensures kin { ((poster_view result).root ≡ (poster_view poster).root) × ((poster_view result).posters ≡ (poster_view poster).posters) × ((poster_view result).children ≡ (poster_view poster).children) }
+    ensures kin { HasKinOf (poster_view poster) (poster_view result) }
 {
     for _ in 0..tries {
         let made = poster.made();
@@ -77,7 +77,7 @@ fn post_both<R: Threads + Sync>(
     requires ring { (poster_ring one ≡ id_of ring.now) × (poster_ring other ≡ id_of ring.now) }
     requires count { (count ≤ 2 ^ 56) × (bases.0 + count < 2 ^ 64) × (bases.1 + count < 2 ^ 64) }
     ensures ring { (poster_ring result.0 ≡ id_of ring.now) × (poster_ring result.1 ≡ id_of ring.now) }
-    ensures one { ((poster_view result.0).root ≡ (poster_view one).root) × ((poster_view result.0).posters ≡ (poster_view one).posters) × ((poster_view result.0).children ≡ (poster_view one).children) }
+    ensures one { HasKinOf (poster_view one) (poster_view result.0) }
     ensures other { (poster_view result.1).root ≡ (poster_view other).root }
 {
     let (first, second) = bases;
@@ -85,7 +85,7 @@ fn post_both<R: Threads + Sync>(
         rt,
         move || -> Poster
             requires { (poster_ring one ≡ id_of ring.now) × (count ≤ 2 ^ 56) × (first + count < 2 ^ 64) }
-            ensures { (poster_ring result ≡ id_of ring.entry.now) × ((poster_view result).root ≡ (poster_view one).root) × ((poster_view result).posters ≡ (poster_view one).posters) × ((poster_view result).children ≡ (poster_view one).children) }
+            ensures { (poster_ring result ≡ id_of ring.entry.now) × HasKinOf (poster_view one) (poster_view result) }
         { post_many(ring, one, first, count, tries) },
         move || -> Poster
             requires { (poster_ring other ≡ id_of ring.now) × (count ≤ 2 ^ 56) × (second + count < 2 ^ 64) }
@@ -101,7 +101,7 @@ fn post_four<R: Threads + Sync>(rt: &R, ring: &Ring, posters: Four, count: u64, 
     requires ring { (poster_ring posters.0 ≡ id_of ring.now) × (poster_ring posters.1 ≡ id_of ring.now) × (poster_ring posters.2 ≡ id_of ring.now) × (poster_ring posters.3 ≡ id_of ring.now) }
     requires count { count ≤ 2 ^ 56 }
     ensures ring { (poster_ring result.0 ≡ id_of ring.now) × (poster_ring result.1 ≡ id_of ring.now) × (poster_ring result.2 ≡ id_of ring.now) × (poster_ring result.3 ≡ id_of ring.now) }
-    ensures root { ((poster_view result.0).root ≡ (poster_view posters.0).root) × ((poster_view result.0).posters ≡ (poster_view posters.0).posters) × ((poster_view result.0).children ≡ (poster_view posters.0).children) }
+    ensures root { HasKinOf (poster_view posters.0) (poster_view result.0) }
     ensures children { ((poster_view result.1).root ≡ (poster_view posters.1).root) × ((poster_view result.2).root ≡ (poster_view posters.2).root) × ((poster_view result.3).root ≡ (poster_view posters.3).root) }
 {
     let (a, b, c, d) = posters;
@@ -109,7 +109,7 @@ fn post_four<R: Threads + Sync>(rt: &R, ring: &Ring, posters: Four, count: u64, 
         rt,
         move || -> (Poster, Poster)
             requires { (poster_ring a ≡ id_of ring.now) × (poster_ring b ≡ id_of ring.now) × (count ≤ 2 ^ 56) }
-            ensures { (poster_ring result.0 ≡ id_of ring.entry.now) × (poster_ring result.1 ≡ id_of ring.entry.now) × ((poster_view result.0).root ≡ (poster_view a).root) × ((poster_view result.0).posters ≡ (poster_view a).posters) × ((poster_view result.0).children ≡ (poster_view a).children) × ((poster_view result.1).root ≡ (poster_view b).root) }
+            ensures { (poster_ring result.0 ≡ id_of ring.entry.now) × (poster_ring result.1 ≡ id_of ring.entry.now) × HasKinOf (poster_view a) (poster_view result.0) × ((poster_view result.1).root ≡ (poster_view b).root) }
         { post_both(rt, ring, a, b, (0, 1 << 60), count, tries) },
         move || -> (Poster, Poster)
             requires { (poster_ring c ≡ id_of ring.now) × (poster_ring d ≡ id_of ring.now) × (count ≤ 2 ^ 56) }
@@ -142,7 +142,7 @@ pub fn four_posters<R: Threads + Sync>(
         rt,
         move || -> Four
             requires { (poster_ring root ≡ id_of shared.now) × (poster_ring one ≡ id_of shared.now) × (poster_ring two ≡ id_of shared.now) × (poster_ring three ≡ id_of shared.now) × (count ≤ 2 ^ 56) }
-            ensures { (poster_ring result.0 ≡ id_of shared.entry.now) × (poster_ring result.1 ≡ id_of shared.entry.now) × (poster_ring result.2 ≡ id_of shared.entry.now) × (poster_ring result.3 ≡ id_of shared.entry.now) × ((poster_view result.0).root ≡ (poster_view root).root) × ((poster_view result.0).posters ≡ (poster_view root).posters) × ((poster_view result.0).children ≡ (poster_view root).children) × ((poster_view result.1).root ≡ (poster_view one).root) × ((poster_view result.2).root ≡ (poster_view two).root) × ((poster_view result.3).root ≡ (poster_view three).root) }
+            ensures { (poster_ring result.0 ≡ id_of shared.entry.now) × (poster_ring result.1 ≡ id_of shared.entry.now) × (poster_ring result.2 ≡ id_of shared.entry.now) × (poster_ring result.3 ≡ id_of shared.entry.now) × HasKinOf (poster_view root) (poster_view result.0) × ((poster_view result.1).root ≡ (poster_view one).root) × ((poster_view result.2).root ≡ (poster_view two).root) × ((poster_view result.3).root ≡ (poster_view three).root) }
         { post_four(rt, shared, (root, one, two, three), count, turns) },
         move || -> (Drainer, Vec<Posting>)
             requires { (drainer_ring drainer ≡ id_of shared.now) × (taken.items ≡ (drainer_view drainer).got) }
