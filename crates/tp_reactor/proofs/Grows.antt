@@ -219,7 +219,7 @@ tells_before v x w ran.Broken terms above t = λ before is. t before (ap (λ (q 
 tells_before v x w ran.NetFault terms above t = rose_before _ _ _ (above 1) t
 tells_before v x w ran.NoMemory terms above t = tt
 tells_before v x w ran.VolumeFault terms above t = rose_before _ _ _ (above 3) t
-tells_before v x w ran.Stopped terms above t = tt
+tells_before v x w ran.Stopped terms above t = t
 tells_before v x w ran.Over terms above t = t
 
 module _ {H M Q W V N E : Type 0} (m : Meaning H M Q W V N E) where
@@ -230,7 +230,7 @@ module _ {H M Q W V N E : Type 0} (m : Meaning H M Q W V N E) where
   led_tells v w (led.Job job) answer is t = absurd cc
   led_tells v w led.Quiet answer is t = absurd cc
   led_tells v w led.Over answer is t = subst (λ (a : Ran). RanTells v a w) (some_of ran.Over answer is) t
-  led_tells v w led.Stopped answer is t = subst (λ (a : Ran). RanTells v a w) (some_of ran.Stopped answer is) tt
+  led_tells v w led.Stopped answer is t = subst (λ (a : Ran). RanTells v a w) (some_of ran.Stopped answer is) t
   led_tells v w led.Broken answer is t = subst (λ (a : Ran). RanTells v a w) (some_of ran.Broken answer is) t
   led_tells v w led.VolumeFault answer is t = subst (λ (a : Ran). RanTells v a w) (some_of ran.VolumeFault answer is) t
   led_tells v w led.NetFault answer is t = subst (λ (a : Ran). RanTells v a w) (some_of ran.NetFault answer is) t

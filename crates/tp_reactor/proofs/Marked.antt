@@ -21,7 +21,7 @@ module _ {H M Q W V N E : Type 0} (m : Meaning H M Q W V N E) (v : View (Entry N
   marks_tell (led.Job job) d = tt
   marks_tell led.Quiet d = tt
   marks_tell led.Over d = by_view led.Over _ d.leaves.view (d.tells v.terms d.leaves.first _ d.leaves.stands)
-  marks_tell led.Stopped d = tt
+  marks_tell led.Stopped d = by_view led.Stopped _ d.leaves.view d.gives.0
   marks_tell led.Broken d = by_view led.Broken _ d.leaves.view (d.tells v.terms d.leaves.first _ d.leaves.stands)
   marks_tell led.VolumeFault d = by_view led.VolumeFault _ d.leaves.view (rose_above _ _ _ (d.finds.above 3) d.tells)
   marks_tell led.NetFault d = by_view led.NetFault _ d.leaves.view (rose_above _ _ _ (d.finds.above 1) d.tells)

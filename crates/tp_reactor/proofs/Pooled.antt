@@ -1,5 +1,5 @@
 -- What a pool of workers keeps and tells.
-use Rattle.std.proofs.Common.{ℕ, suc, ◌≡◌, ◌≤◌, ◌<◌, ◌+◌, ◌-◌, Bool, true, false, if◌then◌else◌, List, [], ◌∷◌, length, refl, sym, ap, ◌∙◌, subst, arith, Option, Some, None}
+use Rattle.std.proofs.Common.{ℕ, suc, ◌≡◌, ◌≤◌, ◌<◌, ◌+◌, ◌-◌, Bool, true, false, if◌then◌else◌, List, [], ◌∷◌, ◌++◌, length, refl, sym, ap, ◌∙◌, subst, arith, Option, Some, None}
 use Rattle.std.specs.Prelude.{nat_le}
 use mathlib.Core.Logic.{dite}
 use native.Mathlib.Decide.{dec_le}
@@ -15,6 +15,10 @@ use Rattle.notify_ring.specs.Passes as ring
 use Rattle.notify_ring.specs.declared.view.Ended.{Ended}
 use Rattle.notify_ring.specs.declared.view.View.{View as RingView}
 use Rattle.reactor_journal.specs.declared.entry.Entry.{Entry}
+use Rattle.reactor_journal.specs.declared.entry.Entry.TheVariants as entry
+use Rattle.reactor_journal.specs.Past.{past_of}
+use Rattle.reactor_journal.proofs.Turning.{past_of-append}
+use Rattle.reactor_summary.specs.Summary.{ended_after, summary}
 use Rattle.reactor_core.specs.Stands.{Meaning}
 use Rattle.reactor_desk.specs.declared.terms.DeskTerms.{DeskTerms}
 use Rattle.tp_reactor.specs.Led.{watch_mark, waits_mark, volumes_mark}
@@ -41,13 +45,13 @@ greater_right xs ys k = omega (arith, greater-at xs ys k)
 postings_behind : (p s : RingView) → known_postings (ring.joined p s) ≡ known_postings p + length s.posted
 postings_behind p s = omega (arith, total-append (λ (e : Ended). length e.posted) p.ended (record { number = s.number; posted = s.posted } ∷ []))
 
--- what an answer tells of faults, whatever the list
+-- what an answer tells, whatever else the list has, but of the last wait
 abbrev pub TellsFault : {N : Type 0} → View (Entry N) DeskTerms → Ran → View (Entry N) DeskTerms → Type 0
 TellsFault v ran.NetFault w = Rose (waits_mark v) (waits_mark w)
 TellsFault v ran.VolumeFault w = Rose (volumes_mark v) (volumes_mark w)
 TellsFault v ran.Broken w = (before : ℕ) → v.terms.run.output_faults ≡ Some before → Rose before (watch_mark w)
 TellsFault v ran.NoMemory w = Unit {0}
-TellsFault v ran.Stopped w = Unit {0}
+TellsFault v ran.Stopped w = (summary (past_of w.seen)).ended ≡ true
 TellsFault v ran.Over w = Unit {0}
 
 rose_later : (before now later : ℕ) → now ≤ later → Rose before now → Rose before later
@@ -58,7 +62,7 @@ fault_of v w ran.Broken t = t
 fault_of v w ran.NetFault t = t
 fault_of v w ran.NoMemory t = tt
 fault_of v w ran.VolumeFault t = t
-fault_of v w ran.Stopped t = tt
+fault_of v w ran.Stopped t = t
 fault_of v w ran.Over t = tt
 
 told_of : {N : Type 0} (v w : View (Entry N) DeskTerms) (answer : Ran) → (answer ≡ ran.Over → ⊥) → TellsFault v answer w → RanTells v answer w
@@ -66,16 +70,29 @@ told_of v w ran.Broken other t = t
 told_of v w ran.NetFault other t = t
 told_of v w ran.NoMemory other t = tt
 told_of v w ran.VolumeFault other t = t
-told_of v w ran.Stopped other t = tt
+told_of v w ran.Stopped other t = t
 told_of v w ran.Over other t = absurd (other refl)
 
-fault_later : {N : Type 0} (v w x : View (Entry N) DeskTerms) (answer : Ran) → NoneAbove w.marks x.marks → TellsFault v answer w → TellsFault v answer x
-fault_later v w x ran.Broken above t = λ before is. rose_later before _ _ (above 0) (t before is)
-fault_later v w x ran.NetFault above t = rose_later _ _ _ (above 1) t
-fault_later v w x ran.NoMemory above t = tt
-fault_later v w x ran.VolumeFault above t = rose_later _ _ _ (above 3) t
-fault_later v w x ran.Stopped above t = tt
-fault_later v w x ran.Over above t = tt
+-- what was stopped stays so
+ended_more : {N : Type 0} (past more : List (Entry N)) → (summary past).ended ≡ true → (summary (more ++ past)).ended ≡ true
+ended_more past [] ended = ended
+ended_more past (e ∷ more) ended = after e (ended_more past more ended)
+  where
+    after : {N : Type 0} (e : Entry N) {b : Bool} → b ≡ true → ended_after e b ≡ true
+    after entry.Ended is = refl
+    after _ is = is
+
+ended_later : {N : Type 0} (list more : List (Entry N)) → Begins list more → (summary (past_of list)).ended ≡ true → (summary (past_of more)).ended ≡ true
+ended_later {N} list more begins ended =
+    subst (λ (x : List (Entry N)). (summary (past_of x)).ended ≡ true) begins.1 (subst (λ (x : List (Entry N)). (summary x).ended ≡ true) (sym (past_of-append list begins.0)) (ended_more (past_of list) (past_of begins.0) ended))
+
+fault_later : {N : Type 0} (v w x : View (Entry N) DeskTerms) (answer : Ran) → NoneAbove w.marks x.marks → Begins w.seen x.seen → TellsFault v answer w → TellsFault v answer x
+fault_later v w x ran.Broken above seen t = λ before is. rose_later before _ _ (above 0) (t before is)
+fault_later v w x ran.NetFault above seen t = rose_later _ _ _ (above 1) t
+fault_later v w x ran.NoMemory above seen t = tt
+fault_later v w x ran.VolumeFault above seen t = rose_later _ _ _ (above 3) t
+fault_later v w x ran.Stopped above seen t = ended_later w.seen x.seen seen t
+fault_later v w x ran.Over above seen t = tt
 
 either : (P : Ran → Type 0) (c : Bool) (a b : Ran) → P a → P b → P (if c then a else b)
 either P true a b p q = p
@@ -119,9 +136,9 @@ module _ {H M Q W V N E : Type 0} (m : Meaning H M Q W V N E) (most : Option ℕ
   pub dismisses_fault : (root left : WorkerEnd N) (hired : List (WorkerEnd N)) (many : ℕ) → Dismisses root hired left → AllRun m most until v p many hired → TellsFault v root.ran root.known → TellsFault v left.ran left.known
   dismisses_fault root left [] many d runs t = subst (λ (x : WorkerEnd N). TellsFault v x.ran x.known) (sym d) t
   dismisses_fault root left (x ∷ xs) many d runs t =
-      let mine : TellsFault v root.ran (joined root.known x.known) = fault_later v root.known (joined root.known x.known) root.ran (greater_left root.known.marks x.known.marks) t in
+      let mine : TellsFault v root.ran (joined root.known x.known) = fault_later v root.known (joined root.known x.known) root.ran (greater_left root.known.marks x.known.marks) d.0.0 t in
       let told : RanTells v x.ran x.known = tells_before v (split_right v) x.known x.ran refl (none_above-self v.marks) (runs_tell m most until (split_right v) x.known (ring.split_right (hirer_posted p many)) x.posted x.ran runs.0.0) in
-      let theirs : TellsFault v x.ran (joined root.known x.known) = fault_later v x.known (joined root.known x.known) x.ran (greater_right root.known.marks x.known.marks) (fault_of v x.known x.ran told) in
+      let theirs : TellsFault v x.ran (joined root.known x.known) = fault_later v x.known (joined root.known x.known) x.ran (greater_right root.known.marks x.known.marks) d.0.1 (fault_of v x.known x.ran told) in
       dismisses_fault (behind root x) left xs (many + 1) d.1 runs.1 (fault_first v (joined root.known x.known) root.ran x.ran mine theirs)
 
   -- where one of them made a posting, as many were closed as were asked for

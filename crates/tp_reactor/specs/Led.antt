@@ -6,6 +6,7 @@ use Rattle.leader_token.specs.Passes.{put_view}
 use Rattle.leader_token.specs.declared.kept.View.{View}
 use Rattle.reactor_journal.specs.declared.entry.Entry.{Entry}
 use Rattle.reactor_journal.specs.Past.{past_of, count}
+use Rattle.reactor_summary.specs.Summary.{summary}
 use Rattle.reactor_core.specs.Marks.{is_polled}
 use Rattle.reactor_core.specs.Stands.{Meaning}
 use Rattle.reactor_desk.specs.Desks.{DeskStands, marks_of}
@@ -64,4 +65,5 @@ MarksTell v led.NetFault w = Rose (waits_mark v) (waits_mark w)
 MarksTell v led.VolumeFault w = Rose (volumes_mark v) (volumes_mark w)
 MarksTell v led.Broken w = (before : ℕ) → v.terms.run.output_faults ≡ Some before → Rose before (watch_mark w)
 MarksTell v led.Over w = over_mark w ≡ count is_polled (past_of w.seen)
+MarksTell v led.Stopped w = (summary (past_of w.seen)).ended ≡ true
 MarksTell v _ w = Unit {0}

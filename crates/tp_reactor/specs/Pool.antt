@@ -104,11 +104,12 @@ pub record HasClosed {N : Type 0} (until : Option (ℕ × Handle)) (list : List 
   pub running : (summary (past_of front)).ended ≡ false
 
 -- What an answer tells by the marks of the root: with a fault that of its cause is above what the root had before the call, or for the watch
--- above what the terms had at the start; and with Over the last wait that was answered so is the last that the root has seen.
+-- above what the terms had at the start; with Over the last wait that was answered so is the last that the root has seen; and with Stopped it has
+-- seen that the reactor was stopped.
 abbrev pub RanTells : {N : Type 0} → View (Entry N) DeskTerms → Ran → View (Entry N) DeskTerms → Type 0
 RanTells v ran.NetFault w = Rose (waits_mark v) (waits_mark w)
 RanTells v ran.VolumeFault w = Rose (volumes_mark v) (volumes_mark w)
 RanTells v ran.Broken w = (before : ℕ) → v.terms.run.output_faults ≡ Some before → Rose before (watch_mark w)
 RanTells v ran.Over w = over_mark w ≡ count is_polled (past_of w.seen)
 RanTells v ran.NoMemory w = Unit {0}
-RanTells v ran.Stopped w = Unit {0}
+RanTells v ran.Stopped w = (summary (past_of w.seen)).ended ≡ true

@@ -27,8 +27,11 @@ use std::sync::atomic::Ordering;
 use std::thread::yield_now;
 use timer_queue::TimerQueue;
 
-/// How often a leader steps aside for calls that want the token.
-const YIELDS: u32 = 1_000;
+/// How often a leader yields to calls that want the token before it sleeps for them.
+const YIELDS: u32 = 20;
+
+/// How often it sleeps for them: each such call, once it has the token, ends the sleep.
+const SLEEPS: u32 = 8;
 
 impl<
     H: EventHandler,
@@ -56,7 +59,7 @@ impl<
         ensures poster { poster_of worker.new ≡ poster_of worker.old }
     {
         let gate = self.gate.lock(rt);
-        self.step_aside();
+        self.step_aside(rt);
         let mut held = self.token.get(rt, &mut worker.pass);
         if self.wanted.load(Ordering::SeqCst) > 0 {
             self.waker.wake();
@@ -68,12 +71,26 @@ impl<
     }
 
     // Lets calls that want the token have it before a leader does. It ends whether they got it or not.
-    fn step_aside(&self) {
+    fn step_aside<R: Wait>(&self, rt: &R) {
         for _ in 0..YIELDS {
             if self.wanted.load(Ordering::SeqCst) == 0 {
                 return;
             }
             yield_now();
+        }
+        self.aside.store(true, Ordering::SeqCst);
+        self.sleep_aside(rt);
+        self.aside.store(false, Ordering::SeqCst);
+    }
+
+    // Sleeps while calls want the token. A call that had it lowers their count before it looks whether anybody sleeps, and a sleeper says so before
+    // it looks at the count: so none sleeps for a call that is over.
+    fn sleep_aside<R: Wait>(&self, rt: &R) {
+        for _ in 0..SLEEPS {
+            match u32::try_from(self.wanted.load(Ordering::SeqCst)) {
+                Ok(0) | Err(_) => return,
+                Ok(wanted) => self.wanted.park(rt, wanted),
+            }
         }
     }
 
@@ -94,7 +111,15 @@ impl<
         self.waker.wake();
         let held = self.token.get(rt, &mut worker.pass);
         self.wanted.fetch_sub(1, Ordering::SeqCst);
+        self.wake_aside();
         held
+    }
+
+    // Ends the sleep of a leader that stepped aside.
+    fn wake_aside(&self) {
+        if self.aside.load(Ordering::SeqCst) {
+            self.wanted.wake_all();
+        }
     }
 
     /// Settles the worker's own upcall, which was made. Whatever entries came since it was started, it fits the journal still. It takes no memory

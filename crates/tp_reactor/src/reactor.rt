@@ -11,7 +11,7 @@ use reactor_core::Means;
 use reactor_desk::{Desk, DeskTerms};
 use reactor_model::{Entry, EventHandler, Volumes, Watch};
 use std::sync::Mutex;
-use std::sync::atomic::AtomicU64;
+use std::sync::atomic::{AtomicBool, AtomicU64};
 use timer_queue::TimerQueue;
 
 /// A reactor that a pool of threads calls.
@@ -30,8 +30,10 @@ where
     pub(crate) ring: Ring,
     pub(crate) waker: K,
     // How many calls that do not wait at the net want the token. A leader does not wait while there are any. It is a hint, of which no contract
-    // speaks, as of the gate, at which all leaders but one wait: so the token's own sleepers are calls that want it for microseconds.
+    // speaks. At the gate all leaders but one wait: so the token's own sleepers are calls that want it for microseconds.
     pub(crate) wanted: AtomicU64,
+    // Whether a leader sleeps until these calls had it. Of this and of the gate no contract speaks either.
+    pub(crate) aside: AtomicBool,
     pub(crate) gate: Mutex<()>,
 }
 

@@ -18,7 +18,7 @@ use reactor_desk::Desk;
 use reactor_model::{EventHandler, Volumes, Watch};
 use std::alloc::Global;
 use std::sync::Mutex;
-use std::sync::atomic::AtomicU64;
+use std::sync::atomic::{AtomicBool, AtomicU64};
 use timer_queue::TimerQueue;
 
 impl<
@@ -55,6 +55,7 @@ impl<
                     ring,
                     waker,
                     wanted: AtomicU64::new(0),
+                    aside: AtomicBool::new(false),
                     gate: Mutex::new(()),
                 },
                 Worker { pass, poster },
@@ -79,6 +80,7 @@ impl<
             ring,
             waker: _,
             wanted: _,
+            aside: _,
             gate: _,
         } = self;
         let (pass, poster) = root.into_parts();

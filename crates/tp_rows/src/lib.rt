@@ -1,16 +1,8 @@
-//! Runs of a reactor that a pool of threads calls, over nets in memory.
+//! A pool of members over nets in memory, with its callers.
 #![tactic(auto)]
 
 mod callers;
-#[cfg(test)]
-mod meeting;
 mod member;
-#[cfg(test)]
-mod pools;
-#[cfg(test)]
-mod rows;
-#[cfg(test)]
-mod steps;
 
 pub use callers::{
     Answered, Left, NoPool, Pool, PoolWorker, Still, cancel, close, dismiss, hire, lead, post,

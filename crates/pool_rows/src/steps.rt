@@ -4,7 +4,6 @@ ghost use Rattle.demux.specs.PlayNet.{do_not_fall, are_bounded};
 ghost use Rattle.tp_reactor.specs.Words.{known_by};
 ghost use Rattle.tp_rows.specs.Callers.{IsFree, IsOutOrFree, IsRoot, SameRank};
 
-use super::*;
 use demux::PlayNet;
 use ev_base::Report;
 use ev_types::{Answer, Handle, Kind, Mask};
@@ -16,6 +15,7 @@ use std::alloc::Global;
 use std::process::Abort;
 use std::sync::Wait;
 use std::test::Fail;
+use tp_rows::*;
 
 pub(crate) const READ: Mask = Mask {
     read: true,

@@ -1,10 +1,10 @@
 //! What no contract says: the journals of whole runs of two callers.
-use super::*;
 use crate::steps::*;
 use ev_types::{Answer, Handle, Kind};
-use reactor_core::{NotLive, RegisterRefused, StateRefused};
+use reactor_core::{CancelRefused, NotLive, RegisterRefused, StateRefused};
 use reactor_journal::Entry;
 use std::test::Fail;
+use tp_rows::*;
 
 const KEEP: Role = Role::Answers(Answer::Keep);
 
@@ -84,6 +84,7 @@ fn timers_and_suspensions_reach_the_pool(rt: HostRuntime) -> Result<(), Fail> {
         (Who::Root, Step::Lead(Answered::Quiet)),
         (Who::Root, Step::Serve(8, FIRST)),
         (Who::Hired, Step::Cancel(0, Ok(()))),
+        (Who::Hired, Step::Cancel(0, Err(CancelRefused::NotArmed))),
         (Who::Root, Step::Settle(0)),
     ];
     run(&rt, rt.alloc(), 1, &[35, 39, 40], &[], &timers)?;
@@ -115,6 +116,14 @@ fn timers_and_suspensions_reach_the_pool(rt: HostRuntime) -> Result<(), Fail> {
 
 #[test]
 fn postings_reach_the_journal(rt: HostRuntime) -> Result<(), Fail> {
+    let alive = [
+        (Who::Root, Step::Register(KEEP, Ok(FIRST))),
+        (Who::Root, Step::Post(FIRST, Kind::Read, 0)),
+        (Who::Root, Step::Serve(1, FIRST)),
+        (Who::Root, Step::Settle(0)),
+        (Who::Root, Step::Lead(Answered::Over)),
+    ];
+    run(&rt, rt.alloc(), 1, &[], &[], &alive)?;
     let steps = [
         (Who::Root, Step::Register(KEEP, Ok(FIRST))),
         (Who::Root, Step::Post(FIRST, Kind::Read, 0)),

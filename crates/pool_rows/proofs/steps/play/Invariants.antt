@@ -1,5 +1,5 @@
 use Rattle.tp_rows.specs.Callers.{IsOutOrFree, SameRank}
-use Rattle.tp_rows.proofs.steps.play.Given as goal
+use Rattle.pool_rows.proofs.steps.play.Given as goal
 
 abbrev pub invariant-loop-who : goal.invariant-loop-who
 invariant-loop-who g l = record {

@@ -3,7 +3,6 @@ ghost use Rattle.std.specs.Prelude.{◌≡◌, ◌≤◌, true, false};
 ghost use Rattle.tp_reactor.specs.Words.{SameKin, known_by};
 ghost use Rattle.tp_rows.specs.Callers.{IsFree, IsRoot, SameRank};
 
-use super::*;
 use crate::steps::{PlayPool, PlayWorker, READ, journal_of, one, ready_at, two};
 use ev_base::Report;
 use ev_types::{Answer, Handle, Kind};
@@ -15,6 +14,7 @@ use std::sync::Wait;
 use std::test::Fail;
 use std::thread::{Threads, join_mut};
 use tp_reactor::Ran;
+use tp_rows::*;
 
 /// How many handles a large run has.
 const HANDLES: usize = 64;

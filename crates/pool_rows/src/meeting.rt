@@ -1,7 +1,6 @@
 //! Two upcalls of a pool that wait for each other: a body that makes all upcalls on one thread runs out of turns.
 ghost use Rattle.tp_rows.specs.Callers.{IsFree, SameRank};
 
-use super::*;
 use crate::steps::{PlayPool, PlayWorker, READ, journal_of, one, ready_at};
 use ev_types::{Answer, Handle};
 use reactor_journal::Entry;
@@ -11,6 +10,7 @@ use std::sync::atomic::AtomicU64;
 use std::sync::{Arc, Wait};
 use std::test::Fail;
 use tp_reactor::Ran;
+use tp_rows::*;
 
 /// How many turns an upcall waits for the other at most.
 const TURNS: u64 = 100_000_000;
