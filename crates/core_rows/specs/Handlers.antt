@@ -15,6 +15,10 @@ answer_of (Offers timed) = Keep
 answer_of (Masks mask) = Keep
 answer_of Stops = Keep
 
+-- what a handler answers to an input
+abbrev pub input_answer : Steady → Answer
+input_answer handler = answer_of handler.at_input
+
 abbrev pub steady : Handling Steady PlayEnd ℕ
 steady = record {
   fits = λ t origin handler had. Unit {0};

@@ -1,7 +1,7 @@
 //! A handler whose turns are all the same.
 ghost use Rattle.std.specs.Prelude.{◌≡◌};
 ghost use Rattle.reactor_model.specs.Turns.{HasTimer, IsNotOfMine, IsTimer};
-ghost use Rattle.core_rows.specs.Handlers.{answer_of};
+ghost use Rattle.core_rows.specs.Handlers.{answer_of, input_answer};
 
 use demux::PlayEnd;
 use ev_base::Net;
@@ -78,7 +78,7 @@ impl Steady {
 
     /// What it answers to an input.
     pub fn to_input(&self) -> Answer
-        ensures { result ≡ answer_of self.now.at_input }
+        ensures { result ≡ input_answer self.now }
     {
         match self.at_input {
             InputTurn::Answers(answer) => answer,

@@ -4,5 +4,3 @@
 
 #[cfg(test)]
 mod served;
-#[cfg(test)]
-mod turns;

@@ -4,10 +4,10 @@ ghost use Rattle.ev_base.specs.End.{IsFresh};
 ghost use Rattle.ev_base.specs.Net.{IsNew};
 ghost use Rattle.demux_mio.specs.Ends.{mio_end_facts};
 ghost use Rattle.demux_mio.specs.Nets.{mio_net_facts};
-ghost use Rattle.mio_runs.specs.Idle.{IsIdle};
+ghost use Rattle.core_loop.specs.Idle.{IsIdle};
 
-use crate::turns::{close, register, serve};
 use acceptor::{Acceptor, ServerHandler};
+use core_loop::{RunEnd, close, register, run};
 use demux_mio::{MioEnd, MioHost, MioNet};
 use ev_base::{Host, MemSink};
 use ev_types::{Mask, Why};
@@ -128,9 +128,10 @@ fn a_connection_is_served(rt: HostRuntime) -> Result<(), Fail> {
         return Err("no reactor".into());
     };
     let sent = send(&rt, port);
-    serve(&mut core);
+    let end = run(&rt, &mut core, Some(10_000), Some(1));
     let left = finish(core);
     assert!(rt; sent.is_ok());
+    assert_eq!(rt; end, RunEnd::Enough);
     assert_eq!(rt;
         left.output.bytes(),
         b"0 1,2 7 LM_DEBUG: hi\n0 closed: end\n".as_slice()

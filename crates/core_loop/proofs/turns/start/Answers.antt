@@ -1,6 +1,6 @@
 use Rattle.std.proofs.Common.{Ok, ap, ◌∙◌}
-use Rattle.mio_runs.proofs.Upcalls.{goes_out, stays_idle}
-use Rattle.mio_runs.proofs.turns.start.Goals as goal
+use Rattle.core_loop.proofs.Upcalls.{goes_out, stays_idle}
+use Rattle.core_loop.proofs.turns.start.Goals as goal
 
 pub returns-in-Ok-Some-clause-ok : goal.returns-in-Ok-Some-clause-ok
 returns-in-Ok-Some-clause-ok g c =

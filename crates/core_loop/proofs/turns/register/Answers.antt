@@ -1,6 +1,6 @@
 use Rattle.std.proofs.Common.{None}
-use Rattle.mio_runs.proofs.Idling.{registers}
-use Rattle.mio_runs.proofs.turns.register.Goals as goal
+use Rattle.core_loop.proofs.Idling.{registers}
+use Rattle.core_loop.proofs.turns.register.Goals as goal
 
 pub register-requires : goal.register-requires
 register-requires g c =

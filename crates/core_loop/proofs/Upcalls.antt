@@ -20,11 +20,11 @@ use Rattle.reactor_core.specs.declared.job.Done.{Done}
 use Rattle.reactor_core.specs.declared.job.Job.{Job}
 use Rattle.reactor_core.specs.declared.upcalls.StartRefused.{StartRefused}
 use Rattle.reactor_core.proofs.Owed.{opens_returned}
-use Rattle.mio_runs.specs.Idle.{IsIdle, IsOut}
+use Rattle.core_loop.specs.Idle.{HasClosed, IsIdle, IsOut}
 use Rattle.reactor_core.specs.declared.reactor.Core.{Core}
 use Rattle.reactor_core.specs.Stands.{Meaning}
-use Rattle.mio_runs.proofs.Idling.{idle_same}
-use Rattle.mio_runs.proofs.Keeping.{sum, sum_more, Keeps, keeps_nil, keeps_one, keeps_both, keeps_removals, keeps_closing, keeps_registered}
+use Rattle.core_loop.proofs.Idling.{idle_same}
+use Rattle.core_loop.proofs.Keeping.{sum, sum_more, Keeps, keeps_nil, keeps_one, keeps_both, keeps_removals, keeps_closing, keeps_registered}
 
 -- what `start` gave
 abbrev pub StartGave : {H M Q W V N E : Type 0} → Meaning H M Q W V N E → Core H M Q W V N E → Result (Option (Job H N E)) StartRefused → Core H M Q W V N E → Type 0
@@ -97,12 +97,12 @@ none_of : {A : Type 0} (xs : List A) → length xs ≤ 0 → xs ≡ []
 none_of [] le = refl
 none_of (x ∷ xs) le = absurd (omega (arith, le))
 
-pub settles : {H M Q W V N E : Type 0} (m : Meaning H M Q W V N E) (old new : Core H M Q W V N E) (done : Done H N E) (settled : _) (i : IsOut m old done)
-    → Settles m i.terms i.first i.history done old new settled → IsIdle m new
-settles {N = N} m old new done settled i st =
+pub settles_closed : {H M Q W V N E : Type 0} (m : Meaning H M Q W V N E) (old new : Core H M Q W V N E) (done : Done H N E) (settled : _) (i : IsOut m old done)
+    → Settles m i.terms i.first i.history done old new settled → HasClosed m settled.closed new
+settles_closed {N = N} m old new done settled i st =
     let h : List (Entry N) = i.history in
     let fewer = opens_returned (sum h) done.event done.turn.answer done.turn.note _ i.fits.event in
     let back : (sum (h ++ returned done ∷ [])).opens ≡ [] = ap (λ (s : Summary). s.opens) (sum_more h (returned done)) ∙ none_of _ (omega (arith, i.one_open, fewer)) in
     let k : Keeps (h ++ returned done ∷ []) st.closing = keeps_closing (h ++ returned done ∷ []) _ done.handle st.closing st.is_closing in
     let l : Keeps ((h ++ returned done ∷ []) ++ st.closing) st.acted = keeps_acted ((h ++ returned done ∷ []) ++ st.closing) _ _ _ done.turn.act _ _ st.acted st.is_acted in
-    record { terms = i.terms; limit = i.limit; first = i.first; history = ((h ++ returned done ∷ []) ++ st.closing) ++ st.acted; stands = st.stands; none_open = l.opens ∙ (k.opens ∙ back) }
+    (record { terms = i.terms; limit = i.limit; first = i.first; history = ((h ++ returned done ∷ []) ++ st.closing) ++ st.acted; stands = st.stands; none_open = l.opens ∙ (k.opens ∙ back) }, st.closed)

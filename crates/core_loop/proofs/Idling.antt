@@ -1,5 +1,5 @@
 -- That no upcall is on its way behind each call.
-use Rattle.std.proofs.Common.{ℕ, ◌≡◌, Bool, true, false, List, [], ◌∷◌, ◌++◌, sym, ap, ◌∙◌, Option, Some, None}
+use Rattle.std.proofs.Common.{ℕ, ◌≡◌, Bool, true, false, List, [], ◌∷◌, ◌++◌, length, sym, ap, ◌∙◌, subst, Option, Some, None}
 use Rattle.std.specs.Prelude.{Result, Ok, Err, OnErr, IfOk}
 use Rattle.ev_types.specs.declared.upcall.Handle.{Handle}
 use Rattle.ev_types.specs.declared.upcall.Mask.{Mask}
@@ -10,20 +10,21 @@ use Rattle.reactor_summary.specs.Summary.{Summary, step}
 use Rattle.reactor_core.specs.Stands.{Meaning, Stands, StandsAsBefore}
 use Rattle.reactor_core.specs.Polling.{FitsLimit, Polls}
 use Rattle.reactor_core.specs.declared.polling.Polled.{Polled}
+use Rattle.reactor_core.specs.HandingOver.{HandsDue, HandsOver, is_due}
 use Rattle.reactor_core.specs.Offering.{RegisterGives}
 use Rattle.reactor_core.specs.Registering.{registered}
 use Rattle.reactor_core.specs.Removing.{StopsOnce}
 use Rattle.reactor_core.specs.declared.registering.RegisterRefused.{RegisterRefused}
 use Rattle.reactor_core.specs.declared.registering.RegisterRefused.TheVariants.{Stopped, Full, NoMemory, NetFailed}
-use Rattle.mio_runs.specs.Idle.{IsIdle, WasStopped}
+use Rattle.core_loop.specs.Idle.{HasClosed, HasEnded, IsIdle, WasStopped}
 use Rattle.reactor_core.specs.declared.reactor.Core.{Core}
 use Rattle.reactor_core.proofs.Over.{none_live}
-use Rattle.mio_runs.proofs.Keeping.{sum, sum_more, Keeps, keeps_removals, keeps_polled, keeps_registered}
+use Rattle.core_loop.proofs.Keeping.{sum, sum_more, Keeps, keeps_removals, keeps_polled, keeps_registered}
 
 pub idle_keeps : {H M Q W V N E : Type 0} {m : Meaning H M Q W V N E} (old new : Core H M Q W V N E) (i : IsIdle m old) (es : List (Entry N)) → Keeps i.history es → Stands m i.terms new i.first (i.history ++ es) → IsIdle m new
 idle_keeps old new i es k st = record { terms = i.terms; limit = i.limit; first = i.first; history = i.history ++ es; stands = st; none_open = k.opens ∙ i.none_open }
 
-pub idle_same : {H M Q W V N E : Type 0} {m : Meaning H M Q W V N E} (old new : Core H M Q W V N E) (i : IsIdle m old) → Stands m i.terms new i.first i.history → IsIdle m new
+abbrev pub idle_same : {H M Q W V N E : Type 0} {m : Meaning H M Q W V N E} (old new : Core H M Q W V N E) (i : IsIdle m old) → Stands m i.terms new i.first i.history → IsIdle m new
 idle_same old new i st = record { terms = i.terms; limit = i.limit; first = i.first; history = i.history; stands = st; none_open = i.none_open }
 
 pub registers : {H M Q W V N E : Type 0} {m : Meaning H M Q W V N E} (old new : Core H M Q W V N E) (result : Result Handle (H × RegisterRefused)) (mask : Mask) (timer : Option (ℕ × ℕ)) (i : IsIdle m old)
@@ -71,3 +72,23 @@ polls old new most (Ok polled) i ok err =
     let w = (ok i.terms i.first i.history i.stands (any_limit i.terms most i.limit)).waits in
     idle_keeps old new i _ (keeps_polled i.history w.now w.timers _) w.stands
 polls old new most (Err x) i ok err = idle_same old new i (err i.terms i.first i.history i.stands)
+
+-- the count of closings of a turn that was made
+pub closed_so : {H M Q W V N E R : Type 0} {m : Meaning H M Q W V N E} (core : Core H M Q W V N E) (a b : ℕ) → ◌≡◌ {A = Result (Option ℕ) R} (Ok (Some a)) (Ok (Some b)) → HasClosed m a core → HasClosed m b core
+closed_so {m = m} core a b is h = let same : a ≡ b = cc in subst (λ n. HasClosed m n core) same h
+
+-- a wait that was refused since the reactor was stopped
+pub stopped_still : {H M Q W V N E X Y : Type 0} {m : Meaning H M Q W V N E} (old new : Core H M Q W V N E) (result : Result X Y) {y : Y} (i : IsIdle m old) → result ≡ Err y → (result ≡ Err y → (sum i.history).ended ≡ true) → OnErr result (StandsAsBefore m old new) → HasEnded m new
+stopped_still old new (Ok x) i is ended err = absurd (err_ok is)
+  where
+    err_ok : {X Y : Type 0} {x : X} {y : Y} → ◌≡◌ {A = Result X Y} (Ok x) (Err y) → ⊥
+    err_ok q = cc
+stopped_still old new (Err y) i is ended err = (idle_same old new i (err i.terms i.first i.history i.stands), ended is)
+
+-- a handing over leaves the history
+pub hands_over : {H M Q W V N E : Type 0} {m : Meaning H M Q W V N E} (old new : Core H M Q W V N E) (n : ℕ) (i : IsIdle m old) → HandsOver m i.terms i.first i.history n old new → IsIdle m new
+hands_over {H} {M} {Q} {W} {V} {N} {E} {m} old new n i given = by (is_due old i.first i.history) given.handed
+  where
+    by : (due : Bool) → HandsDue due m i.terms i.first i.history n old new → IsIdle m new
+    by true d = record { terms = i.terms; limit = i.limit; first = length i.history; history = i.history; stands = d.1; none_open = i.none_open }
+    by false d = subst (λ (c : Core H M Q W V N E). IsIdle m c) (sym d.1) i

@@ -1,0 +1,93 @@
+-- When a reactor stands for a history in which no upcall is on its way, and when it does while one is.
+use Rattle.std.specs.Prelude.{ℕ, ◌≡◌, ◌≤◌, ◌+◌, true, List, [], length, Option, Some, None}
+use Rattle.ev_base.specs.Counts.{Rose}
+use Rattle.ev_base.specs.Terms.{Terms}
+use Rattle.timer_queue.specs.declared.timer.Timer.{Timer}
+use Rattle.reactor_journal.specs.declared.entry.Entry.{Entry}
+use Rattle.reactor_journal.specs.Past.{past_of, count}
+use Rattle.reactor_summary.specs.Summary.{summary}
+use Rattle.reactor_core.specs.Stands.{Meaning, Stands, StandsWith}
+use Rattle.reactor_core.specs.Beginning.{IsOver, PartsStand}
+use Rattle.reactor_core.specs.Marks.{is_polled}
+use Rattle.reactor_core.specs.Views.{net_of, over_of, volumes_of}
+use Rattle.reactor_core.specs.declared.reactor.Parts.{Parts}
+use Rattle.reactor_core.specs.Registering.{IsOffered}
+use Rattle.reactor_core.specs.Upcalls.{DoneFits}
+use Rattle.reactor_core.specs.declared.reactor.Core.{Core}
+use Rattle.reactor_core.specs.declared.job.Done.{Done}
+use Rattle.core_loop.specs.declared.turns.RunEnd.{RunEnd}
+use Rattle.core_loop.specs.declared.turns.RunEnd.TheVariants as end
+
+-- it stands for a history, on terms that leave the limit of waits open, and no event is open
+pub record IsIdle {H M Q W V N E : Type 0} (m : Meaning H M Q W V N E) (core : Core H M Q W V N E) : Type 0 where
+  pub terms : Terms
+  pub limit : terms.limit ≡ None
+  pub first : ℕ
+  pub history : List (Entry N)
+  pub stands : Stands m terms core first history
+  pub none_open : (summary (past_of history)).opens ≡ []
+
+-- the handler may be offered to it
+abbrev pub MayTake : {H M Q W V N E : Type 0} → Meaning H M Q W V N E → Core H M Q W V N E → H → Type 0
+MayTake m core handler = (i : IsIdle m core) × IsOffered m.means i.terms (past_of i.history) handler
+
+-- it stands for such a history, and no event is open but that of an upcall that was made, which is to be settled
+pub record IsOut {H M Q W V N E : Type 0} (m : Meaning H M Q W V N E) (core : Core H M Q W V N E) (done : Done H N E) : Type 0 where
+  pub terms : Terms
+  pub limit : terms.limit ≡ None
+  pub first : ℕ
+  pub history : List (Entry N)
+  pub stands : Stands m terms core first history
+  pub fits : DoneFits m.means terms (past_of history) done
+  pub one_open : length (summary (past_of history)).opens ≤ 1
+
+-- it stands so while the upcall is out, or stands idle where there is none
+abbrev pub IsOutOrIdle : {H M Q W V N E : Type 0} → Meaning H M Q W V N E → Core H M Q W V N E → Option (Done H N E) → Type 0
+IsOutOrIdle m core (Some done) = IsOut m core done
+IsOutOrIdle m core None = IsIdle m core
+
+-- it stands for a history that is over
+abbrev pub WasStopped : {H M Q W V N E : Type 0} → Meaning H M Q W V N E → Core H M Q W V N E → Type 0
+WasStopped m core = StandsWith m (λ t h. IsOver (summary (past_of h))) core
+
+-- it stands idle, and in its history so many handlers were closed or refused; the reactor was stopped; or its last wait was answered Over
+abbrev pub HasClosed : {H M Q W V N E : Type 0} → Meaning H M Q W V N E → ℕ → Core H M Q W V N E → Type 0
+HasClosed m closed core = (i : IsIdle m core) × (closed ≡ (summary (past_of i.history)).closed + (summary (past_of i.history)).refused)
+
+abbrev pub HasEnded : {H M Q W V N E : Type 0} → Meaning H M Q W V N E → Core H M Q W V N E → Type 0
+HasEnded m core = (i : IsIdle m core) × ((summary (past_of i.history)).ended ≡ true)
+
+abbrev pub WasOver : {H M Q W V N E : Type 0} → Meaning H M Q W V N E → Core H M Q W V N E → Type 0
+WasOver m core = (i : IsIdle m core) × (over_of core ≡ count is_polled (past_of i.history))
+
+-- What stands behind the end of a step of a loop over a net whose count of failed waits was this before. Want of memory alone needs no cause.
+abbrev pub StepEndsSo : {H M Q W V N E : Type 0} → Meaning H M Q W V N E → Option ℕ → ℕ → RunEnd → Core H M Q W V N E → Type 0
+StepEndsSo m until waits end.Enough core = (enough : ℕ) × (closed : ℕ) × (until ≡ Some enough) × (enough ≤ closed) × HasClosed m closed core
+StepEndsSo m until waits end.Over core = WasOver m core
+StepEndsSo m until waits end.Stopped core = HasEnded m core
+StepEndsSo m until waits end.NetFault core = Rose waits (m.facts (net_of core)).failed_waits
+StepEndsSo m until waits end.VolumeFault core = ⊥
+StepEndsSo m until waits end.NoMemory core = Unit {0}
+
+-- behind a volume that was not taken, where the volumes' count of faults was this before
+abbrev pub FailsVolume : ℕ → RunEnd → ℕ → Type 0
+FailsVolume before end.VolumeFault now = Rose before now
+FailsVolume before end.NoMemory now = Unit {0}
+FailsVolume before _ now = ⊥
+
+-- behind the end of a loop
+abbrev pub EndsSo : {H M Q W V N E : Type 0} → Meaning H M Q W V N E → Option ℕ → ℕ → ℕ → RunEnd → Core H M Q W V N E → Type 0
+EndsSo m until waits faults end.VolumeFault core = Rose faults (m.volumes (volumes_of core)).faults
+EndsSo m until waits faults end.Enough core = StepEndsSo m until waits end.Enough core
+EndsSo m until waits faults end.Over core = StepEndsSo m until waits end.Over core
+EndsSo m until waits faults end.Stopped core = StepEndsSo m until waits end.Stopped core
+EndsSo m until waits faults end.NetFault core = StepEndsSo m until waits end.NetFault core
+EndsSo m until waits faults end.NoMemory core = Unit {0}
+
+-- the parts of a reactor that was stopped and stood for a legal history, under some terms
+pub record LeavesParts {H M Q W V N E : Type 0} (m : Meaning H M Q W V N E) (armed : Q → List Timer) (parts : Parts N M Q W V) : Type 0 where
+  pub terms : Terms
+  pub first : ℕ
+  pub history : List (Entry N)
+  pub over : IsOver (summary (past_of history))
+  pub stand : PartsStand m armed terms first history parts

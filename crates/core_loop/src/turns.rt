@@ -1,0 +1,250 @@
+//! The calls of a one-thread reactor whose upcalls are settled as soon as they were made.
+ghost use Rattle.std.specs.Prelude.{◌≡◌, ℕ, IfErr, IfNone, IfOk, IfSome, OnErr, OnOk, Some};
+ghost use Rattle.ev_base.specs.Counts.{Rose};
+ghost use Rattle.reactor_core.specs.Faults.{HasNotFallen};
+ghost use Rattle.reactor_core.specs.Views.{net_of, volumes_of};
+ghost use Rattle.core_loop.specs.Idle.{EndsSo, FailsVolume, HasClosed, HasEnded, IsIdle, IsOut, IsOutOrIdle, LeavesParts, MayTake, StepEndsSo, WasOver, WasStopped};
+
+use ev_base::Net;
+use ev_types::{Handle, Mask};
+use reactor_core::{
+    Core, Done, HandOverRefused, Means, Parts, PollRefused, Polled, RegisterRefused, StartRefused,
+};
+use reactor_model::{EventHandler, Volumes, Watch};
+use std::sync::Wait;
+use timer_queue::TimerQueue;
+
+/// Why a loop ended.
+#[derive(Clone, Copy, PartialEq, Eq, Debug)]
+pub enum RunEnd {
+    /// At least as many handlers were closed or refused as were asked for.
+    Enough,
+    /// Nothing can be reported any more: the last wait was answered so.
+    Over,
+    /// The reactor was stopped.
+    Stopped,
+    /// A wait failed, and the net's count of failed waits rose.
+    NetFault,
+    /// A volume of the journal was not taken, and the volumes' count of faults rose.
+    VolumeFault,
+    /// There was no memory.
+    NoMemory,
+}
+
+/// Registers a handler.
+pub fn register<
+    H: EventHandler,
+    M: Net<End = H::End>,
+    Q: TimerQueue,
+    W: Watch<H::Note>,
+    V: Volumes<H::Note>,
+>(core: &mut Core<H, M, Q, W, V>, handler: H, mask: Mask) -> Result<Handle, (H, RegisterRefused)>
+    requires { MayTake ⟦<Core<H, M, Q, W, V> as Means>⟧.m core.old handler }
+    ensures { IsIdle ⟦<Core<H, M, Q, W, V> as Means>⟧.m core.new }
+{
+    core.register(handler, mask, None)
+}
+
+/// Starts the next upcall and makes it. It is to be settled.
+fn start<
+    H: EventHandler,
+    M: Net<End = H::End>,
+    Q: TimerQueue,
+    W: Watch<H::Note>,
+    V: Volumes<H::Note>,
+>(core: &mut Core<H, M, Q, W, V>) -> Result<Option<Done<H>>, StartRefused>
+    requires { IsIdle ⟦<Core<H, M, Q, W, V> as Means>⟧.m core.old }
+    ensures ok { IfOk result (λ done. IsOutOrIdle ⟦<Core<H, M, Q, W, V> as Means>⟧.m core.new done) }
+    ensures err { OnErr result (IsIdle ⟦<Core<H, M, Q, W, V> as Means>⟧.m core.new) }
+    ensures waits { (M.facts (net_of core.new)).failed_waits ≡ (M.facts (net_of core.old)).failed_waits }
+    ensures volumes { volumes_of core.new ≡ volumes_of core.old }
+{
+    match core.start() {
+        Ok(Some(job)) => Ok(Some(job.run())),
+        Ok(None) => Ok(None),
+        Err(refused) => Err(refused),
+    }
+}
+
+/// Settles the upcall that is on its way. Tells how many handlers were closed or refused until then.
+fn settle<
+    H: EventHandler,
+    M: Net<End = H::End>,
+    Q: TimerQueue,
+    W: Watch<H::Note>,
+    V: Volumes<H::Note>,
+>(core: &mut Core<H, M, Q, W, V>, done: Done<H>) -> u64
+    requires { IsOut ⟦<Core<H, M, Q, W, V> as Means>⟧.m core.old done }
+    ensures closed { HasClosed ⟦<Core<H, M, Q, W, V> as Means>⟧.m result core.new }
+    ensures waits { (M.facts (net_of core.new)).failed_waits ≡ (M.facts (net_of core.old)).failed_waits }
+    ensures volumes { volumes_of core.new ≡ volumes_of core.old }
+{
+    core.settle(done).closed
+}
+
+/// Makes the next upcall, where there is one, and settles it. Tells how many handlers were closed or refused until then.
+pub fn turn<
+    H: EventHandler,
+    M: Net<End = H::End>,
+    Q: TimerQueue,
+    W: Watch<H::Note>,
+    V: Volumes<H::Note>,
+>(core: &mut Core<H, M, Q, W, V>) -> Result<Option<u64>, StartRefused>
+    requires { IsIdle ⟦<Core<H, M, Q, W, V> as Means>⟧.m core.old }
+    ensures idle { IsIdle ⟦<Core<H, M, Q, W, V> as Means>⟧.m core.new }
+    ensures closed { (closed : ℕ) → result ≡ Ok (Some closed) → HasClosed ⟦<Core<H, M, Q, W, V> as Means>⟧.m closed core.new }
+    ensures waits { (M.facts (net_of core.new)).failed_waits ≡ (M.facts (net_of core.old)).failed_waits }
+    ensures volumes { volumes_of core.new ≡ volumes_of core.old }
+{
+    match start(core) {
+        Ok(Some(done)) => Ok(Some(settle(core, done))),
+        Ok(None) => Ok(None),
+        Err(refused) => Err(refused),
+    }
+}
+
+/// Waits once.
+pub fn poll<
+    H: EventHandler,
+    M: Net<End = H::End>,
+    Q: TimerQueue,
+    W: Watch<H::Note>,
+    V: Volumes<H::Note>,
+>(core: &mut Core<H, M, Q, W, V>, most_ms: Option<u64>) -> Result<Polled, PollRefused>
+    requires { IsIdle ⟦<Core<H, M, Q, W, V> as Means>⟧.m core.old }
+    ensures idle { IsIdle ⟦<Core<H, M, Q, W, V> as Means>⟧.m core.new }
+    ensures over { result ≡ Ok Polled.Over → WasOver ⟦<Core<H, M, Q, W, V> as Means>⟧.m core.new }
+    ensures stopped { result ≡ Err PollRefused.Stopped → HasEnded ⟦<Core<H, M, Q, W, V> as Means>⟧.m core.new }
+    ensures failed { result ≡ Err PollRefused.NetFailed → Rose (M.facts (net_of core.old)).failed_waits (M.facts (net_of core.new)).failed_waits }
+    ensures waits { HasNotFallen (M.facts (net_of core.old)).failed_waits (M.facts (net_of core.new)).failed_waits }
+    ensures volumes { volumes_of core.new ≡ volumes_of core.old }
+{
+    core.poll(most_ms)
+}
+
+/// Hands a volume of the journal over where one is due.
+fn hand_over<
+    H: EventHandler,
+    M: Net<End = H::End>,
+    Q: TimerQueue,
+    W: Watch<H::Note>,
+    V: Volumes<H::Note>,
+>(core: &mut Core<H, M, Q, W, V>) -> Result<(), RunEnd>
+    requires { IsIdle ⟦<Core<H, M, Q, W, V> as Means>⟧.m core.old }
+    ensures idle { IsIdle ⟦<Core<H, M, Q, W, V> as Means>⟧.m core.new }
+    ensures net { net_of core.new ≡ net_of core.old }
+    ensures ok { OnOk result ((V.facts (volumes_of core.new)).faults ≡ (V.facts (volumes_of core.old)).faults) }
+    ensures err { IfErr result (λ end. FailsVolume (V.facts (volumes_of core.old)).faults end (V.facts (volumes_of core.new)).faults) }
+{
+    match core.hand_over() {
+        Ok(_) => Ok(()),
+        Err(HandOverRefused::Failed) => Err(RunEnd::VolumeFault),
+        Err(HandOverRefused::NoMemory) => Err(RunEnd::NoMemory),
+    }
+}
+
+/// Makes a turn, or waits where there is none to make. Tells why the loop ends, if it does.
+fn step<
+    H: EventHandler,
+    M: Net<End = H::End>,
+    Q: TimerQueue,
+    W: Watch<H::Note>,
+    V: Volumes<H::Note>,
+>(core: &mut Core<H, M, Q, W, V>, most_ms: Option<u64>, until: Option<u64>) -> Option<RunEnd>
+    requires { IsIdle ⟦<Core<H, M, Q, W, V> as Means>⟧.m core.old }
+    ensures idle { IsIdle ⟦<Core<H, M, Q, W, V> as Means>⟧.m core.new }
+    ensures ends { IfSome result (λ end. StepEndsSo ⟦<Core<H, M, Q, W, V> as Means>⟧.m until (M.facts (net_of core.old)).failed_waits end core.new) }
+    ensures waits { HasNotFallen (M.facts (net_of core.old)).failed_waits (M.facts (net_of core.new)).failed_waits }
+    ensures volumes { volumes_of core.new ≡ volumes_of core.old }
+{
+    match turn(core) {
+        Ok(Some(closed)) => match until {
+            Some(enough) if enough <= closed => Some(RunEnd::Enough),
+            _ => None,
+        },
+        Ok(None) => match poll(core, most_ms) {
+            Ok(Polled::Over) => Some(RunEnd::Over),
+            Ok(_) => None,
+            Err(PollRefused::Stopped) => Some(RunEnd::Stopped),
+            Err(PollRefused::NetFailed) => Some(RunEnd::NetFault),
+            Err(PollRefused::NoMemory) => Some(RunEnd::NoMemory),
+        },
+        Err(StartRefused::NoMemory) => Some(RunEnd::NoMemory),
+    }
+}
+
+/// Hands a volume over where one is due, and makes one step. Tells why the loop ends, if it does.
+fn advance<
+    H: EventHandler,
+    M: Net<End = H::End>,
+    Q: TimerQueue,
+    W: Watch<H::Note>,
+    V: Volumes<H::Note>,
+>(core: &mut Core<H, M, Q, W, V>, most_ms: Option<u64>, until: Option<u64>) -> Option<RunEnd>
+    requires { IsIdle ⟦<Core<H, M, Q, W, V> as Means>⟧.m core.old }
+    ensures idle { IsIdle ⟦<Core<H, M, Q, W, V> as Means>⟧.m core.new }
+    ensures ends { IfSome result (λ end. EndsSo ⟦<Core<H, M, Q, W, V> as Means>⟧.m until (M.facts (net_of core.old)).failed_waits (V.facts (volumes_of core.old)).faults end core.new) }
+    ensures waits { HasNotFallen (M.facts (net_of core.old)).failed_waits (M.facts (net_of core.new)).failed_waits }
+    ensures volumes { IfNone result ((V.facts (volumes_of core.new)).faults ≡ (V.facts (volumes_of core.old)).faults) }
+{
+    match hand_over(core) {
+        Ok(()) => step(core, most_ms, until),
+        Err(end) => Some(end),
+    }
+}
+
+/// Makes turns, and waits, at most `most_ms` milliseconds, where there is none to make, until `until` handlers were closed or refused, nothing
+/// can be reported any more, the reactor is stopped, or something fails.
+pub fn run<
+    R: Wait,
+    H: EventHandler,
+    M: Net<End = H::End>,
+    Q: TimerQueue,
+    W: Watch<H::Note>,
+    V: Volumes<H::Note>,
+>(rt: &R, core: &mut Core<H, M, Q, W, V>, most_ms: Option<u64>, until: Option<u64>) -> RunEnd
+    requires { IsIdle ⟦<Core<H, M, Q, W, V> as Means>⟧.m core.old }
+    ensures idle { IsIdle ⟦<Core<H, M, Q, W, V> as Means>⟧.m core.new }
+    ensures ends { EndsSo ⟦<Core<H, M, Q, W, V> as Means>⟧.m until (M.facts (net_of core.old)).failed_waits (V.facts (volumes_of core.old)).faults result core.new }
+{
+    for _ in rt.forever() {
+        if let Some(end) = advance(core, most_ms, until) {
+            return end;
+        }
+    }
+    unreachable!()
+}
+
+/// Stops the reactor.
+fn stop<
+    H: EventHandler,
+    M: Net<End = H::End>,
+    Q: TimerQueue,
+    W: Watch<H::Note>,
+    V: Volumes<H::Note>,
+>(core: &mut Core<H, M, Q, W, V>)
+    requires { IsIdle ⟦<Core<H, M, Q, W, V> as Means>⟧.m core.old }
+    ensures stopped { WasStopped ⟦<Core<H, M, Q, W, V> as Means>⟧.m core.new }
+    ensures waits { (M.facts (net_of core.new)).failed_waits ≡ (M.facts (net_of core.old)).failed_waits }
+    ensures attaches { (M.facts (net_of core.new)).failed_attaches ≡ (M.facts (net_of core.old)).failed_attaches }
+{
+    core.stop();
+}
+
+/// Takes a reactor apart, stopped first where it was not.
+pub fn close<
+    H: EventHandler,
+    M: Net<End = H::End>,
+    Q: TimerQueue,
+    W: Watch<H::Note>,
+    V: Volumes<H::Note>,
+>(core: Core<H, M, Q, W, V>) -> Parts<H::Note, M, Q, W, V>
+    requires { IsIdle ⟦<Core<H, M, Q, W, V> as Means>⟧.m core }
+    ensures leaves { LeavesParts ⟦<Core<H, M, Q, W, V> as Means>⟧.m Q.timers result }
+    ensures waits { (M.facts result.net).failed_waits ≡ (M.facts (net_of core)).failed_waits }
+    ensures attaches { (M.facts result.net).failed_attaches ≡ (M.facts (net_of core)).failed_attaches }
+{
+    let mut core = core;
+    stop(&mut core);
+    core.into_parts()
+}
