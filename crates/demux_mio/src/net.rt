@@ -23,6 +23,12 @@ const MOST_REPORTS: usize = 256;
 /// The last moment.
 const LAST_MOMENT: u64 = 1 << 62;
 
+/// How often a wait looks at the system before it sleeps, where sleeps were cut short lately.
+const LOOKS: u32 = 16;
+
+/// Behind a sleep that was cut short, so many waits look before they sleep.
+const LOOKING_WAITS: u32 = 16;
+
 /// After how many milliseconds an accept that failed is tried again.
 const RETRY: u64 = 100;
 
@@ -41,6 +47,8 @@ pub struct MioNet<R> {
     last: u64,
     // When the listeners are tried again.
     retry: Option<u64>,
+    // How many waits more look before they sleep.
+    looking: u32,
     watching: Watching,
     spare: usize,
     reports: Vec<Report>,
@@ -74,6 +82,7 @@ impl<R: Clock + Copy> MioNet<R> {
             start,
             last: 0,
             retry: None,
+            looking: 0,
             watching: Watching::new(alloc),
             spare: 0,
             reports: Vec::with_capacity(alloc, MOST_REPORTS)?,
@@ -106,18 +115,47 @@ impl<R: Clock + Copy> MioNet<R> {
         }
     }
 
-    /// Waits at the system, but not where somebody woke the net.
+    /// Waits at the system, but not where somebody woke the net. A sleep that a wake cuts short costs both threads more than some looks: so where that
+    /// happened lately, it looks some times before it sleeps.
     fn wait_for_events(&mut self, limit: Option<Duration>) -> io::Result<()>
         ensures facts { mio_net_facts self.new ≡ mio_net_facts self.old }
         ensures asked { asked_of self.new ≡ asked_of self.old }
     {
-        let limit = if self.shared.begin_wait() {
-            limit
-        } else {
-            Some(Duration::ZERO)
-        };
+        if self.looking > 0 && limit != Some(Duration::ZERO) && self.look()? {
+            self.shared.end_wait();
+            return Ok(());
+        }
+        self.sleep(limit)
+    }
+
+    /// Looks for events without sleeping, and tells whether there are any, or somebody woke the net.
+    fn look(&mut self) -> io::Result<bool>
+        ensures facts { mio_net_facts self.new ≡ mio_net_facts self.old }
+        ensures asked { asked_of self.new ≡ asked_of self.old }
+    {
+        for _ in 0..LOOKS {
+            self.poll.poll(&mut self.events, Some(Duration::ZERO))?;
+            if !self.events.is_empty() || self.shared.is_woken_soon() {
+                return Ok(true);
+            }
+        }
+        Ok(false)
+    }
+
+    /// Sleeps at the system, but not where somebody woke the net.
+    fn sleep(&mut self, limit: Option<Duration>) -> io::Result<()>
+        ensures facts { mio_net_facts self.new ≡ mio_net_facts self.old }
+        ensures asked { asked_of self.new ≡ asked_of self.old }
+    {
+        let lasts = self.shared.begin_wait();
+        let limit = if lasts { limit } else { Some(Duration::ZERO) };
         let outcome = self.poll.poll(&mut self.events, limit);
-        self.shared.end_wait();
+        let woken = self.shared.end_wait();
+        self.looking = if lasts && woken {
+            LOOKING_WAITS
+        } else {
+            self.looking.saturating_sub(1)
+        };
         outcome
     }
 

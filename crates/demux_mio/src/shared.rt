@@ -2,8 +2,12 @@
 
 use mio::{Registry, Waker};
 use std::alloc::Global;
+use std::hint::spin_loop;
 use std::sync::Arc;
 use std::sync::atomic::{AtomicBool, Ordering};
+
+/// How often a look at the system is followed by one at the wakes.
+const TURNS: u32 = 50;
 
 /// The set of watched sockets, whether an accept failed since the net looked, and how the net's wait stands.
 #[derive(Drop)]
@@ -45,10 +49,21 @@ impl Shared {
         !self.woken.swap(false, Ordering::SeqCst)
     }
 
-    /// A wait ends, and with it all that woke it.
-    pub(crate) fn end_wait(&self) {
+    /// A wait ends, and with it all that woke it. Tells whether anybody did.
+    pub(crate) fn end_wait(&self) -> bool {
         self.waits.store(false, Ordering::SeqCst);
-        self.woken.store(false, Ordering::SeqCst);
+        self.woken.swap(false, Ordering::SeqCst)
+    }
+
+    /// Looks some times whether somebody woke the net.
+    pub(crate) fn is_woken_soon(&self) -> bool {
+        for _ in 0..TURNS {
+            if self.woken.load(Ordering::SeqCst) {
+                return true;
+            }
+            spin_loop();
+        }
+        false
     }
 
     /// The wait that is under way, or else the next, is not to last. The system is called only where a wait is under way that nobody woke
