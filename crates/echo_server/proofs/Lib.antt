@@ -1,0 +1,5 @@
+mod Pieces
+mod Echoing
+mod Serving
+mod Runs
+mod Living

@@ -1,0 +1,4 @@
+pub mod Echo
+pub mod Connections
+pub mod Handlers
+pub mod Runs
