@@ -75,7 +75,7 @@ pub accepts_end : (old new : ListenerContent) (serial : ℕ) (connection : Conne
 accepts_end old new serial connection c faults m = record {
   counts = counts old Accepted new c;
   no_listener = refl;
-  fresh = record { reads = refl; last_read = refl; writes = refl; last_write = refl; faults = refl; gave = ap length (none_given connection.parts); over = refl; bytes = none_given connection.parts; telling = (refl, refl); offering = tt };
+  fresh = record { reads = refl; last_read = refl; writes = refl; last_write = refl; faults = refl; gave = ap length (none_given connection.parts); over = refl; bytes = none_given connection.parts; written = refl; telling = (refl, refl); offering = tt };
   offering = (m.left, m.given);
   faults = faults;
 }
