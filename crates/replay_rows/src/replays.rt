@@ -1,17 +1,15 @@
 //! Words and scripts, with how each replay ends and what it writes.
-use command_words::Command;
-use ev_base::{MemSink, SteadySource};
-use reactor_model::DropVolumes;
-use script_replay::{ReplayEnd, replay};
-use std::alloc::{AllocError, Global};
+use crate::running::replay_line;
+use script_replay::ReplayEnd;
 use std::test::Fail;
 
 /// Words that are parted by one space, a script, how its replay ends, and what it writes.
 type Row = (&'static str, &'static str, ReplayEnd, &'static str);
 
 /// A record that comes in two pieces is read whole, by any queue of timers and by two workers. Of two connections the lines come in order, or
-/// the first one's first; of one, the journal is written. A notice ends the run; and a text that is none of a script's is served nobody.
-const ROWS: [Row; 12] = [
+/// the first one's first; of one, the journal is written. A notice ends the run. A failed accept ends nothing, a connection may fail or be left open;
+/// and a text that is none of a script's is served nobody.
+const ROWS: [Row; 15] = [
     ("replay --workers=2", "", ReplayEnd::Done, ""),
     (
         "replay",
@@ -61,6 +59,24 @@ const ROWS: [Row; 12] = [
         ReplayEnd::Done,
         "most 1001\nopened 0 r--\npolled 0\nready 0 read\nstarted 2\nreturned 2 again accepted 0\nopened 1 r--\nstarted 4\nreturned 4 keep none\npolled 0\nready 1 read\nready 1 read\nstarted 9\nreturned 9 again piece 0 30 1 4:7:1:2:6869\nstarted 10\nreturned 10 keep piece 0 0 0\nstarted 12\nreturned 12 close piece 0 0 0\nclosed 1 end 0 end\npolled 0\nended\nremoved 0\nclosed 0 shut\n",
     ),
+    (
+        "replay",
+        "open 0\nfail listener\ndata 0 000000000000001600000004000000070000000100000002000000026869\nfail 0\n",
+        ReplayEnd::Done,
+        "0 1,2 7 LM_DEBUG: hi\n0 closed: failed\n",
+    ),
+    (
+        "replay --workers 4",
+        "open 0\n",
+        ReplayEnd::Done,
+        "0 closed: stopped\n",
+    ),
+    (
+        "replay",
+        "open 0\ndata 0 000000000000001600000004000000070000000100000002000000026869\nshut 0\n",
+        ReplayEnd::Done,
+        "0 1,2 7 LM_DEBUG: hi\n0 closed: end\n",
+    ),
     ("replay", "open 1\n", ReplayEnd::BadText { line: 1 }, ""),
     (
         "replay",
@@ -76,35 +92,14 @@ const ROWS: [Row; 12] = [
     ),
 ];
 
-/// The words of a line.
-fn words(alloc: Global, line: &str) -> Result<Vec<String>, AllocError> {
-    let mut words = Vec::new(alloc);
-    for word in line.split(' ') {
-        words.push(String::from_str(alloc, word)?)?;
-    }
-    Ok(words)
-}
-
 #[test]
 fn scripts_are_replayed(rt: HostRuntime) -> Result<(), Fail> {
+    let alloc = rt.alloc();
     for (line, script, end, output) in ROWS {
-        let command = Command::of(rt.alloc(), &words(rt.alloc(), line)?)?;
-        let Some(Command::Replay(options)) = command else {
-            return Err("the words do not call a replay".into());
-        };
-        let mut text = Vec::new(rt.alloc());
-        text.extend_from_slice(script.as_bytes())?;
-        let Ok(sink) = MemSink::new(rt.alloc(), 4_096, None) else {
-            return Err("no room".into());
-        };
-        let input = SteadySource::new(text);
-        let replayed = replay(&rt, rt.alloc(), options, input, sink, DropVolumes, 1_000);
-        assert_eq!(rt;
-            replayed.played.output.bytes(),
-            output.as_bytes(),
-            "{script}"
-        );
-        assert_eq!(rt; replayed.played.end, end, "{script}");
+        let script = Vec::from_slice(alloc, script.as_bytes())?;
+        let played = replay_line(&rt, alloc, line, script, 4_096)?;
+        assert_eq!(rt; played.output.bytes(), output.as_bytes(), "{line}");
+        assert_eq!(rt; played.end, end, "{line}");
     }
     Ok(())
 }

@@ -18,7 +18,8 @@ use Rattle.script_net.specs.declared.end.ScriptEnd.{ScriptEnd}
 use Rattle.server_run.specs.declared.asked.Asked.{Asked}
 use Rattle.server_run.specs.declared.ending.Ending.{Ending}
 use Rattle.server_run.specs.declared.ending.Ending.TheVariants as ending
-use Rattle.script_replay.specs.Outputs.{TookAll, Writes, text_in}
+use Rattle.sink_buffer.specs.Written.{TookAll}
+use Rattle.script_replay.specs.Outputs.{Writes, text_in}
 use Rattle.script_replay.specs.Replays.{EndsAs, RunsScript, terms_in}
 use Rattle.script_replay.specs.Replaying.{IsUnserved, ReplaysText, ServesText}
 use Rattle.script_replay.specs.declared.ends.Played.{Played}
@@ -65,6 +66,7 @@ runs-none {K} {V} {G} sink facts form asked groups output volumes played is u =
           (subst (λ (w : V). WhereTold (HasTaken t 0 []) (facts w).taken) (sym u.volumes_are) (took-nothing t v.taken (told-taken form asked groups o v)));
       run = inl refl;
       done = λ done. absurd (not-done (sym is ∙ done));
+      all = λ done none. absurd (not-done (sym is ∙ done));
       one = λ workers until. record { serial = λ over. absurd (not-over over); few = λ idle. omega arith };
       ends = subst (λ (e : ReplayEnd). EndsAs e ending.NoMemory v.faults (facts played.volumes).faults) (sym is) tt;
       written = subst (λ (e : ReplayEnd). Writes form e o (text_in form (asked.connections + 1) []) (sink played.output)) (sym is)

@@ -16,6 +16,7 @@ use Rattle.reactor_core.specs.Ends.{WhereTold}
 use Rattle.reactor_model.specs.Volumes.{VolumesFacts}
 use Rattle.log_handler.specs.declared.note.ServerNote.{ServerNote}
 use Rattle.command_words.specs.declared.options.Form.{Form}
+use Rattle.command_words.specs.declared.options.Form.TheVariants as forms
 use Rattle.event_script.specs.Script.{ScriptGroup, steps_of, groups_told, opened}
 use Rattle.event_script.specs.Stories.{story, stories, offers}
 use Rattle.script_runs.specs.Connections.{lines_by_connection}
@@ -30,7 +31,9 @@ use Rattle.server_run.specs.declared.asked.Asked.{Asked}
 use Rattle.server_run.specs.declared.ending.Ending.{Ending}
 use Rattle.server_run.specs.declared.ending.Ending.TheVariants as ending
 use Rattle.server_run.specs.declared.ending.Served.{Served}
-use Rattle.script_replay.specs.Outputs.{TookAll, TookFront, Writes, WritesBehind, text_in}
+use Rattle.sink_buffer.specs.Written.{TookAll, TookFront}
+use Rattle.script_replay.proofs.All.{all-of}
+use Rattle.script_replay.specs.Outputs.{Writes, WritesBehind, text_in}
 use Rattle.script_replay.specs.Playing.{CanPlay, terms_of_content}
 use Rattle.script_replay.specs.Replays.{EndsAs, IsOfText, RunsScript, WritesHeld, end_by, terms_in}
 use Rattle.script_replay.specs.Runs.{FailsNet, ForScript, LeavesScript}
@@ -157,11 +160,19 @@ runs-script {K} {W} {V} {Q} {G} watched sink facts form asked groups o v served 
   held = l.held;
   taken = l.taken;
   run = l.run;
-  done = λ is. l.some (subst (λ (e : ReplayEnd). EndsAs e served.ending v.faults (facts served.parts.volumes).faults) is ends);
+  done = λ is. l.some (over is);
+  all = λ is none. all-of G (terms_in form asked groups o v) asked groups l.journal (most-in form) served.ending (over is) (l.some (over is)) none;
   one = l.one;
   ends = ends;
   written = written;
-}
+} where
+  over : how ≡ end.Done → (served.ending ≡ ending.Over) ⊎ (served.ending ≡ ending.Notified)
+  over is = subst (λ (e : ReplayEnd). EndsAs e served.ending v.faults (facts served.parts.volumes).faults) is ends
+
+  most-in : (f : Form) → (terms_in f asked groups o v).most ≡ asked.connections + 1
+  most-in forms.Plain = refl
+  most-in forms.Grouped = refl
+  most-in forms.Journal = refl
 
 -- ---- text that is written behind the run
 

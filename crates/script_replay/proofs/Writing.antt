@@ -4,7 +4,7 @@ use Rattle.std.proofs.lemmas.List.{append-nil}
 use Rattle.ev_base.specs.Counts.{counted}
 use Rattle.ev_base.specs.Sink.{SinkFacts, GrowsBy}
 use Rattle.ev_base.specs.Terms.{Terms}
-use Rattle.sink_buffer.specs.Written.{TakesAll, BreaksOff}
+use Rattle.sink_buffer.specs.Written.{TakesAll, BreaksOff, TookAll, TookFront}
 use Rattle.sink_buffer.specs.Gathers.{HoldsBack}
 use Rattle.reactor_journal.specs.declared.entry.Entry.{Entry}
 use Rattle.log_handler.specs.declared.note.ServerNote.{ServerNote}
@@ -15,7 +15,7 @@ use Rattle.journal_text.specs.declared.journal_sink.JournalSink.{JournalSink}
 use Rattle.journal_text.specs.JournalSink as journals
 use Rattle.server_run.specs.declared.ending.Ending.{Ending}
 use Rattle.server_run.specs.declared.ending.Ending.TheVariants as ending
-use Rattle.script_replay.specs.Outputs.{TookAll, TookFront, WritesAlong}
+use Rattle.script_replay.specs.Outputs.{WritesAlong}
 use Rattle.script_replay.specs.Replays.{end_by}
 
 grown : (bytes start : List ℕ) (a b : Option (List ℕ)) → a ≡ Some start → GrowsBy a bytes b → b ≡ Some (start ++ bytes)

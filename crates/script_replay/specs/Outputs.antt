@@ -1,8 +1,7 @@
 -- What a run over a script writes.
-use Rattle.std.specs.Prelude.{◌≡◌, ℕ, List, ◌++◌, Some}
-use Rattle.ev_base.specs.Counts.{counted}
+use Rattle.std.specs.Prelude.{◌≡◌, ℕ, List}
 use Rattle.ev_base.specs.Sink.{SinkFacts}
-use Rattle.sink_buffer.specs.Written.{IsPrefixOf}
+use Rattle.sink_buffer.specs.Written.{TookAll, TookFront}
 use Rattle.reactor_journal.specs.declared.entry.Entry.{Entry}
 use Rattle.log_handler.specs.declared.note.ServerNote.{ServerNote}
 use Rattle.log_handler.specs.Notes.{journal_lines}
@@ -18,19 +17,6 @@ abbrev pub text_in : Form → ℕ → List (Entry ServerNote) → List ℕ
 text_in Plain most journal = journal_lines journal
 text_in Grouped most journal = lines_by_connection journal
 text_in Journal most journal = text_so_far most journal
-
--- Where the output tells its text, that is the text at the start and behind it all of these bytes. No write failed.
-pub record TookAll (o : SinkFacts) (bytes : List ℕ) (p : SinkFacts) : Type 0 where
-  pub text : (start : List ℕ) → o.text ≡ Some start → p.text ≡ Some (start ++ bytes)
-  pub faults : p.faults ≡ o.faults
-
--- Where the output tells its text, that is the text at the start and behind it a front of these bytes. Then one write failed, and none was
--- tried behind it.
-pub record TookFront (o : SinkFacts) (bytes : List ℕ) (p : SinkFacts) : Type 0 where
-  pub front : List ℕ
-  pub is_front : IsPrefixOf front bytes
-  pub text : (start : List ℕ) → o.text ≡ Some start → p.text ≡ Some (start ++ front)
-  pub one_failed : p.faults ≡ counted o.faults
 
 -- What a run wrote that ended so and wrote as it went: all of the text of its journal, or a front of it where a write failed.
 abbrev pub WritesAlong : ReplayEnd → SinkFacts → List ℕ → SinkFacts → Type 0

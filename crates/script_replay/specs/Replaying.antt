@@ -1,10 +1,9 @@
 -- What `logd replay` did, by how it ended. The input told the facts i before and tells j now; `limit` is how many bytes may be read.
-use Rattle.std.specs.Prelude.{◌≡◌, ◌⊎◌, ℕ, true, false, List, []}
+use Rattle.std.specs.Prelude.{◌≡◌, ◌⊎◌, ℕ, List, []}
 use Rattle.ev_base.specs.Sink.{SinkFacts}
 use Rattle.ev_base.specs.Source.{SourceFacts}
 use Rattle.ev_base.specs.declared.end.PeerEnd.{Ghosts}
-use Rattle.bounded_input.specs.Input.{TakesInput, IsReadToEnd}
-use Rattle.bounded_input.specs.Reading.{IsTooLong}
+use Rattle.bounded_input.specs.Reading.{IsReadWhole, ReadsSome, ReadsUpToFault, ReadsTooLong}
 use Rattle.reactor_model.specs.Volumes.{VolumesFacts}
 use Rattle.log_handler.specs.declared.note.ServerNote.{ServerNote}
 use Rattle.command_words.specs.declared.options.Options.{Options}
@@ -15,21 +14,6 @@ use Rattle.script_replay.specs.Replays.{RunsScript, asked_by}
 use Rattle.script_replay.specs.declared.ends.Played.{Played}
 use Rattle.script_replay.specs.declared.ends.ReplayEnd.{ReplayEnd}
 use Rattle.script_replay.specs.declared.ends.ReplayEnd.TheVariants as end
-
--- the input was read to its end, and these are its bytes
-pub record IsReadWhole (limit : ℕ) (i j : SourceFacts) (text : List ℕ) : Type 0 where
-  pub takes : TakesInput limit false i j text []
-  pub over : IsReadToEnd j
-
--- some bytes were read, and no read failed; or the read behind them failed; or one byte more than the limit was there
-abbrev pub ReadsSome : ℕ → SourceFacts → SourceFacts → Type 0
-ReadsSome limit i j = (taken : List ℕ) × TakesInput limit false i j taken []
-
-abbrev pub ReadsUpToFault : ℕ → SourceFacts → SourceFacts → Type 0
-ReadsUpToFault limit i j = (taken : List ℕ) × TakesInput limit true i j taken []
-
-abbrev pub ReadsTooLong : ℕ → SourceFacts → SourceFacts → Type 0
-ReadsTooLong limit i j = (taken : List ℕ) × IsTooLong limit i j taken
 
 -- nothing was served: there is no journal, and the output and the volumes are as they were
 pub record IsUnserved {K V : Type 0} (output : K) (volumes : V) (played : Played K V) : Type 0 where

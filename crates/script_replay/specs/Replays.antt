@@ -21,8 +21,9 @@ use Rattle.script_served.specs.Terms.{terms_of_script}
 use Rattle.server_run.specs.declared.asked.Asked.{Asked}
 use Rattle.server_run.specs.declared.ending.Ending.{Ending}
 use Rattle.server_run.specs.declared.ending.Ending.TheVariants as ending
-use Rattle.script_replay.specs.Outputs.{TookAll, TookFront, Writes, text_in}
-use Rattle.script_replay.specs.Runs.{IsOfOneWorker, IsRunOrNone, IsScriptRun}
+use Rattle.sink_buffer.specs.Written.{TookAll, TookFront}
+use Rattle.script_replay.specs.Outputs.{Writes, text_in}
+use Rattle.script_replay.specs.Runs.{DoesAll, IsOfOneWorker, IsRunOrNone, IsScriptRun}
 use Rattle.script_replay.specs.declared.ends.Played.{Played}
 use Rattle.script_replay.specs.declared.ends.ReplayEnd.{ReplayEnd}
 use Rattle.script_replay.specs.declared.ends.ReplayEnd.TheVariants as end
@@ -92,7 +93,7 @@ WritesHeld run first o text now p = (now ≡ run) × (p ≡ o)
 
 -- What a run over a script leaves whose journal is written in this form, where the output told o and the volumes v before it: one journal,
 -- of which the last entries are held and the others were handed over; it is that of a run, or empty where there was no memory for one; and
--- its text was written.
+-- its text was written. Where it is done, and no notice was asked for, it did all that the script has.
 pub record RunsScript {K V : Type 0} (G : Ghosts ScriptEnd) (sink : K → SinkFacts) (facts : V → VolumesFacts ServerNote) (form : Form) (asked : Asked) (groups : List ScriptGroup)
     (o : SinkFacts) (v : VolumesFacts ServerNote) (played : Played K V) : Type 0 where
   pub how : Ending
@@ -102,6 +103,7 @@ pub record RunsScript {K V : Type 0} (G : Ghosts ScriptEnd) (sink : K → SinkFa
   pub taken : WhereTold (HasTaken (terms_in form asked groups o v) played.first journal) (facts played.volumes).taken
   pub run : IsRunOrNone G (terms_in form asked groups o v) asked groups how journal
   pub done : played.end ≡ end.Done → IsScriptRun G (terms_in form asked groups o v) asked groups how journal
+  pub all : played.end ≡ end.Done → asked.until ≡ None → DoesAll asked groups journal
   pub one : asked.workers ≡ 1 → asked.until ≡ None → IsOfOneWorker asked groups how journal
   pub ends : EndsAs played.end how v.faults (facts played.volumes).faults
   pub written : Writes form played.end o (text_in form (asked.connections + 1) journal) (sink played.output)

@@ -1,22 +1,29 @@
 -- What the journal of a run of the server over a script says.
 use Rattle.std.specs.Prelude.{◌≡◌, ◌≤◌, ◌⊎◌, ◌+◌, ◌*◌, ◌/◌, ℕ, List, [], ◌∷◌, ◌++◌, drop, length, true, Some, None}
 use Rattle.std.specs.List.{list_any}
+use Rattle.ev_types.specs.declared.upcall.Handle.{Handle}
 use Rattle.ev_base.specs.Terms.{Terms}
 use Rattle.ev_base.specs.declared.end.PeerEnd.{Ghosts}
 use Rattle.reactor_journal.specs.declared.entry.Entry.{Entry}
-use Rattle.reactor_journal.specs.declared.entry.Entry.TheVariants.{Ended}
+use Rattle.reactor_journal.specs.declared.entry.Entry.TheVariants.{Closed, Ended}
+use Rattle.reactor_journal.specs.Past.{past_of}
 use Rattle.reactor_core.specs.Ends.{WhereTold}
 use Rattle.reactor_core.specs.Stands.{HasTaken}
 use Rattle.reactor_model.specs.Volumes.{VolumesFacts}
+use Rattle.log_lines.specs.declared.end_kind.EndKind.{EndKind}
 use Rattle.log_handler.specs.declared.note.ServerNote.{ServerNote}
+use Rattle.log_handler.specs.declared.note.ServerNote.TheVariants.{Finished}
 use Rattle.acceptor.specs.Servers.{servers}
 use Rattle.acceptor.specs.declared.server.ServerHandler.{ServerHandler}
 use Rattle.dispatch_turns.specs.ByTurns.{DispatchedByTurns}
-use Rattle.event_script.specs.Script.{ScriptGroup, steps_of, groups_told}
+use Rattle.event_script.specs.Script.{ScriptGroup, steps_of, groups_told, opened}
 use Rattle.event_script.specs.Grammar.{IsScriptText}
 use Rattle.script_net.specs.NetContent.{NetContent}
 use Rattle.script_net.specs.ScriptEnd.{script_end_facts, ScriptEndKeeps}
 use Rattle.script_net.specs.declared.end.ScriptEnd.{ScriptEnd}
+use Rattle.script_complete.specs.Complete.{LeavesNoStep, TookAllAs}
+use Rattle.script_turns.specs.Grouped.{grouped}
+use Rattle.script_runs.specs.Connections.{HadMemory, accepted, lines_by_connection}
 use Rattle.script_runs.specs.Laws.{RunsOver}
 use Rattle.script_runs.specs.Runs.{IsWhole}
 use Rattle.script_runs.specs.Runs as runs
@@ -74,6 +81,20 @@ pub record IsScriptRun (G : Ghosts ScriptEnd) (t : Terms) (asked : Asked) (group
 pub record IsOfOneWorker (asked : Asked) (groups : List ScriptGroup) (how : Ending) (journal : List (Entry ServerNote)) : Type 0 where
   pub serial : how ≡ ending.Over → Serial (asked.connections + 1) asked.idle groups journal
   pub few : asked.idle ≡ None → length journal ≤ 16 * length (steps_of groups) + all_bytes (steps_of groups) / 1024 + quiet_groups groups + 200
+
+-- What a run has done that was over with its whole script, however many workers ran it: each connection of the script was accepted; no group of it is
+-- left, and no step but those of ends that were closed or refused; each connection that was closed as read to its end has taken all its
+-- bytes. Where no idle time was asked for, there was room for all connections, and none was closed for want of memory, the lines of the
+-- journal, connection after connection, are the grouped text of the script.
+pub record DoesAll (asked : Asked) (groups : List ScriptGroup) (journal : List (Entry ServerNote)) : Type 0 where
+  pub accepted_all : accepted journal ≡ opened (steps_of groups)
+  pub run : List (Entry ServerNote)
+  pub closing : List (Entry ServerNote)
+  pub is : journal ≡ run ++ Ended ∷ closing
+  pub no_step : LeavesNoStep groups (past_of run)
+  pub took_all : (before after : List (Entry ServerNote)) (handle : Handle) (c : ℕ) (word : EndKind) → journal ≡ before ++ Closed handle (Finished c word) ∷ after
+      → TookAllAs word c journal (steps_of groups)
+  pub grouped_text : asked.idle ≡ None → opened (steps_of groups) ≤ asked.connections → HadMemory journal → lines_by_connection journal ≡ grouped (steps_of groups)
 
 -- no reactor was made, or the journal is that of a run
 abbrev pub IsRunOrNone : Ghosts ScriptEnd → Terms → Asked → List ScriptGroup → Ending → List (Entry ServerNote) → Type 0

@@ -1,7 +1,6 @@
-//! Scripts, with the journals and the lines that come of them.
+//! Scripts, with the lines that come of them.
 use crate::playing::watch_script;
 use ev_base::MemSink;
-use journal_text::JournalSink;
 use log_handler::LineSink;
 use server_run::{Asked, Ending};
 use std::alloc::Global;
@@ -51,35 +50,6 @@ const IDLE: Asked = Asked {
 /// A script that is played, how its run ends, and a text that comes of it.
 type Row = (&'static str, Asked, Ending, &'static str);
 
-/// Scripts with the texts of their journals. The first has one connection with one record; in the second a connection is refused; the
-/// third is stopped by a notice behind the first closing; in the fourth a connection is closed as idle before its input is read.
-const JOURNALS: [Row; 4] = [
-    (
-        "open 0\ndata 0 000000000000001600000004000000070000000100000002000000026869\nshut 0\n",
-        PLAIN,
-        Ending::Over,
-        "most 1001\nopened 0 r--\npolled 0\nready 0 read\nstarted 2\nreturned 2 again accepted 0\nopened 1 r--\nstarted 4\nreturned 4 keep none\npolled 0\nready 1 read\nready 1 read\nstarted 9\nreturned 9 again piece 0 30 1 4:7:1:2:6869\nstarted 10\nreturned 10 keep piece 0 0 0\nstarted 12\nreturned 12 close piece 0 0 0\nclosed 1 end 0 end\npolled 0\nended\nremoved 0\nclosed 0 shut\n",
-    ),
-    (
-        "open 0\nopen 1\nshut 0\n",
-        ALONE,
-        Ending::Over,
-        "most 2\nopened 0 r--\npolled 0\nready 0 read\nready 0 read\nstarted 2\nreturned 2 again accepted 0\nopened 1 r--\nstarted 3\nreturned 3 keep none\nstarted 5\nreturned 5 again accepted 1\nrefused 2 no end 1 refused\nstarted 10\nreturned 10 keep none\npolled 0\nready 1 read\nstarted 15\nreturned 15 close piece 0 0 0\nclosed 1 end 0 end\npolled 0\nended\nremoved 0\nclosed 0 shut\n",
-    ),
-    (
-        "open 0\nshut 0\nat 5\nopen 1\n",
-        UNTIL_ONE,
-        Ending::Notified,
-        "most 1001\nopened 0 r--\npolled 0\nready 0 read\nstarted 2\nreturned 2 again accepted 0\nopened 1 r--\nstarted 4\nreturned 4 keep none\npolled 0\nready 1 read\nstarted 9\nreturned 9 close piece 0 0 0\nclosed 1 end 0 end\nposted 0 except 0 0\nstarted 13\nreturned 13 keep none\nended\nremoved 0\nclosed 0 shut\n",
-    ),
-    (
-        "open 0\nat 100\ndata 0 000000000000001600000004000000070000000100000002000000026869\n",
-        IDLE,
-        Ending::Over,
-        "most 1001\nopened 0 r--\npolled 0\nready 0 read\nstarted 2\nreturned 2 again accepted 0\nopened 1 r--\nscheduled 0 1 100 100\nstarted 4\nreturned 4 keep none\npolled 100\ndue 0\nready 1 read\nstarted 10\nreturned 10 close piece 0 0 0\nclosed 1 end 0 idle\npolled 100\nended\nremoved 0\nclosed 0 shut\n",
-    ),
-];
-
 /// Scripts with the lines of their notes. A record that comes in two pieces is read whole; an idle connection is closed, at the
 /// second time that its timer comes due where a record came between; a connection is refused; the notice comes before the second
 /// connection; a failure of the listener is none of a connection, which fails later; a connection that is left open is stopped; and
@@ -128,18 +98,6 @@ const LINES: [Row; 8] = [
 /// A sink in memory.
 pub(crate) fn sink(alloc: Global, room: usize, fail_after: Option<u64>) -> Result<MemSink, Fail> {
     MemSink::new(alloc, room, fail_after).map_err(|_| Fail::from("no room"))
-}
-
-#[test]
-fn journals_come_of_scripts(rt: HostRuntime) -> Result<(), Fail> {
-    for (script, asked, end, journal) in JOURNALS {
-        let watch = JournalSink::new(asked.connections + 1, sink(rt.alloc(), 4_096, None)?);
-        let (ending, watch) = watch_script(&rt, rt.alloc(), script, asked, watch)?;
-        let written = watch.into_output();
-        assert_eq!(rt; written.bytes(), journal.as_bytes(), "{script}");
-        assert_eq!(rt; ending, end, "{script}");
-    }
-    Ok(())
 }
 
 #[test]

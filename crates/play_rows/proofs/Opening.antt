@@ -1,0 +1,33 @@
+-- That a reactor may be made of a net that made no call, and served once the acceptor was offered to it.
+use Rattle.std.proofs.Common.{◌≡◌, ℕ, List, [], refl, Option}
+use Rattle.std.specs.Prelude.{Result, Ok, Err}
+use Rattle.ev_types.specs.declared.upcall.Handle.{Handle}
+use Rattle.ev_types.specs.declared.upcall.Mask.{Mask}
+use Rattle.ev_base.specs.Net.{NetFacts, IsNew}
+use Rattle.ev_base.specs.Terms.{Terms, open_terms}
+use Rattle.timer_queue.specs.declared.timer.Timer.{Timer}
+use Rattle.reactor_journal.specs.declared.entry.Entry.{Entry}
+use Rattle.reactor_model.specs.Volumes.{tells_nothing}
+use Rattle.reactor_core.specs.Beginning.{CanBegin}
+use Rattle.reactor_core.specs.Offering.{RegisterGives}
+use Rattle.reactor_core.specs.Registering.{registered}
+use Rattle.reactor_core.specs.Stands.{Meaning}
+use Rattle.reactor_core.specs.declared.reactor.Core.{Core}
+use Rattle.reactor_core.specs.declared.registering.RegisterRefused.{RegisterRefused}
+use Rattle.reactor_core.specs.declared.registering.RegisterRefused.TheVariants.{Stopped, Full, NoMemory, NetFailed}
+use Rattle.run_rows.specs.Running.{NoneOpen, GoesOn}
+use Rattle.run_rows.proofs.Keeping.{sum, keeps_registered}
+use Rattle.run_rows.proofs.Serving.{goes_same, goes_keeping}
+
+pub begins : {N E : Type 0} (net : NetFacts E) (net_keeps : Type 0) (timers : List Timer) (watch : Type 0) (most : ℕ) → IsNew net → net_keeps → timers ≡ [] → watch
+    → CanBegin {N = N} net net_keeps timers watch tells_nothing (open_terms most) most
+begins net net_keeps timers watch most fresh keeps none seen = record { terms = refl; fresh = fresh; steady = λ q. cc; keeps = keeps; no_timers = none; seen = seen; taken = tt }
+
+-- no upcall is on its way behind a registration, whether the handler was taken or not
+pub offered : {H M Q W V N E : Type 0} (m : Meaning H M Q W V N E) (t : Terms) (F : ℕ) (h : List (Entry N)) (mask : Mask) (timer : Option (ℕ × ℕ)) (old new : Core H M Q W V N E) (result : Result Handle (H × RegisterRefused)) → NoneOpen h
+    → RegisterGives m t F h mask timer old result new → GoesOn m t h (λ before now. Unit {0}) new
+offered m t F h mask timer old new (Ok handle) none g = goes_keeping m t h (registered (sum h) handle mask timer) _ F new (keeps_registered h (sum h) handle mask timer) g.2 none tt
+offered m t F h mask timer old new (Err (back, Stopped)) none g = goes_same m t h _ F new g.1.stands none tt
+offered m t F h mask timer old new (Err (back, Full l o)) none g = goes_same m t h _ F new g.4.stands none tt
+offered m t F h mask timer old new (Err (back, NoMemory)) none g = goes_same m t h _ F new g.1.stands none tt
+offered m t F h mask timer old new (Err (back, NetFailed)) none g = goes_same m t h _ F new g.2.stands none tt
