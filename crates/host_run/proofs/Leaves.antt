@@ -1,11 +1,11 @@
 -- From what a run of the server leaves to what one over a host does.
 use Rattle.std.proofs.Common.{◌≡◌, ◌≤◌, ◌+◌, ◌⊎◌, inl, inr, arith, ℕ, Bool, true, false, List, [], ◌∷◌, ◌++◌, length, drop, Option, Some, None, refl, sym, ap, ◌∙◌, subst, append-nil}
-use Rattle.std.specs.Prelude.{option_map, ◌-◌, ◌^◌}
-use Rattle.std.proofs.Math.Nat.{le_refl, min-le_left}
+use Rattle.std.specs.Prelude.{option_map}
 use Rattle.ev_base.specs.Counts.{Rose, counted}
 use Rattle.ev_base.specs.Net.{HasNone, IsNew, NetFacts}
 use Rattle.ev_base.specs.Sink.{SinkFacts, GrowsBy}
 use Rattle.ev_base.specs.Terms.{Terms}
+use Rattle.sink_buffer.specs.Written.{TookAll, TookFront}
 use Rattle.timer_queue.specs.declared.timer.Timer.{Timer}
 use Rattle.reactor_journal.specs.declared.entry.Entry.{Entry}
 use Rattle.reactor_journal.specs.declared.entry.Entry.TheVariants.{Ended}
@@ -13,7 +13,7 @@ use Rattle.reactor_model.specs.Volumes.{VolumesFacts}
 use Rattle.reactor_core.specs.Calls.{AreCalls}
 use Rattle.reactor_core.specs.Ends.{WhereTold}
 use Rattle.reactor_core.specs.Stands.{HasTaken, Meaning, NetStands}
-use Rattle.log_handler.specs.LineSink.{PutsLines, is_broken, line_sink_faults, sink_of}
+use Rattle.log_handler.specs.LineSink.{PutsLines, is_broken, sink_of}
 use Rattle.log_handler.specs.Notes.{journal_lines}
 use Rattle.log_handler.specs.declared.line_sink.LineSink.{LineSink}
 use Rattle.log_handler.specs.declared.note.ServerNote.{ServerNote}
@@ -27,7 +27,7 @@ use Rattle.server_run.specs.declared.ending.Served.{Served}
 use Rattle.host_run.specs.declared.ending.HostEnd.{HostEnd}
 use Rattle.host_run.specs.declared.ending.HostEnd.TheVariants as end
 use Rattle.host_run.specs.declared.ending.HostServed.{HostServed}
-use Rattle.host_run.specs.Leaving.{IsJournal, IsUntouched, LeavesHost, MayLackNet, NetFailedSo, RunsOver, RunsWhereGiven, TookAll, TookFront, OutputTook, end_of, left_by}
+use Rattle.host_run.specs.Leaving.{IsJournal, IsUntouched, LeavesHost, MayLackNet, NetFailedSo, RunsOver, RunsWhereGiven, OutputTook, end_of, left_by}
 use Rattle.host_run.specs.Starting.{terms_of}
 
 -- ---- the lines
@@ -59,43 +59,28 @@ module _ {K : Type 0} (facts : K → SinkFacts) (options : Options) (o : SinkFac
   front : is_broken sink ≡ true → TookFront o (journal_lines h) (facts (sink_of sink))
   front broken =
       let off = p.put.front broken in
-      let now : (facts (sink_of sink)).faults ≡ counted o.faults = off.rose ∙ ap counted start-faults in
       record {
         front = off.front;
         is_front = off.is_front;
         text = λ opening told. grown p.start.text (facts (sink_of sink)).text off.front opening (p.opening opening told) off.text;
-        rose = subst (λ (n : ℕ). counted o.faults ≤ n) (sym now) (le_refl (counted o.faults));
-        once = subst (λ (n : ℕ). n ≤ o.faults + 1) (sym now) (min-le_left (o.faults + 1) (2 ^ 64 - 1));
+        one_failed = off.rose ∙ ap counted start-faults;
       }
-
-  -- a count at its end cannot tell whether a write failed
-  full : is_broken sink ≡ false → Rose o.faults (line_sink_faults facts sink) → TookFront o (journal_lines h) (facts (sink_of sink))
-  full sound rose =
-      let all = whole sound in
-      let least : line_sink_faults facts sink ≤ (facts (sink_of sink)).faults = min-le_left (facts (sink_of sink)).faults (2 ^ 64 - 1) in
-      record {
-        front = journal_lines h;
-        is_front = ([], sym (append-nil (journal_lines h)));
-        text = all.text;
-        rose = omega (arith, rose, least);
-        once = omega (arith, all.faults);
-      }
-
-  failed : (b : Bool) → is_broken sink ≡ b → Rose o.faults (line_sink_faults facts sink) → TookFront o (journal_lines h) (facts (sink_of sink))
-  failed true is rose = front is
-  failed false is rose = full is rose
 
   sound : (how : Ending) → (is_broken sink ≡ true → how ≡ ending.Broken) → (how ≡ ending.Broken → ⊥) → TookAll o (journal_lines h) (facts (sink_of sink))
   sound how told never = whole (sound-of (is_broken sink) (λ b. never (told b)))
 
-  pub wrote : (how : Ending) → (is_broken sink ≡ true → how ≡ ending.Broken) → (how ≡ ending.Broken → Rose o.faults (line_sink_faults facts sink)) → OutputTook (end_of how) o (journal_lines h) (facts (sink_of sink))
-  wrote ending.Broken told rose = failed (is_broken sink) refl (rose refl)
-  wrote ending.Over told rose = sound ending.Over told (λ q. cc)
-  wrote ending.Notified told rose = sound ending.Notified told (λ q. cc)
-  wrote ending.NotAttached told rose = sound ending.NotAttached told (λ q. cc)
-  wrote ending.NetFault told rose = sound ending.NetFault told (λ q. cc)
-  wrote ending.NoMemory told rose = sound ending.NoMemory told (λ q. cc)
-  wrote ending.VolumeFault told rose = sound ending.VolumeFault told (λ q. cc)
+  by-watch : (b : Bool) → is_broken sink ≡ b → OutputTook (end_of b ending.Broken) o (journal_lines h) (facts (sink_of sink))
+  by-watch true is = front is
+  by-watch false is = whole is
+
+  pub wrote : (how : Ending) → (is_broken sink ≡ true → how ≡ ending.Broken) → OutputTook (end_of (is_broken sink) how) o (journal_lines h) (facts (sink_of sink))
+  wrote ending.Broken told = by-watch (is_broken sink) refl
+  wrote ending.Over told = sound ending.Over told (λ q. cc)
+  wrote ending.Notified told = sound ending.Notified told (λ q. cc)
+  wrote ending.NotAttached told = sound ending.NotAttached told (λ q. cc)
+  wrote ending.NetFault told = sound ending.NetFault told (λ q. cc)
+  wrote ending.NoMemory told = sound ending.NoMemory told (λ q. cc)
+  wrote ending.VolumeFault told = sound ending.VolumeFault told (λ q. cc)
 
 -- nothing was written
 wrote-nothing : (o : SinkFacts) → TookAll o [] o
@@ -115,15 +100,16 @@ module _ {H M Q W V E : Type 0} (m : Meaning H M Q W V ServerNote E) (t : Terms)
   ended-alone net journal (inl unmade) = absurd unmade.ending
   ended-alone net journal (inr run) = run.is ∙ ap (λ (l : List (Entry ServerNote)). l ++ Ended ∷ run.closing) run.ends.0 ∙ ap (λ (l : List (Entry ServerNote)). Ended ∷ l) run.ends.1
 
-  net-failed : (how : Ending) (old net : NetFacts E) (v w : VolumesFacts ServerNote) (journal : List (Entry ServerNote)) → IsNew old → FaultRose how old net v w
-      → IsUnmade how journal ⊎ IsRun m.means t until net how journal → NetFailedSo (end_of how) net journal
-  net-failed ending.NotAttached old net v w journal new rose run = inr (rose-from old.failed_attaches net.failed_attaches new.failed_attaches rose, ended-alone net journal run)
-  net-failed ending.NetFault old net v w journal new rose run = inl (rose-from old.failed_waits net.failed_waits new.failed_waits rose)
-  net-failed ending.Broken old net v w journal new rose run = tt
-  net-failed ending.NoMemory old net v w journal new rose run = tt
-  net-failed ending.VolumeFault old net v w journal new rose run = tt
-  net-failed ending.Notified old net v w journal new rose run = tt
-  net-failed ending.Over old net v w journal new rose run = tt
+  net-failed : (broken : Bool) (how : Ending) (old net : NetFacts E) (v w : VolumesFacts ServerNote) (journal : List (Entry ServerNote)) → IsNew old → FaultRose how old net v w
+      → IsUnmade how journal ⊎ IsRun m.means t until net how journal → NetFailedSo (end_of broken how) net journal
+  net-failed broken ending.NotAttached old net v w journal new rose run = inr (rose-from old.failed_attaches net.failed_attaches new.failed_attaches rose, ended-alone net journal run)
+  net-failed broken ending.NetFault old net v w journal new rose run = inl (rose-from old.failed_waits net.failed_waits new.failed_waits rose)
+  net-failed true ending.Broken old net v w journal new rose run = tt
+  net-failed false ending.Broken old net v w journal new rose run = tt
+  net-failed broken ending.NoMemory old net v w journal new rose run = tt
+  net-failed broken ending.VolumeFault old net v w journal new rose run = tt
+  net-failed broken ending.Notified old net v w journal new rose run = tt
+  net-failed broken ending.Over old net v w journal new rose run = tt
 
   told-none : {A : Type 0} (P : List A → Type 0) (told : Option (List A)) → P [] → HasNone told → WhereTold P told
   told-none P None p none = tt
@@ -172,6 +158,7 @@ module _ {H M Q V E K : Type 0} (m : Meaning H M Q (LineSink K) V ServerNote E) 
 
   untouched-net : (net : M) → IsNew (m.facts net) → m.keeps terms net → (until : Option ℕ) → RunsOver m terms until net end.NoMemory []
   untouched-net net new keeps until = record {
+    broken = false;
     ending = ending.NoMemory;
     named = refl;
     run = inl (record { ending = tt; none = refl });
@@ -208,24 +195,25 @@ module _ {H M Q V E K : Type 0} (m : Meaning H M Q (LineSink K) V ServerNote E) 
       taken = subst (λ (n : ℕ). WhereTold (HasTaken terms n l.journal) (m.volumes served.parts.volumes).taken) (sym l.stand.first) l.stand.volumes;
     }
 
-    runs-over : IsNew (m.facts net) → HasCauses m net volumes served → RunsOver m terms asked.until served.parts.net (end_of served.ending) l.journal
+    runs-over : IsNew (m.facts net) → HasCauses m net volumes served → RunsOver m terms asked.until served.parts.net (end_of (is_broken served.parts.watch) served.ending) l.journal
     runs-over new c = record {
+      broken = is_broken served.parts.watch;
       ending = served.ending;
       named = refl;
       run = l.run;
       stands = l.stand.net;
       keeps = l.stand.net_keeps;
-      failed = net-failed m terms asked.until served.ending (m.facts net) (m.facts served.parts.net) (m.volumes volumes) (m.volumes served.parts.volumes) l.journal new c.rose l.run;
+      failed = net-failed m terms asked.until (is_broken served.parts.watch) served.ending (m.facts net) (m.facts served.parts.net) (m.volumes volumes) (m.volumes served.parts.volumes) l.journal new c.rose l.run;
     }
 
     pub leaves-host : (result : HostServed M K V) → result ≡ left_by served → IsNew (m.facts net) → HasCauses m net volumes served → PutsLines sink terms served.parts.watch l.journal
-        → (is_broken served.parts.watch ≡ true → served.ending ≡ ending.Broken) → ((before : ℕ) → served.ending ≡ ending.Broken → terms.output_faults ≡ Some before → Rose before (line_sink_faults sink served.parts.watch))
+        → (is_broken served.parts.watch ≡ true → served.ending ≡ ending.Broken)
         → LeavesHost m sink terms asked.until (sink output) result
-    leaves-host result is new c watch told rose = subst (λ (r : HostServed M K V). LeavesHost m sink terms asked.until (sink output) r) (sym is) (record {
+    leaves-host result is new c watch told = subst (λ (r : HostServed M K V). LeavesHost m sink terms asked.until (sink output) r) (sym is) (record {
       journal = l.journal;
       is = journal-is;
       run = runs-over new c;
-      lines = wrote sink options (sink output) (m.volumes volumes) served.parts.watch l.journal watch served.ending told (λ broken. rose (sink output).faults broken refl);
+      lines = wrote sink options (sink output) (m.volumes volumes) served.parts.watch l.journal watch served.ending told;
     })
 
 -- what is left under one terms is left under the same

@@ -1,16 +1,16 @@
 -- What a run of the server over a host leaves.
-use Rattle.std.specs.Prelude.{◌≡◌, ◌≤◌, ◌⊎◌, ◌+◌, ◌++◌, ℕ, List, [], ◌∷◌, length, drop, Option, Some, None}
+use Rattle.std.specs.Prelude.{◌≡◌, ◌≤◌, ◌⊎◌, ℕ, Bool, true, false, List, [], ◌∷◌, length, drop, Option, Some, None}
 use Rattle.ev_base.specs.Counts.{Rose}
 use Rattle.ev_base.specs.Net.{NetFacts}
 use Rattle.ev_base.specs.Sink.{SinkFacts}
 use Rattle.ev_base.specs.Terms.{Terms}
-use Rattle.sink_buffer.specs.Written.{IsPrefixOf}
+use Rattle.sink_buffer.specs.Written.{TookAll, TookFront}
 use Rattle.reactor_journal.specs.Past.{past_of}
 use Rattle.reactor_journal.specs.declared.entry.Entry.{Entry}
 use Rattle.reactor_journal.specs.declared.entry.Entry.TheVariants.{Ended}
 use Rattle.reactor_core.specs.Ends.{WhereTold}
 use Rattle.reactor_core.specs.Stands.{HasTaken, Meaning, NetStands}
-use Rattle.log_handler.specs.LineSink.{sink_of}
+use Rattle.log_handler.specs.LineSink.{is_broken, sink_of}
 use Rattle.log_handler.specs.Notes.{journal_lines}
 use Rattle.log_handler.specs.declared.line_sink.LineSink.{LineSink}
 use Rattle.log_handler.specs.declared.note.ServerNote.{ServerNote}
@@ -23,20 +23,22 @@ use Rattle.host_run.specs.declared.ending.HostEnd.{HostEnd}
 use Rattle.host_run.specs.declared.ending.HostEnd.TheVariants as end
 use Rattle.host_run.specs.declared.ending.HostServed.{HostServed}
 
--- how it ends, by how the run of the server ended
-abbrev pub end_of : Ending → HostEnd
-end_of ending.Over = end.Done
-end_of ending.Notified = end.Done
-end_of ending.Broken = end.WriteFault
-end_of ending.NotAttached = end.NetFault
-end_of ending.NetFault = end.NetFault
-end_of ending.NoMemory = end.NoMemory
-end_of ending.VolumeFault = end.VolumeFault
+-- How it ends, by whether a write of the watch failed, and how the run of the server ended. Where no write failed, a run is told of as broken only if
+-- the count of faults stands at its end, so that nobody can know.
+abbrev pub end_of : Bool → Ending → HostEnd
+end_of broken ending.Over = end.Done
+end_of broken ending.Notified = end.Done
+end_of true ending.Broken = end.WriteFault
+end_of false ending.Broken = end.NoMemory
+end_of broken ending.NotAttached = end.NetFault
+end_of broken ending.NetFault = end.NetFault
+end_of broken ending.NoMemory = end.NoMemory
+end_of broken ending.VolumeFault = end.VolumeFault
 
 -- what is left of a run of the server: its parts but the timers, and the sink below the lines
 abbrev pub left_by : {M Q K V : Type 0} → Served M Q (LineSink K) V → HostServed M K V
 left_by served = record {
-  end = end_of served.ending;
+  end = end_of (is_broken served.parts.watch) served.ending;
   journal = served.parts.journal;
   first = served.parts.first;
   net = Some served.parts.net;
@@ -56,19 +58,6 @@ pub record IsJournal {N : Type 0} (t : Terms) (told : Option (List (Entry N))) (
   pub within : first ≤ length journal
   pub held : entries ≡ drop first journal
   pub taken : WhereTold (HasTaken t first journal) told
-
--- Where an output told its text, these bytes were added to it; and no write failed.
-pub record TookAll (o : SinkFacts) (bytes : List ℕ) (p : SinkFacts) : Type 0 where
-  pub text : (opening : List ℕ) → o.text ≡ Some opening → p.text ≡ Some (opening ++ bytes)
-  pub faults : p.faults ≡ o.faults
-
--- Where it told its text, a front of the bytes was added; and one write failed: its count rose by one, or stands at its end.
-pub record TookFront (o : SinkFacts) (bytes : List ℕ) (p : SinkFacts) : Type 0 where
-  pub front : List ℕ
-  pub is_front : IsPrefixOf front bytes
-  pub text : (opening : List ℕ) → o.text ≡ Some opening → p.text ≡ Some (opening ++ front)
-  pub rose : Rose o.faults p.faults
-  pub once : p.faults ≤ o.faults + 1
 
 -- what became of the bytes that were to be written
 abbrev pub OutputTook : HostEnd → SinkFacts → List ℕ → SinkFacts → Type 0
@@ -91,8 +80,9 @@ NetFailedSo end.VolumeFault net journal = Unit {0}
 -- The run of the server ended in a way of this name, and the journal is that of a run which ended so; or there was no memory for a reactor, and
 -- the journal is empty. The net stands for the journal: the ends that were retired or turned away are left as it says.
 pub record RunsOver {H M Q W V N E : Type 0} (m : Meaning H M Q W V N E) (t : Terms) (until : Option ℕ) (net : M) (how : HostEnd) (journal : List (Entry N)) : Type 0 where
+  pub broken : Bool
   pub ending : Ending
-  pub named : how ≡ end_of ending
+  pub named : how ≡ end_of broken ending
   pub run : IsUnmade ending journal ⊎ IsRun m.means t until (m.facts net) ending journal
   pub stands : NetStands m.means t (past_of journal) [] (m.facts net)
   pub keeps : m.keeps t net

@@ -6,7 +6,7 @@ use chosen_timers::ChosenTimers;
 use ev_base::Sink;
 use log_handler::{LineSink, ServerNote};
 use reactor_core::Parts;
-use reactor_model::Journal;
+use reactor_model::{Journal, Watch};
 use server_run::{Ending, Served};
 use std::alloc::Global;
 
@@ -61,7 +61,7 @@ pub(crate) fn leave<M, K: Sink, V>(
         volumes,
     } = parts;
     HostServed {
-        end: end_by(ending),
+        end: end_by(watch.broken(), ending),
         journal,
         first,
         net: Some(net),
@@ -70,16 +70,16 @@ pub(crate) fn leave<M, K: Sink, V>(
     }
 }
 
-/// How it ends, by how the run of the server ended.
-fn end_by(ending: Ending) -> HostEnd
-    ensures { result ≡ end_of ending }
+/// How it ends, by whether a write of the watch failed, and how the run of the server ended.
+fn end_by(broken: bool, ending: Ending) -> HostEnd
+    ensures { result ≡ end_of broken ending }
 {
-    match ending {
-        Ending::Broken => HostEnd::WriteFault,
-        Ending::NotAttached | Ending::NetFault => HostEnd::NetFault,
-        Ending::NoMemory => HostEnd::NoMemory,
-        Ending::VolumeFault => HostEnd::VolumeFault,
-        Ending::Notified | Ending::Over => HostEnd::Done,
+    match (broken, ending) {
+        (true, Ending::Broken) => HostEnd::WriteFault,
+        (false, Ending::Broken) | (_, Ending::NoMemory) => HostEnd::NoMemory,
+        (_, Ending::NotAttached | Ending::NetFault) => HostEnd::NetFault,
+        (_, Ending::VolumeFault) => HostEnd::VolumeFault,
+        (_, Ending::Notified | Ending::Over) => HostEnd::Done,
     }
 }
 

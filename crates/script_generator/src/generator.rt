@@ -3,7 +3,8 @@ ghost use Rattle.std.specs.Prelude.{◌≡◌, ◌≤◌, ◌<◌, ◌+◌, ◌+
 ghost use Rattle.std.specs.List.{range_with_len};
 ghost use Rattle.event_script.specs.Script.{Opens, Shuts};
 ghost use Rattle.event_script.specs.Grammar.{At, Stepping};
-ghost use Rattle.script_generator.specs.Scripts.{last_round, openings, shuttings, front_piece, rest_piece, round_lines};
+ghost use Rattle.script_generator.specs.Pieces.{piece_of};
+ghost use Rattle.script_generator.specs.Scripts.{last_round, openings, shuttings, round_lines};
 ghost use Rattle.script_generator.specs.Texts.{text_of, generated_text};
 
 use crate::lines::{push_at, push_data, push_open, push_shut};
@@ -17,6 +18,15 @@ const FRONT: usize = 5;
 
 /// The bytes of the longest record: 28 without its message, 39 letters and a zero byte.
 const LONGEST_RECORD: usize = 68;
+
+/// A piece of a record, as it is brought.
+#[derive(Clone, Copy)]
+enum Piece {
+    /// Its first five bytes.
+    Front,
+    /// The rest of it.
+    Rest,
+}
 
 /// How many rounds there are.
 fn rounds() -> u64
@@ -46,10 +56,11 @@ fn push_shuttings(out: &mut Vec<u8>, n: u64) -> Result<(), NoMemory>
     Ok(())
 }
 
-/// Appends the line of the front of a record. It is spelled into a vector beside.
-fn push_front(
+/// Appends the line of a piece of a record, which is spelled into a vector beside.
+fn push_piece(
     out: &mut Vec<u8>,
     spelled: &mut Vec<u8>,
+    piece: Piece,
     seed: u64,
     round: u64,
     conn: u64,
@@ -57,52 +68,20 @@ fn push_front(
     requires seed { seed ≤ 4294967295 }
     requires round { round < 1000 }
     requires conn { conn < 1000 }
-    ensures { OnOk result (out.new.items ≡ out.old.items ++ text_of (Stepping (front_piece seed round conn) ∷ [])) }
+    ensures { OnOk result (out.new.items ≡ out.old.items ++ text_of (Stepping (piece_of piece seed round conn) ∷ [])) }
 {
     spell_record(spelled, seed, round, conn)?;
-    push_data(out, conn, &spelled[..FRONT])
-}
-
-/// Appends the line of the rest of a record.
-fn push_rest(
-    out: &mut Vec<u8>,
-    spelled: &mut Vec<u8>,
-    seed: u64,
-    round: u64,
-    conn: u64,
-) -> Result<(), NoMemory>
-    requires seed { seed ≤ 4294967295 }
-    requires round { round < 1000 }
-    requires conn { conn < 1000 }
-    ensures { OnOk result (out.new.items ≡ out.old.items ++ text_of (Stepping (rest_piece seed round conn) ∷ [])) }
-{
-    spell_record(spelled, seed, round, conn)?;
-    push_data(out, conn, &spelled[FRONT..])
-}
-
-/// Appends the lines of the fronts of a round's records.
-fn push_fronts(
-    out: &mut Vec<u8>,
-    spelled: &mut Vec<u8>,
-    n: u64,
-    seed: u64,
-    round: u64,
-) -> Result<(), NoMemory>
-    requires n { n ≤ 1000 }
-    requires seed { seed ≤ 4294967295 }
-    requires round { round < 1000 }
-    ensures { OnOk result (out.new.items ≡ out.old.items ++ text_of (map Stepping (map (front_piece seed round) (range_with_len 0 n)))) }
-{
-    for conn in 0..n {
-        push_front(out, spelled, seed, round, conn)?;
+    match piece {
+        Piece::Front => push_data(out, conn, &spelled[..FRONT]),
+        Piece::Rest => push_data(out, conn, &spelled[FRONT..]),
     }
-    Ok(())
 }
 
-/// Appends the lines of the rests of a round's records.
-fn push_rests(
+/// Appends the lines of this piece of each of a round's records.
+fn push_pieces(
     out: &mut Vec<u8>,
     spelled: &mut Vec<u8>,
+    piece: Piece,
     n: u64,
     seed: u64,
     round: u64,
@@ -110,10 +89,10 @@ fn push_rests(
     requires n { n ≤ 1000 }
     requires seed { seed ≤ 4294967295 }
     requires round { round < 1000 }
-    ensures { OnOk result (out.new.items ≡ out.old.items ++ text_of (map Stepping (map (rest_piece seed round) (range_with_len 0 n)))) }
+    ensures { OnOk result (out.new.items ≡ out.old.items ++ text_of (map Stepping (map (piece_of piece seed round) (range_with_len 0 n)))) }
 {
     for conn in 0..n {
-        push_rest(out, spelled, seed, round, conn)?;
+        push_piece(out, spelled, piece, seed, round, conn)?;
     }
     Ok(())
 }
@@ -132,8 +111,8 @@ fn push_round(
     ensures { OnOk result (out.new.items ≡ out.old.items ++ text_of (round_lines n seed round)) }
 {
     push_at(out, round)?;
-    push_fronts(out, spelled, n, seed, round)?;
-    push_rests(out, spelled, n, seed, round)
+    push_pieces(out, spelled, Piece::Front, n, seed, round)?;
+    push_pieces(out, spelled, Piece::Rest, n, seed, round)
 }
 
 /// Appends the lines of so many rounds.

@@ -65,4 +65,4 @@ pub returns-clause-leaves : goal.returns-clause-leaves
 returns-clause-leaves g c =
     let given = c.requires.1.1.1.1.1.1.1.1.1.1.1.1.1 in
     let l = under g.terms _ given.0 c.serve.ensures.run in
-    leaves-host _ g.K.Sink.facts c.args.options c.args.output c.args.volumes _ _ c.args.given.0 c.serve.result l c.leave.result c.leave.ensures given.1.0.net c.serve.ensures.causes l.stand.watch c.serve.ensures.causes.told l.broken
+    leaves-host _ g.K.Sink.facts c.args.options c.args.output c.args.volumes _ _ c.args.given.0 c.serve.result l c.leave.result c.leave.ensures given.1.0.net c.serve.ensures.causes l.stand.watch c.serve.ensures.causes.told
