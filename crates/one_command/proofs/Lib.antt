@@ -1,0 +1,6 @@
+pub mod Lines
+pub mod Courses
+pub mod Journals
+pub mod Outcome
+pub mod Endings
+pub mod Serving

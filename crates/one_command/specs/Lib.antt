@@ -1,0 +1,4 @@
+pub mod Outcome
+pub mod Journals
+pub mod Statuses
+pub mod Ran
