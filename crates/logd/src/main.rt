@@ -1,8 +1,9 @@
-//! `logd`, the networked logging server: the top call over standard input and output.
+//! `logd`, the networked logging server: the top call over standard input and output, and sockets.
 #![tactic(auto)]
 
+use demux_mio::MioHost;
 use ev_base::{StdSink, StdSource};
-use logging_server::{NoHost, Served, fault_line, logd_main};
+use logging_server::{Served, fault_line, logd_main};
 use reactor_model::DropVolumes;
 use std::alloc::AllocError;
 use std::process::ExitCode;
@@ -14,14 +15,18 @@ const USAGE: u8 = 1;
 /// The status of want of memory.
 const OUT_OF_MEMORY: u8 = 6;
 
+/// How large the block is that is taken and let go at the start, in bytes.
+const LARGE_BLOCK: usize = 4 << 20;
+
 fn main(rt: HostRuntime) -> ExitCode {
+    keep_freed_memory(&rt);
     let words = match command_words(&rt) {
         Ok(words) => words,
         Err(status) => return end_with(&rt, status, 0),
     };
     let input = StdSource::new(rt.stdin());
     let output = StdSink::new(io::writer(&rt));
-    let mut host = NoHost::new();
+    let mut host = MioHost::new(rt);
     let Served { status, at, .. } = logd_main(
         &rt,
         rt.alloc(),
@@ -32,6 +37,12 @@ fn main(rt: HostRuntime) -> ExitCode {
         DropVolumes,
     );
     end_with(&rt, status, at)
+}
+
+/// Takes a large block and lets it go. From then on the C library's allocator keeps up to twice as much freed memory for what is taken next. Else it
+/// gives back to the system what each volume of a journal took, and asks for it anew.
+fn keep_freed_memory(rt: &HostRuntime) {
+    let _ = Vec::<u8>::with_capacity(rt.alloc(), LARGE_BLOCK);
 }
 
 /// The words after the program's name, or the status with which to end where there are none to be had: a word that is

@@ -1,6 +1,1 @@
-pub mod Lines
-pub mod Courses
-pub mod Journals
-pub mod Outcome
-pub mod Endings
-pub mod Serving
+pub mod Lefts

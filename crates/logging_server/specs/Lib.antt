@@ -1,9 +1,3 @@
-pub mod Words
-pub mod Written
-pub mod Outcome
-pub mod Journals
-pub mod Statuses
-pub mod Ran
-pub mod Texts
+pub mod Codes
+pub mod Commands
 pub mod FaultLines
-pub mod NoHost

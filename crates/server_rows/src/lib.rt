@@ -2,11 +2,17 @@
 #![tactic(auto)]
 
 #[cfg(test)]
+mod journal_rows;
+#[cfg(test)]
 mod line_rows;
 #[cfg(test)]
 mod long_rows;
 #[cfg(test)]
+mod many_rows;
+#[cfg(test)]
 mod one_rows;
+#[cfg(test)]
+mod played_rows;
 #[cfg(test)]
 mod running;
 #[cfg(test)]

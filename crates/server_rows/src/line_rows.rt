@@ -5,6 +5,7 @@ use crate::running::{RECORD, serve};
 use cdr_record::{Bytes, LogRecord, Records};
 use ev_base::{MemSink, Sink, SteadySource, Wrote};
 use ev_types::{Answer, Handle, Mask};
+use journal_text::JournalSink;
 use log_handler::{EndKind, LineSink, LoggedRecords, ServerNote};
 use reactor_model::{DropVolumes, Entry, Watch};
 use std::alloc::Global;
@@ -118,6 +119,25 @@ fn a_note_is_written_at_once(rt: HostRuntime) -> Result<(), Fail> {
         assert_eq!(rt; output.writes, writes);
         assert_eq!(rt; output.below.bytes(), lines);
     }
+    Ok(())
+}
+
+#[test]
+fn an_entry_of_a_journal_is_written_at_once(rt: HostRuntime) -> Result<(), Fail> {
+    let alloc = rt.alloc();
+    let mut watch = JournalSink::new(1, counting_sink(alloc)?);
+    for entry in [
+        opened(),
+        piece(logged(alloc, 2, Some(3))?),
+        closed(EndKind::Idle),
+    ] {
+        watch.saw(&entry);
+    }
+    let output = watch.into_output();
+    assert_eq!(rt; output.writes, 3);
+    let text =
+        b"most 1\nopened 1 r--\nreturned 0 again piece 3 30 2 4:7:1:2:6869 4:7:1:2:6869\nclosed 1 end 3 idle\n";
+    assert_eq!(rt; output.below.bytes(), text.as_slice());
     Ok(())
 }
 

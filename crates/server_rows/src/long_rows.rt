@@ -2,11 +2,11 @@
 ghost use Rattle.std.specs.Prelude.{None, ◌==◌, ◌&&◌, ◌-◌, ◌^◌};
 
 use crate::running::{RECORD, room, serve};
-use demux::PlayNet;
 use ev_base::{Got, MemSink, Source};
 use log_handler::ServerNote;
 use logging_server::Served;
 use reactor_model::{DropVolumes, MemVolumes, check};
+use script_net::ScriptNet;
 use std::alloc::Global;
 use std::sync::Wait;
 use std::test::Fail;
@@ -56,7 +56,7 @@ fn run_long<R: Threads + Wait + Copy + Send + Sync + 'static>(
     alloc: Global,
     count: u64,
     fails: &[u64],
-) -> Result<Served<MemSink, ByteByByte, PlayNet, MemVolumes<ServerNote>>, Fail> {
+) -> Result<Served<MemSink, ByteByByte, ScriptNet, MemVolumes<ServerNote>>, Fail> {
     let output = MemSink::new(alloc, 1 << 21, None).map_err(|_| Fail::from("no room"))?;
     let volumes = MemVolumes::new(alloc, Vec::from_slice(alloc, fails)?);
     serve(rt, alloc, bytes(count), output, volumes)

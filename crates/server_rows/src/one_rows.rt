@@ -2,8 +2,9 @@
 use crate::running::{LINES, RECORD, room, run, serve};
 use ev_base::MemSource;
 use log_handler::ServerNote;
-use logging_server::{NoHost, logd_main};
+use logging_server::logd_main;
 use reactor_model::{DropVolumes, Entry, check};
+use script_net::ScriptHost;
 use std::alloc::Global;
 use std::sync::Wait;
 use std::test::Fail;
@@ -155,7 +156,7 @@ fn faults_have_their_status(rt: HostRuntime) -> Result<(), Fail> {
 }
 
 /// A header with the fields of a record, and 65,536 bytes of a message, as two pieces.
-fn long_record(alloc: Global, header: &[u8]) -> Result<MemSource, Fail> {
+pub(crate) fn long_record(alloc: Global, header: &[u8]) -> Result<MemSource, Fail> {
     let mut pieces = Vec::new(alloc);
     pieces.push(Vec::from_slice(alloc, header)?)?;
     pieces.push(vec![in alloc; b'a'; 65_536]?)?;
@@ -272,7 +273,7 @@ fn run_words<R: Threads + Wait + Copy + Send + Sync + 'static>(
         rt,
         alloc,
         &owned,
-        &mut NoHost::new(),
+        &mut ScriptHost::new(None, true),
         input,
         output,
         DropVolumes,
@@ -289,11 +290,11 @@ fn other_words_are_refused(rt: HostRuntime) -> Result<(), Fail> {
         &["one", "x"],
         &["two"],
         &["One"],
-        &["replay"],
-        &["serve", "--port", "7000"],
+        &["--", "one"],
+        &["serve"],
         &["display", "display"],
         &["Audit"],
-        &["gen", "1", "0"],
+        &["gen", "0", "1"],
     ];
     for words in table {
         assert_eq!(rt; run_words(&rt, alloc, words)?, (1, 0, 0));

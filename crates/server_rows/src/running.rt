@@ -1,9 +1,9 @@
 //! Runs of the command `one`.
-use demux::PlayNet;
 use ev_base::{MemSink, MemSource, Sink, Source};
 use log_handler::ServerNote;
-use logging_server::{NoHost, Served, logd_main};
+use logging_server::{Served, logd_main};
 use reactor_model::{MemVolumes, Volumes};
+use script_net::{ScriptHost, ScriptNet};
 use std::alloc::Global;
 use std::sync::Wait;
 use std::test::Fail;
@@ -21,25 +21,39 @@ pub(crate) fn room(alloc: Global, fail_after: Option<u64>) -> Result<MemSink, Fa
     MemSink::new(alloc, 1 << 18, fail_after).map_err(|_| Fail::from("no room"))
 }
 
+/// A sink with room for so many bytes.
+pub(crate) fn room_for(alloc: Global, bytes: usize) -> Result<MemSink, Fail> {
+    MemSink::new(alloc, bytes, None).map_err(|_| Fail::from("no room"))
+}
+
+/// The words of a line, which are parted by one space.
+pub(crate) fn words_of(alloc: Global, line: &str) -> Result<Vec<String>, Fail> {
+    let mut words = Vec::new(alloc);
+    for word in line.split(' ') {
+        words.push(String::from_str(alloc, word)?)?;
+    }
+    Ok(words)
+}
+
 /// Runs `one` on a source, with a sink and with volumes.
 pub(crate) fn serve<
     R: Threads + Wait + Copy + Send + Sync + 'static,
     S: Source + Drop,
-    K: Sink + Drop,
-    V: Volumes<ServerNote> + Drop,
+    K: Sink + Drop + Send,
+    V: Volumes<ServerNote> + Drop + Send,
 >(
     rt: &R,
     alloc: Global,
     input: S,
     output: K,
     volumes: V,
-) -> Result<Served<K, S, PlayNet, V>, Fail> {
+) -> Result<Served<K, S, ScriptNet, V>, Fail> {
     let words = [String::from_str(alloc, "one")?];
     Ok(logd_main(
         rt,
         alloc,
         &words,
-        &mut NoHost::new(),
+        &mut ScriptHost::new(None, true),
         input,
         output,
         volumes,
@@ -53,7 +67,7 @@ pub(crate) fn run<R: Threads + Wait + Copy + Send + Sync + 'static>(
     pieces: &[&[u8]],
     fails: &[u64],
     fail_after: Option<u64>,
-) -> Result<Served<MemSink, MemSource, PlayNet, MemVolumes<ServerNote>>, Fail> {
+) -> Result<Served<MemSink, MemSource, ScriptNet, MemVolumes<ServerNote>>, Fail> {
     let mut owned = Vec::new(alloc);
     for piece in pieces {
         owned.push(Vec::from_slice(alloc, piece)?)?;

@@ -1,10 +1,11 @@
 //! What `display` and `audit` write, by their input, with the status and its number.
+use crate::one_rows::long_record;
 use crate::running::{RECORD, room};
-use demux::PlayNet;
 use ev_base::{MemSink, MemSource};
 use log_handler::ServerNote;
-use logging_server::{NoHost, Served, logd_main};
+use logging_server::{Served, logd_main};
 use reactor_model::DropVolumes;
+use script_net::{ScriptHost, ScriptNet};
 use std::alloc::Global;
 use std::sync::Wait;
 use std::test::Fail;
@@ -37,25 +38,29 @@ fn row_of<'a>(pieces: &'a [&'a [u8]], written: &'a [u8], status: u8, at: u64) ->
     }
 }
 
-/// Runs a command on some pieces.
-fn run<R: Threads + Wait + Copy + Send + Sync + 'static>(
-    rt: &R,
-    alloc: Global,
-    word: &str,
-    pieces: &[&[u8]],
-    fail_after: Option<u64>,
-) -> Result<Served<MemSink, MemSource, PlayNet, DropVolumes>, Fail> {
-    let words = [String::from_str(alloc, word)?];
+/// A source of some pieces, of which the reads of these numbers fail.
+fn source(alloc: Global, pieces: &[&[u8]], fails: &[u64]) -> Result<MemSource, Fail> {
     let mut owned = Vec::new(alloc);
     for piece in pieces {
         owned.push(Vec::from_slice(alloc, piece)?)?;
     }
-    let input = MemSource::new(owned, Vec::new(alloc));
+    Ok(MemSource::new(owned, Vec::from_slice(alloc, fails)?))
+}
+
+/// Runs a command on an input, with a sink that fails behind so many bytes.
+fn run<R: Threads + Wait + Copy + Send + Sync + 'static>(
+    rt: &R,
+    alloc: Global,
+    word: &str,
+    input: MemSource,
+    fail_after: Option<u64>,
+) -> Result<Served<MemSink, MemSource, ScriptNet, DropVolumes>, Fail> {
+    let words = [String::from_str(alloc, word)?];
     Ok(logd_main(
         rt,
         alloc,
         &words,
-        &mut NoHost::new(),
+        &mut ScriptHost::new(None, true),
         input,
         room(alloc, fail_after)?,
         DropVolumes,
@@ -88,13 +93,59 @@ fn records_are_displayed(rt: HostRuntime) -> Result<(), Fail> {
             0,
             0,
         ),
+        row_of(
+            &[
+                RECORD,
+                b"\x01\xaa\xbb\xcc\x16\0\0\0\x04\0\0\0\x07\0\0\0\x01\0\0\0\x02\0\0\0\x02\0\0\0hi",
+            ],
+            b"1,2 7 LM_DEBUG: hi\n1,2 7 LM_DEBUG: hi\n",
+            0,
+            0,
+        ),
         row_of(&[RECORD, b"\x04"], b"1,2 7 LM_DEBUG: hi\n", 8, 30),
+        row_of(&[RECORD, b"\0\0\0\0\0\0\0"], b"1,2 7 LM_DEBUG: hi\n", 8, 30),
         row_of(&[RECORD, b"\0\0\0"], b"1,2 7 LM_DEBUG: hi\n", 8, 30),
     ];
     for row in &table {
-        let served = run(&rt, alloc, "display", row.pieces, None)?;
+        let input = source(alloc, row.pieces, &[])?;
+        let served = run(&rt, alloc, "display", input, None)?;
         assert_eq!(rt; served.output.bytes(), row.written);
         assert_eq!(rt; (served.status, served.at), (row.status, row.at));
+    }
+    Ok(())
+}
+
+#[test]
+fn the_lines_before_a_failed_read_are_displayed(rt: HostRuntime) -> Result<(), Fail> {
+    let alloc = rt.alloc();
+    let input = source(alloc, &[RECORD], &[1])?;
+    let served = run(&rt, alloc, "display", input, None)?;
+    assert_eq!(rt; served.output.bytes(), b"1,2 7 LM_DEBUG: hi\n".as_slice());
+    assert_eq!(rt; (served.status, served.at), (3, 0));
+    Ok(())
+}
+
+#[test]
+fn long_records_are_displayed(rt: HostRuntime) -> Result<(), Fail> {
+    let alloc = rt.alloc();
+    let table: [(&[u8], u8, usize); 4] = [
+        (
+            b"\0\0\0\0\0\x01\0\x14\0\0\0\x04\0\0\0\x07\0\0\0\x01\0\0\0\x02\0\x01\0\0",
+            0,
+            65_536 + 17,
+        ),
+        (
+            b"\0\0\0\0\0\x01\0\x14\0\0\0\x04\0\0\0\x07\0\0\0\x01\0\0\0\x02\0\x01\0\x01",
+            8,
+            0,
+        ),
+        (b"\0\0\0\0\0\x01\0\x15", 8, 0),
+        (b"\0\0\0\0\0\0\0\x13", 8, 0),
+    ];
+    for (header, status, length) in table {
+        let served = run(&rt, alloc, "display", long_record(alloc, header)?, None)?;
+        assert_eq!(rt; served.output.bytes().len(), length);
+        assert_eq!(rt; (served.status, served.at), (status, 0));
     }
     Ok(())
 }
@@ -132,7 +183,8 @@ fn journals_are_audited(rt: HostRuntime) -> Result<(), Fail> {
         row_of(&[b"most 1\nstarted 0\n"], b"", 10, 0),
     ];
     for row in &table {
-        let served = run(&rt, alloc, "audit", row.pieces, None)?;
+        let input = source(alloc, row.pieces, &[])?;
+        let served = run(&rt, alloc, "audit", input, None)?;
         assert_eq!(rt; served.output.bytes(), row.written);
         assert_eq!(rt; (served.status, served.at), (row.status, row.at));
     }
@@ -147,7 +199,8 @@ fn a_sink_that_fails_has_a_front(rt: HostRuntime) -> Result<(), Fail> {
         ("audit", b"most 1\n", b"legal"),
     ];
     for (word, input, front) in &table {
-        let served = run(&rt, alloc, word, &[*input], Some(5))?;
+        let input = source(alloc, &[*input], &[])?;
+        let served = run(&rt, alloc, word, input, Some(5))?;
         assert_eq!(rt; served.output.bytes(), *front);
         assert_eq!(rt; served.status, 4);
     }

@@ -1,0 +1,164 @@
+//! The commands that run a reactor: `one`, `replay`, `gen` and `serve`.
+ghost use Rattle.command_words.specs.Ranges.{AreInRange, IsInRange};
+ghost use Rattle.command_words.specs.declared.command.Command.TheVariants.{Generate};
+ghost use Rattle.logging_server.specs.Commands.{HasGenerated, HasReplayed, HasRun, HasServed};
+
+use crate::Served;
+use crate::statuses::{
+    TEXT_LIMIT, code_of_generate, code_of_replay, code_of_serve, number_of_replay,
+};
+use command_words::Options;
+use ev_base::{Host, PeerEnd, Sink, Source};
+use generator_run::{Generated, generate};
+use host_run::{HostCore, HostServed, serve_host};
+use log_handler::ServerNote;
+use one_command::{Ran, one};
+use reactor_core::Means;
+use reactor_model::Volumes;
+use script_net::ScriptEnd;
+use script_replay::{Played, Replayed, replay};
+use std::alloc::Global;
+use std::sync::Wait;
+use std::thread::Threads;
+
+/// Serves one connection on the input.
+pub(crate) fn run_one<M, S: Source, K: Sink, V: Volumes<ServerNote>>(
+    alloc: Global,
+    input: S,
+    output: K,
+    volumes: V,
+) -> Served<K, S, M, V>
+    ensures { HasRun S.facts K.facts V.facts input output volumes result }
+{
+    let Ran {
+        status,
+        journal,
+        first,
+        input,
+        output,
+        volumes,
+    } = one(alloc, input, output, volumes);
+    Served {
+        status: status.code(),
+        journal,
+        first,
+        input,
+        output,
+        net: None,
+        volumes,
+        at: status.number(),
+    }
+}
+
+/// Runs the server over the script whose text the input is.
+pub(crate) fn run_replay<
+    R: Threads + Wait + Sync,
+    M,
+    S: Source,
+    K: Sink + Send,
+    V: Volumes<ServerNote> + Send,
+>(rt: &R, alloc: Global, options: Options, input: S, output: K, volumes: V) -> Served<K, S, M, V>
+    requires { AreInRange options }
+    ensures { HasReplayed S.facts K.facts V.facts input output volumes ⟦<ScriptEnd as PeerEnd>⟧ options result }
+{
+    let Replayed { input, played } = replay(rt, alloc, options, input, output, volumes, TEXT_LIMIT);
+    let Played {
+        end,
+        journal,
+        first,
+        output,
+        volumes,
+    } = played;
+    Served {
+        status: code_of_replay(end),
+        journal,
+        first,
+        input,
+        output,
+        net: None,
+        volumes,
+        at: number_of_replay(end),
+    }
+}
+
+/// Runs the server over the script of so many connections that is generated from a seed.
+pub(crate) fn run_generated<
+    R: Threads + Wait + Sync,
+    M,
+    S: Source,
+    K: Sink,
+    V: Volumes<ServerNote> + Send,
+>(
+    rt: &R,
+    alloc: Global,
+    connections: u64,
+    seed: u64,
+    input: S,
+    output: K,
+    volumes: V,
+) -> Served<K, S, M, V>
+    requires { IsInRange (Generate connections seed) }
+    ensures { HasGenerated S.facts K.facts V.facts input output volumes ⟦<ScriptEnd as PeerEnd>⟧ connections seed result }
+{
+    let Generated {
+        end,
+        journal,
+        first,
+        output,
+        volumes,
+    } = generate(rt, alloc, connections, seed, output, volumes);
+    Served {
+        status: code_of_generate(end),
+        journal,
+        first,
+        input,
+        output,
+        net: None,
+        volumes,
+        at: 0,
+    }
+}
+
+/// Runs the server over the host.
+pub(crate) fn run_host<
+    R: Threads + Wait + Sync,
+    H: Host,
+    S: Source,
+    K: Sink + Send,
+    V: Volumes<ServerNote> + Send,
+>(
+    rt: &R,
+    alloc: Global,
+    options: Options,
+    port: u16,
+    host: &mut H,
+    input: S,
+    output: K,
+    volumes: V,
+) -> Served<K, S, H::Net, V>
+where
+    H::End: Drop + Send,
+    H::Net: Send,
+    H::Waker: Drop + Sync,
+    requires { AreInRange options }
+    ensures { HasServed S.facts K.facts V.facts input output volumes ⟦<HostCore<H::End, H::Net, K, V> as Means>⟧.m options (H.faults host.old) (H.faults host.new) result }
+{
+    let HostServed {
+        end,
+        journal,
+        first,
+        net,
+        output,
+        volumes,
+    } = serve_host(rt, alloc, options, port, host, output, volumes);
+    Served {
+        status: code_of_serve(end),
+        journal,
+        first,
+        input,
+        output,
+        net,
+        volumes,
+        at: 0,
+    }
+}
