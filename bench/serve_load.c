@@ -3,16 +3,27 @@
    serve_load PORT bulk CONNECTIONS RECORDS        connections at once, each of which sends so many records of 100 bytes
    serve_load PORT short CONNECTIONS               connections of one record each, eight at a time
    serve_load PORT silent SILENT RECORDS           so many connections that send nothing, and one that sends so many records
+   serve_load PORT slow SLOW RECORDS BYTES         so many connections that send a record each, its first so many bytes a second apart, and
+                                                   one that sends so many records meanwhile
    serve_load PORT hostile STREAMS RECORDS SEED    so many connections that send bytes drawn by the seed, of which some are
                                                    reset, while one sends so many records
+   serve_load PORT latency SILENT RECORDS FIFO     so many connections that send nothing, and one that sends a record every 2 ms and looks
+                                                   for its line in what the server prints into the FIFO
+   serve_load PORT beside STREAMS RECORDS FIFO     so many endless streams, and one connection that sends a record every 5 ms and looks for
+                                                   its line
    serve_load check FILE COUNTxRECORDS..           whether the file has, for each of so many connections, the lines of its
                                                    records in order and its closing line, each once, and nothing else;
                                                    COUNTxother stands for connections of which no more is asked than one
                                                    closing line, their last
 
-   A load prints how many seconds passed from the first connect until the server had closed the last connection. */
+   A load prints how many seconds passed from the first connect until the server had closed the last connection; one that looks for
+   lines prints how many microseconds passed until a line was there, the median and the 99th percentile. */
+#define _GNU_SOURCE
 #include <arpa/inet.h>
+#include <fcntl.h>
+#include <poll.h>
 #include <pthread.h>
+#include <stdatomic.h>
 #include <stdint.h>
 #include <stdio.h>
 #include <stdlib.h>
@@ -126,6 +137,20 @@ static void silent(unsigned many, unsigned long records) {
     free(sockets);
 }
 
+/* Peers that send a record each, a byte a second at first, and one that does not wait. */
+static void slow(unsigned many, unsigned long records, unsigned bytes) {
+    unsigned char r[RECORD];
+    int *sockets = calloc(many, sizeof *sockets);
+    if (!sockets) stop("out of memory");
+    for (unsigned i = 0; i < many; i++) sockets[i] = dial();
+    talk_in_threads(1, many, 1, records);
+    for (unsigned at = 0; at < bytes; at++, sleep(1)) {
+        for (unsigned i = 0; i < many; i++) record(r, i, 0), send_all(sockets[i], r + at, 1);
+    }
+    for (unsigned i = 0; i < many; i++) record(r, i, 0), send_all(sockets[i], r + bytes, RECORD - bytes), hang_up(sockets[i]);
+    free(sockets);
+}
+
 static uint64_t drawn;
 
 /* The next number by the seed (xorshift64). */
@@ -156,6 +181,89 @@ static void hostile(unsigned streams, unsigned long records, uint64_t seed) {
     if (pthread_create(&honest, 0, talk, &one)) stop("no thread");
     for (unsigned i = 0; i < streams; i++) talk_garbage();
     pthread_join(honest, 0);
+}
+
+/* ---- latency */
+
+enum { PROBE = 1000000007 }; /* the number of the client whose lines are looked for */
+
+static atomic_int streaming = 1;
+
+/* Sends records until it is told to stop. */
+static void *stream(void *of) {
+    unsigned client = *(unsigned *)of;
+    unsigned char *bytes = malloc(AT_ONCE * RECORD);
+    if (!bytes) stop("out of memory");
+    for (size_t n = 0; n < AT_ONCE; n++) record(bytes + n * RECORD, client, n);
+    int s = dial();
+    while (streaming) send_all(s, bytes, AT_ONCE * RECORD);
+    hang_up(s);
+    free(bytes);
+    return 0;
+}
+
+static void *drain(void *of) {
+    static char bytes[1 << 16];
+    while (read(*(int *)of, bytes, sizeof bytes) > 0) {}
+    return 0;
+}
+
+/* Reads what the server printed until the probe's line number `at` is there, and gives the moment. */
+static double line_came(int lines, unsigned long at) {
+    static char bytes[(1 << 16) + 64];
+    static size_t held;
+    char wanted[32];
+    int n = snprintf(wanted, sizeof wanted, " %u:%lu:", (unsigned)PROBE, at);
+    for (;;) {
+        if (memmem(bytes, held, wanted, (size_t)n)) return now();
+        size_t kept = held < 48 ? held : 48;
+        memmove(bytes, bytes + held - kept, kept);
+        ssize_t came = read(lines, bytes + kept, 1 << 16);
+        if (came <= 0) stop("the server's lines ended");
+        held = kept + (size_t)came;
+    }
+}
+
+static int by_size(const void *a, const void *b) {
+    double x = *(const double *)a, y = *(const double *)b;
+    return x < y ? -1 : x > y;
+}
+
+static void probe(unsigned streams, unsigned silent, unsigned long records, long pause, const char *fifo) {
+    pthread_t *started = calloc(streams + 1, sizeof *started);
+    unsigned *clients = calloc(streams + 1, sizeof *clients);
+    int *sockets = calloc(silent + 1, sizeof *sockets);
+    double *took = calloc(records, sizeof *took);
+    int lines = open(fifo, O_RDONLY);
+    unsigned char bytes[RECORD];
+    pthread_t drainer;
+    if (!started || !clients || !sockets || !took || lines < 0) stop("no memory, or no fifo");
+    for (unsigned i = 0; i < silent; i++) sockets[i] = dial();
+    int s = dial();
+    for (unsigned i = 0; i < streams; i++) {
+        clients[i] = i;
+        if (pthread_create(&started[i], 0, stream, &clients[i])) stop("no thread");
+    }
+    for (unsigned long at = 0; at < records; at++) {
+        /* what the streams print is read all the while, so that the server never waits for its reader */
+        double next = now() + (double)pause / 1e6;
+        struct pollfd ready = {.fd = lines, .events = POLLIN};
+        static char passed[1 << 16];
+        while (now() < next)
+            if (poll(&ready, 1, 1) > 0 && read(lines, passed, sizeof passed) <= 0) stop("the server's lines ended");
+        record(bytes, PROBE, at);
+        double sent = now();
+        send_all(s, bytes, RECORD);
+        took[at] = line_came(lines, at) - sent;
+    }
+    if (pthread_create(&drainer, 0, drain, &lines)) stop("no thread");
+    streaming = 0;
+    for (unsigned i = 0; i < streams; i++) pthread_join(started[i], 0);
+    hang_up(s);
+    for (unsigned i = 0; i < silent; i++) hang_up(sockets[i]);
+    pthread_join(drainer, 0);
+    qsort(took, records, sizeof *took, by_size);
+    printf("%.0f %.0f\n", took[records / 2] * 1e6, took[records * 99 / 100] * 1e6);
 }
 
 /* ---- checking */
@@ -247,16 +355,19 @@ int main(int argc, char **argv) {
         setrlimit(RLIMIT_NOFILE, &files);
     }
     if (argc >= 4 && !strcmp(argv[1], "check")) return check(argv[2], argv + 3, argc - 3);
-    if (argc < 4) stop("usage: serve_load PORT bulk|short|silent|hostile .. or serve_load check FILE ..");
+    if (argc < 4) stop("usage: serve_load PORT bulk|short|silent|slow|hostile|latency|beside .. or serve_load check FILE ..");
     port = (uint16_t)atoi(argv[1]);
     unsigned many = (unsigned)atoi(argv[3]);
     unsigned long records = argc > 4 ? strtoul(argv[4], 0, 10) : 1;
     double start = now();
+    if (argc == 6 && !strcmp(argv[2], "latency")) return probe(0, many, records, 2000, argv[5]), 0;
+    if (argc == 6 && !strcmp(argv[2], "beside")) return probe(many, 0, records, 5000, argv[5]), 0;
     if (!strcmp(argv[2], "bulk")) talk_in_threads(many, 0, many, records);
     else if (!strcmp(argv[2], "short")) talk_in_threads(SHORT_THREADS, 0, many, 1);
     else if (!strcmp(argv[2], "silent")) silent(many, records);
+    else if (!strcmp(argv[2], "slow")) slow(many, records, argc > 5 ? (unsigned)atoi(argv[5]) % RECORD : 10);
     else if (!strcmp(argv[2], "hostile")) hostile(many, records, argc > 5 ? strtoull(argv[5], 0, 10) : 1);
-    else stop("bulk, short, silent or hostile");
+    else stop("bulk, short, silent, slow, hostile, latency or beside");
     printf("%.3f\n", now() - start);
     return 0;
 }

@@ -1,0 +1,93 @@
+#!/bin/sh
+# Loads `logd serve` and a plain server on epoll that makes the same reads and writes (`plain_epoll.c`), each with 1 and with 4 workers, and checks
+# every line that they print. For each load it prints the rate of ours by that of the plain server (above 1 ours is faster), and the processor
+# time of ours by that of the plain one (below 1 ours is cheaper): of three runs the median. Behind that come loads that only ours gets: 4,096
+# connections at once, peers that send a byte a second, and 10,000 hostile streams beside an honest one. Needs rt, cc and python3.
+root=$(cd "$(dirname "$0")/.." && pwd)
+work=$(mktemp -d) || exit 1
+trap 'rm -rf "$work"' EXIT
+cc -O2 -pthread -o "$work/plain" "$root/bench/plain_epoll.c" || exit 1
+cc -O2 -pthread -o "$work/load" "$root/bench/serve_load.c" || exit 1
+"$root/bin/logd" one </dev/null >/dev/null || exit 1
+ulimit -n "$(ulimit -Hn)"
+python3 - "$work" "$root/crates/logd/out/logd" <<'P'
+import os, socket, statistics, subprocess, sys, time
+work, logd = sys.argv[1:]
+
+def free_port():
+    with socket.socket() as s:
+        s.bind(("127.0.0.1", 0))
+        return s.getsockname()[1]
+
+def listens(port):
+    with open("/proc/net/tcp") as table:
+        return any(line.split()[1].endswith(f":{port:04X}") and line.split()[3] == "0A" for line in table.readlines()[1:])
+
+def serve(command, port, load, groups):
+    """The seconds of the load, and those of the server's processor."""
+    with open(work + "/lines", "wb") as lines:
+        server = subprocess.Popen(command, stdin=subprocess.DEVNULL, stdout=lines)
+    while not listens(port):
+        assert server.poll() is None, f"{command} ended with {server.returncode}"
+        time.sleep(0.01)
+    told = subprocess.run([work + "/load", str(port), *load], stdout=subprocess.PIPE, check=True).stdout
+    _, status, used = os.wait4(server.pid, 0)
+    assert status == 0, f"{command} ended with {status}"
+    subprocess.run([work + "/load", "check", work + "/lines", *groups], stdout=subprocess.DEVNULL, check=True)
+    return float(told), used.ru_utime + used.ru_stime
+
+def ours(port, until, workers):
+    return [logd, "serve", "--port", str(port), "--until", str(until), "--workers", str(workers), "--most", "4096"]
+
+def plain(port, until, workers):
+    return [work + "/plain", str(port), str(until), str(workers)]
+
+def median(server, until, workers, load, groups):
+    runs = []
+    for _ in range(3):
+        port = free_port()
+        runs.append(serve(server(port, until, workers), port, load, groups))
+    return [statistics.median(of) for of in zip(*runs)]
+
+LOADS = [
+    ("bulk, 8 connections", 8, ["bulk", "8", "100000"], ["8x100000"]),
+    ("one stream", 1, ["bulk", "1", "400000"], ["1x400000"]),
+    ("900 silent, one busy", 901, ["silent", "900", "200000"], ["900x0", "1x200000"]),
+    ("2,000 short connections", 2000, ["short", "2000"], ["2000x1"]),
+]
+for name, until, load, groups in LOADS:
+    for workers in (1, 2, 4) if name.startswith("bulk") else (1, 4):
+        a = median(plain, until, workers, load, groups)
+        b = median(ours, until, workers, load, groups)
+        print(f"{name}, {workers} workers: rate {a[0] / b[0]:.2f}, processor {b[1] / a[1]:.2f} ({b[0]:.3f} s, {b[1]:.2f} s of processor)", flush=True)
+
+def latency(server, until, workers, load):
+    port = free_port()
+    os.mkfifo(work + "/fifo")
+    child = subprocess.Popen(["sh", "-c", 'exec "$@" > "$0"', work + "/fifo", *server(port, until, workers)], stdin=subprocess.DEVNULL)
+    lines = os.open(work + "/fifo", os.O_RDONLY)
+    while not listens(port):
+        time.sleep(0.01)
+    told = subprocess.run([work + "/load", str(port), *load, work + "/fifo"], stdout=subprocess.PIPE, check=True).stdout
+    os.close(lines)
+    assert child.wait() == 0
+    os.unlink(work + "/fifo")
+    return [int(word) for word in told.split()]
+
+for name, until, load in [
+    ("latency beside 900 silent", lambda workers: 901, lambda workers: ["latency", "900", "1000"]),
+    ("a record every 5 ms beside an endless stream for each worker", lambda workers: workers + 1, lambda workers: ["beside", str(workers), "400"]),
+]:
+    for workers in 1, 2, 4:
+        a, b = (latency(server, until(workers), workers, load(workers)) for server in (plain, ours))
+        print(f"{name}, {workers} workers: median {b[0]} us, 99 % {b[1]} us (plain server {a[0]} us, {a[1]} us)", flush=True)
+for workers in 1, 4:
+    for name, until, load, groups in [
+        ("4,096 at once", 4096, ["silent", "4095", "1000"], ["4095x0", "1x1000"]),
+        ("8 peers that send a byte a second", 9, ["slow", "8", "20000", "10"], ["8x1", "1x20000"]),
+        ("10,000 hostile streams", 10001, ["hostile", "10000", "20000", "7"], ["1x20000", "10000xother"]),
+    ]:
+        port = free_port()
+        took, processor = serve(ours(port, until, workers), port, load, groups)
+        print(f"{name}, {workers} workers: every line is there once and in order ({took:.3f} s, {processor:.2f} s of processor)", flush=True)
+P
