@@ -7,14 +7,13 @@ use Rattle.cdr_record.specs.declared.grammar.First.{First}
 use Rattle.cdr_record.specs.declared.grammar.First.TheVariants.{More, Bad, One}
 use Rattle.cdr_record.specs.Grammar.{first_of, record_in}
 use Rattle.cdr_record.specs.Decoding.{records_of, left_of, record_alone, only_record}
-use Rattle.cdr_record.proofs.Growing.{one_within}
 use Rattle.cdr_record.proofs.Cutting.{first_nil, steps_over, stops_at}
 
-none_alone : (left : List ℕ) → record_alone [] left ≡ None
+pub none_alone : (left : List ℕ) → record_alone [] left ≡ None
 none_alone [] = refl
 none_alone (x ∷ left) = refl
 
-two_not_alone : (r s : LogRecord) (records : List LogRecord) (left : List ℕ) → record_alone (r ∷ s ∷ records) left ≡ None
+pub two_not_alone : (r s : LogRecord) (records : List LogRecord) (left : List ℕ) → record_alone (r ∷ s ∷ records) left ≡ None
 two_not_alone r s records [] = refl
 two_not_alone r s records (x ∷ left) = refl
 

@@ -8,7 +8,8 @@ use crate::record::LogRecord;
 use ev_types::NoMemory;
 use std::alloc::Global;
 
-/// The record that bytes spell, where they are one record and nothing more. Only the record's message takes memory.
+/// The record that bytes spell, where they are one record and nothing more. Only the record's message takes memory: on `NoMemory` there was none for it,
+/// and the bytes, which are borrowed, may be read again.
 pub fn only_record(alloc: Global, bytes: &[u8]) -> Result<Option<LogRecord>, NoMemory>
     ensures { IfOk result (λ found. found ≡ D.only_record bytes.now) }
 {

@@ -23,7 +23,7 @@ fn records(alloc: Global, count: u64) -> Result<LoggedRecords, Fail> {
             text: Bytes::new(Vec::from_slice(alloc, b"a\nb")?),
         })?;
     }
-    Ok(LoggedRecords::new(Records::new(records)))
+    Ok(LoggedRecords::new(alloc, Records::new(records))?)
 }
 
 fn returned(note: ServerNote) -> Entry<ServerNote> {

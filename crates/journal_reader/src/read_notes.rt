@@ -79,7 +79,7 @@ fn read_piece(alloc: Global, parts: &mut Parts) -> Result<Option<ServerNote>, No
     if records.len() as u64 != count {
         return Ok(None);
     }
-    let records = LoggedRecords::new(Records::new(records));
+    let records = LoggedRecords::new(alloc, Records::new(records))?;
     Ok(Some(ServerNote::Piece {
         conn,
         took,

@@ -23,12 +23,12 @@ fn watch(alloc: Global, room: usize) -> Result<JournalSink<MemSink>, Fail> {
 }
 
 /// A piece of this many bytes, with these records.
-fn piece(took: u64, records: Records) -> ServerNote {
-    ServerNote::Piece {
+fn piece(alloc: Global, took: u64, records: Records) -> Result<ServerNote, Fail> {
+    Ok(ServerNote::Piece {
         conn: 0,
         took,
-        records: LoggedRecords::new(records),
-    }
+        records: LoggedRecords::new(alloc, records)?,
+    })
 }
 
 /// The record of the worked run: an `hi` of process 7.
@@ -62,13 +62,13 @@ fn the_journal_of_one_connection(rt: HostRuntime) -> Result<(), Fail> {
         Entry::Returned {
             event: 2,
             answer: Answer::Again,
-            note: piece(30, one_record(alloc)?),
+            note: piece(alloc, 30, one_record(alloc)?)?,
         },
         Entry::Started { event: 4 },
         Entry::Returned {
             event: 4,
             answer: Answer::Close,
-            note: piece(0, Records::new(Vec::new(alloc))),
+            note: piece(alloc, 0, Records::new(Vec::new(alloc)))?,
         },
         Entry::Closed {
             handle: Handle(0),

@@ -17,8 +17,8 @@ ghost use Rattle.log_handler.specs.Notes.{is_piece};
 
 use crate::peer::Peer;
 use crate::{LoggedRecords, ServerNote};
+use cdr_record::Decoder;
 use cdr_record::laws::tells_stop;
-use cdr_record::{Decoder, Records};
 use ev_base::{Got, Net, PeerEnd};
 use ev_types::{Answer, Handle, Mask, NetFailed, Upcall, Why};
 use log_lines::EndKind;
@@ -115,8 +115,7 @@ impl<E: PeerEnd> LogConnection<E> {
         ensures turn { IsTurn self.old.conn Close took [] result }
         ensures ends { self.new ≡ record self.old { kept = Some NoMemory } }
     {
-        let none = self.no_records();
-        self.close_with(EndKind::NoMemory, took, none)
+        self.close_with(EndKind::NoMemory, took, LoggedRecords::none())
     }
 
     /// Closes where nothing came for too long.
@@ -147,7 +146,7 @@ impl<E: PeerEnd> LogConnection<E> {
     fn keep(&self) -> Turn<LogConnection<E>>
         ensures { IsTurn self.now.conn Keep 0 [] result }
     {
-        self.turn(Answer::Keep, 0, self.no_records())
+        self.turn(Answer::Keep, 0, LoggedRecords::none())
     }
 
     /// A turn that took nothing and ends the connection so.
@@ -155,8 +154,7 @@ impl<E: PeerEnd> LogConnection<E> {
         ensures turn { IsTurn self.old.conn Close 0 [] result }
         ensures ends { self.new ≡ record self.old { kept = Some end } }
     {
-        let none = self.no_records();
-        self.close_with(end, 0, none)
+        self.close_with(end, 0, LoggedRecords::none())
     }
 
     /// A turn that took so many bytes, completed these records, and ends the connection so.
@@ -171,12 +169,6 @@ impl<E: PeerEnd> LogConnection<E> {
     {
         self.kept = Some(end);
         self.turn(Answer::Close, took, records)
-    }
-
-    fn no_records(&self) -> LoggedRecords
-        ensures { result ≡ [] }
-    {
-        LoggedRecords::new(Records::new(Vec::new(self.alloc)))
     }
 
     fn turn(&self, answer: Answer, took: u64, records: LoggedRecords) -> Turn<LogConnection<E>>

@@ -5,19 +5,10 @@ use Rattle.cdr_record.specs.declared.record.LogRecord.{LogRecord}
 use Rattle.cdr_record.specs.Grammar.{Spells}
 use Rattle.cdr_record.specs.Decoding.{decode, left_of, record_alone}
 use Rattle.cdr_record.specs.Laws.{DecodeCuts, IsCutInto}
+use Rattle.cdr_record.proofs.Alone.{none_alone, two_not_alone}
 use Rattle.cdr_record.proofs.Cutting.{first_nil}
 use Rattle.module_stream.specs.Tasks.{formatted, text_or}
 use Rattle.module_stream.specs.Laws.{FormatsRecords, LeavesOthers}
-
--- ---- by the definition
-
-none_alone : (left : List ℕ) → record_alone [] left ≡ None
-none_alone [] = refl
-none_alone (x ∷ left) = refl
-
-two_not_alone : (r s : LogRecord) (records : List LogRecord) (left : List ℕ) → record_alone (r ∷ s ∷ records) left ≡ None
-two_not_alone r s records [] = refl
-two_not_alone r s records (x ∷ left) = refl
 
 -- no record stands alone but where there is one record and nothing is left
 none_spelled : (records : List LogRecord) (left : List ℕ) → ((entry : LogRecord) → records ≡ entry ∷ [] → left ≡ [] → ⊥) → record_alone records left ≡ None

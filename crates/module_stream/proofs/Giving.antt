@@ -4,7 +4,6 @@ use Rattle.std.proofs.lemmas.List.{map-append}
 use Rattle.std.proofs.lemmas.Grind.{flat_map-append}
 use Rattle.crossbeam_queue.specs.Passes.{view}
 use Rattle.message_block.specs.Messages.{MessageState}
-use Rattle.module_stream.specs.declared.line.Item.{Item}
 use Rattle.module_stream.specs.declared.line.Item.TheVariants.{One}
 use Rattle.module_stream.specs.declared.work.Worker.{Worker}
 use Rattle.module_stream.specs.Lines.{log}

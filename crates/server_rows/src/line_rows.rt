@@ -51,7 +51,7 @@ fn logged(alloc: Global, count: u64, conn: Option<u64>) -> Result<LoggedRecords,
     let records = Records::new(records);
     Ok(match conn {
         Some(conn) => LoggedRecords::with_lines(alloc, conn, records)?,
-        None => LoggedRecords::new(records),
+        None => LoggedRecords::new(alloc, records)?,
     })
 }
 
