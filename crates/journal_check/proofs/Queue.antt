@@ -1,6 +1,6 @@
 -- Steps of the index of the waiting events.
-use Rattle.std.proofs.Common.{ℕ, suc, ◌≡◌, ◌+◌, ◌*◌, ◌<◌, ◌≤◌, ◌==◌, Bool, true, false, not, ◌&&◌, ◌||◌, List, [], ◌∷◌, ◌++◌, length, refl, sym, ap, ◌∙◌, subst, arith, cond, Option, Some, None, is_some, ⊎_elim}
-use Rattle.std.proofs.lemmas.Bool.{false≢true, both_ways, false_from_ne_true, and_parts, and_from, and_left, and_right, or_cases, or_left, or_right, or_from, cases_Bool, cases_eq, cases_lt, cases_order, eq-eqb, ne_eqb, eqb-true, lt-ltb, le-ltb, le-leb, lt-leb, leb-true, ltb-true, cond-true, cond-false}
+use Rattle.std.proofs.Common.{ℕ, suc, ◌≡◌, ◌+◌, ◌*◌, ◌^◌, ◌<◌, ◌≤◌, ◌==◌, Bool, true, false, not, ◌&&◌, ◌||◌, List, [], ◌∷◌, ◌++◌, length, refl, sym, ap, ◌∙◌, subst, arith, cond, Option, Some, None, is_some, ⊎_elim}
+use Rattle.std.proofs.lemmas.Bool.{false≢true, both_ways, false_from_ne_true, and_parts, and_from, and_left, and_right, or_cases, or_left, or_right, or_parts, or_from, cases_Bool, cases_eq, cases_lt, cases_order, eq-eqb, ne_eqb, eqb-true, lt-ltb, le-ltb, le-leb, lt-leb, leb-true, ltb-true, cond-true, cond-false}
 use Rattle.std.proofs.lemmas.List.Elements.{filter_agree}
 use Rattle.std.proofs.lemmas.Map.Keys.{sorted_head, sorted_tail}
 use Rattle.std.specs.Prelude.{nat_lt, nat_le, IfSome}
@@ -20,7 +20,7 @@ use Rattle.reactor_summary.specs.declared.parts.WaitingEvent.{WaitingEvent}
 use Rattle.reactor_summary.specs.Tells.{Each}
 use Rattle.reactor_summary.proofs.Lists.{each_same, each_any_other}
 use Rattle.journal_check.specs.Index.{pair_cmp}
-use Rattle.journal_check.specs.Queue.{lane_of, timer_of, is_num, lane_key, timer_key, Finds, IsQueued, IsLeast, is_within, IsOne, goes_first, IsFront, Gains, Loses}
+use Rattle.journal_check.specs.Queue.{lane_of, IsNarrow, timer_of, is_num, lane_key, timer_key, Finds, IsQueued, IsLeast, is_within, IsOne, goes_first, IsFront, Gains, Loses}
 use Rattle.journal_check.proofs.Keyed.{Agrees, NonePasses, any_looked_up, find_looked_up, looked_up, value_looked_up, any_member, each_member}
 use Rattle.journal_check.proofs.Timed.{cmp_less, cmp_equal, cmp_greater, pair_same, pair_other, pair_from}
 
@@ -505,6 +505,56 @@ front_found x i es lanes timers q least = by_cases (lookup (is_at (nat_cmp i)) e
               let lanes_le : least.at ≤ lane_of v = before.first in
               goes_from w v (omega arith) (λ c. let numbers : i ≤ v.event = before.second (omega arith) in omega arith));
         }
+
+-- ---- handles whose lanes do not all fit a word
+
+abbrev pub IsNarrowAt : ℕ × WaitingEvent → Type 0
+IsNarrowAt e = IsNarrow e.1
+
+pub none_wide : (x : ℕ) (es : List (ℕ × WaitingEvent)) → 2 ^ 64 ≤ x * 5 + 4 → Each IsNarrowAt es → list_any (λ w. x == w.handle.0) (values_of es) ≡ false
+none_wide x [] wide h = refl
+none_wide x (e ∷ es) wide h =
+    or_from (x == e.1.handle.0) _
+    (ne_eqb x e.1.handle.0 (λ q. let lt : e.1.handle.0 * 5 + 4 < 2 ^ 64 = h.0 in absurd (omega arith)))
+    (none_wide x es wide h.1)
+
+pub narrow_found : (i : ℕ) (es : List (ℕ × WaitingEvent)) (w : WaitingEvent) → Each IsNarrowAt es → lookup (is_at (nat_cmp i)) es ≡ Some w → IsNarrow w
+narrow_found i es w narrow is = (looked_up IsNarrowAt (is_at (nat_cmp i)) es w narrow is).1
+
+pub narrow_from : (w : WaitingEvent) (o : Option ℕ) → IfSome o (λ n. (n ≡ w.handle.0 * 5) × (n + 4 < 2 ^ 64)) → is_some o ≡ true → IsNarrow w
+narrow_from w None h n = absurd (false≢true n)
+narrow_from w (Some l) h n = let first : l ≡ w.handle.0 * 5 = h.0 in let last : l + 4 < 2 ^ 64 = h.1 in omega arith
+
+-- the five lanes of a handle, where the first is given
+pub five_lanes : (l x : ℕ) (w : WaitingEvent) → l ≡ x * 5 → is_within l (l + 4 + 1) (lane_of w) ≡ (x == w.handle.0)
+five_lanes l x w q =
+    let high : l + 4 + 1 ≡ x * 5 + 5 = omega arith in
+    ap (λ (h : ℕ). is_within l h (lane_of w)) high ∙ (ap (λ (m : ℕ). is_within m (x * 5 + 5) (lane_of w)) q ∙ within_five x w)
+
+pub least_of_five : (l x i : ℕ) (has : ℕ × ℕ → Bool) → l ≡ x * 5 → IsLeast l (l + 4 + 1) has i → IsLeast (x * 5) (x * 5 + 5) has i
+least_of_five l x i has q least =
+    let high : l + 4 + 1 ≡ x * 5 + 5 = omega arith in
+    subst (λ (m : ℕ). IsLeast m (x * 5 + 5) has i) q (subst (λ (h : ℕ). IsLeast l h has i) high least)
+
+pub masked_from : (l x : ℕ) (mask : Mask) (xs : List WaitingEvent) → l ≡ x * 5
+    → filter (λ w. not (not mask.read && lane_of w == l + 4)) (filter (λ w. not (not mask.except && lane_of w == l + 3)) (filter (λ w. not (not mask.write && lane_of w == l + 2)) xs))
+    ≡ filter (λ w. not (x == w.handle.0 && is_without mask w.upcall)) xs
+masked_from l x mask xs q =
+    subst (λ (m : ℕ). filter (λ w. not (not mask.read && lane_of w == m + 4)) (filter (λ w. not (not mask.except && lane_of w == m + 3)) (filter (λ w. not (not mask.write && lane_of w == m + 2)) xs)) ≡ filter (λ w. not (x == w.handle.0 && is_without mask w.upcall)) xs) (sym q) (masked_out x mask xs)
+
+pub none_of_mask : (x : ℕ) (mask : Mask) (xs : List WaitingEvent) → list_any (λ w. x == w.handle.0) xs ≡ false → list_any (λ w. x == w.handle.0 && is_without mask w.upcall) xs ≡ false
+none_of_mask x mask [] h = refl
+none_of_mask x mask (w ∷ ws) h =
+    let both : ((x == w.handle.0) ≡ false) × (list_any (λ w. x == w.handle.0) ws ≡ false) = or_parts (x == w.handle.0) _ h in
+    or_from (x == w.handle.0 && is_without mask w.upcall) _ (and_left _ _ both.0) (none_of_mask x mask ws both.1)
+
+-- where none has a lane of the handle
+pub none_of_five : (l x : ℕ) (lanes : ℕ × ℕ → Bool) (xs : List WaitingEvent) → l ≡ x * 5 → Finds lane_key lanes xs → ((n i : ℕ) → l ≤ n → n < l + 4 + 1 → lanes (n, i) ≡ false) → list_any (λ w. x == w.handle.0) xs ≡ false
+none_of_five l x lanes xs q finds none = none_found lane_key lanes (λ w. x == w.handle.0) l (l + 4 + 1) xs finds (λ w h. lane_named l (l + 4 + 1) w (five_lanes l x w q ∙ h)) none
+
+-- the events whose lanes are those of a handle
+pub five_out : (l x : ℕ) (xs : List WaitingEvent) → l ≡ x * 5 → filter (λ w. not (is_within l (l + 4 + 1) (lane_of w))) xs ≡ filter (λ w. not (x == w.handle.0)) xs
+five_out l x xs q = filter_agree (λ (w : WaitingEvent). not (is_within l (l + 4 + 1) (lane_of w))) (λ (w : WaitingEvent). not (x == w.handle.0)) (λ w. ap not (five_lanes l x w q)) xs
 
 -- ---- events leave one by one
 

@@ -1,5 +1,5 @@
 -- The index of the waiting events: each is found by its number, by its handle and class, and by its timer.
-use Rattle.std.specs.Prelude.{ℕ, ◌≡◌, ◌<◌, ◌≤◌, ◌+◌, ◌*◌, ◌==◌, nat_lt, nat_le, Bool, true, false, ◌&&◌, ◌||◌, if◌then◌else◌, List, Option, Some, None}
+use Rattle.std.specs.Prelude.{ℕ, ◌≡◌, ◌<◌, ◌≤◌, ◌+◌, ◌*◌, ◌^◌, ◌==◌, nat_lt, nat_le, Bool, true, false, ◌&&◌, ◌||◌, if◌then◌else◌, List, Option, Some, None}
 use Rattle.std.specs.List.{find, list_any}
 use Rattle.std.specs.List.Sorted.{IsStrictlySortedBy}
 use Rattle.std.specs.Map.{keys_of, values_of}
@@ -14,6 +14,10 @@ use Rattle.journal_check.specs.Index.{pair_cmp}
 -- the lane of an event: five for each handle, one for each class
 abbrev pub lane_of : WaitingEvent → ℕ
 lane_of w = w.handle.0 * 5 + class_of w.upcall
+
+-- the lanes of its handle fit a machine word
+abbrev pub IsNarrow : WaitingEvent → Type 0
+IsNarrow w = w.handle.0 * 5 + 4 < 2 ^ 64
 
 -- the timer of a timeout
 abbrev pub timer_of : Upcall → Option ℕ
@@ -40,6 +44,7 @@ pub record IsQueued (es : List (ℕ × WaitingEvent)) (lanes timers : ℕ × ℕ
   pub own : Each (λ e. e.0 ≡ e.1.event) es
   pub by_lane : Finds lane_key lanes (values_of es)
   pub by_timer : Finds timer_key timers (values_of es)
+  pub narrow : Each (λ e. IsNarrow e.1) es
 
 -- the event of the first pair from a number on and below another
 pub record IsLeast (low high : ℕ) (has : ℕ × ℕ → Bool) (i : ℕ) : Type 0 where

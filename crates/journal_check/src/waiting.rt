@@ -10,9 +10,9 @@ ghost use Rattle.reactor_summary.specs.declared.parts.WaitingEvent.{WaitingEvent
 ghost use Rattle.journal_check.specs.Index.{pair_cmp};
 ghost use Rattle.journal_check.specs.Fronts as K;
 ghost use Rattle.journal_check.specs.Queue as Q;
-ghost use Rattle.journal_check.specs.Queue.{IsQueued, IsLeast, IsOne, IsFront, IsOwned, is_within};
+ghost use Rattle.journal_check.specs.Queue.{IsQueued, IsLeast, IsOne, IsFront, IsOwned, IsNarrow, is_within};
 
-use crate::words::{lane_of, timer_of};
+use crate::words::{first_lane, lane_of, timer_of};
 use ev_types::{Handle, Mask, NoMemory};
 use number_map::NumberMap;
 use reactor_summary::WaitingEvent;
@@ -25,8 +25,8 @@ use std::marker::Model;
 #[derive(Drop)]
 pub struct Waiting {
     events: NumberMap<WaitingEvent>,
-    lanes: BTreeSet<(u128, u64)>,
-    timers: BTreeSet<(u128, u64)>,
+    lanes: BTreeSet<(u64, u64)>,
+    timers: BTreeSet<(u64, u64)>,
 }
 
 impl Model for Waiting {
@@ -37,39 +37,41 @@ impl Model for Waiting {
     ghost invariant = { λ q. IsQueued q.events.entries (contains pair_cmp q.lanes) (contains pair_cmp q.timers) };
 }
 
-/// The event of the first pair from `low` on and below `high`.
-fn first_between(keys: &BTreeSet<(u128, u64)>, low: u128, high: u128) -> Option<u64>
-    ensures found { IfSome result (IsLeast low high (contains pair_cmp keys.now)) }
-    ensures none { result ≡ None → (n i : ℕ) → low ≤ n → n < high → contains pair_cmp keys.now (n, i) ≡ false }
+/// The event of the first pair from `low` to `last`.
+fn first_between(keys: &BTreeSet<(u64, u64)>, low: u64, last: u64) -> Option<u64>
+    ensures found { IfSome result (IsLeast low (last + 1) (contains pair_cmp keys.now)) }
+    ensures none { result ≡ None → (n i : ℕ) → low ≤ n → n < last + 1 → contains pair_cmp keys.now (n, i) ≡ false }
 {
     match keys.range((low, 0)..).next() {
-        Some(&(at, event)) if at < high => Some(event),
+        Some(&(at, event)) if at <= last => Some(event),
         _ => None,
     }
 }
 
 /// Adds the keys of an event.
 fn enlist(
-    lanes: &mut BTreeSet<(u128, u64)>,
-    timers: &mut BTreeSet<(u128, u64)>,
+    lanes: &mut BTreeSet<(u64, u64)>,
+    timers: &mut BTreeSet<(u64, u64)>,
     w: &WaitingEvent,
 ) -> Result<(), NoMemory>
+    requires { IsNarrow w.now }
     ensures { OnOk result (Q.Gains (Q.lane_key w.now) w.now.event (contains pair_cmp lanes.old) (contains pair_cmp lanes.new) × Q.Gains (Q.timer_key w.now) w.now.event (contains pair_cmp timers.old) (contains pair_cmp timers.new)) }
 {
     lanes.insert((lane_of(w), w.event))?;
     if let Some(timer) = timer_of(w.upcall) {
-        timers.insert((timer as u128, w.event))?;
+        timers.insert((timer, w.event))?;
     }
     Ok(())
 }
 
 /// Takes the keys of an event away.
-fn delist(lanes: &mut BTreeSet<(u128, u64)>, timers: &mut BTreeSet<(u128, u64)>, w: &WaitingEvent)
+fn delist(lanes: &mut BTreeSet<(u64, u64)>, timers: &mut BTreeSet<(u64, u64)>, w: &WaitingEvent)
+    requires { IsNarrow w.now }
     ensures { Q.Loses (Q.lane_key w.now) w.now.event (contains pair_cmp lanes.old) (contains pair_cmp lanes.new) × Q.Loses (Q.timer_key w.now) w.now.event (contains pair_cmp timers.old) (contains pair_cmp timers.new) }
 {
     let _ = lanes.remove(&(lane_of(w), w.event));
     if let Some(timer) = timer_of(w.upcall) {
-        let _ = timers.remove(&(timer as u128, w.event));
+        let _ = timers.remove(&(timer, w.event));
     }
 }
 
@@ -118,13 +120,22 @@ impl Waiting {
         self.put(w)
     }
 
-    /// The first event of a lane from `low` on and below `high`.
-    fn first_in(&self, low: u128, high: u128) -> Option<u64>
-        ensures found { IfSome result (λ i. IsOne (λ w. is_within low high (Q.lane_of w)) i self.now) }
-        ensures none { result ≡ None → list_any (λ w. is_within low high (Q.lane_of w)) self.now ≡ false }
+    /// The first of the five lanes of a handle. None where they do not all fit a word: no event of such a handle waits.
+    fn first_lane(&self, handle: Handle) -> Option<u64>
+        ensures lane { IfSome result (λ n. n ≡ handle.0 * 5 × n + 4 < 2 ^ 64) }
+        ensures none { result ≡ None → list_any (λ w. handle.0 == w.handle.0) self.now ≡ false }
     {
         let _ = &self.events;
-        first_between(&self.lanes, low, high)
+        first_lane(handle)
+    }
+
+    /// The first event of a lane from `low` to `last`.
+    fn first_in(&self, low: u64, last: u64) -> Option<u64>
+        ensures found { IfSome result (λ i. IsOne (λ w. is_within low (last + 1) (Q.lane_of w)) i self.now) }
+        ensures none { result ≡ None → list_any (λ w. is_within low (last + 1) (Q.lane_of w)) self.now ≡ false }
+    {
+        let _ = &self.events;
+        first_between(&self.lanes, low, last)
     }
 
     /// A timeout of the timer that waits.
@@ -133,7 +144,7 @@ impl Waiting {
         ensures none { result ≡ None → list_any (λ w. P.is_timeout_of timer w.upcall) self.now ≡ false }
     {
         let _ = &self.events;
-        first_between(&self.timers, timer as u128, timer as u128 + 1)
+        first_between(&self.timers, timer, timer)
     }
 
     /// Whether a timeout of the timer waits.
@@ -174,11 +185,9 @@ impl Waiting {
     pub fn front_of(&self, handle: Handle) -> Option<WaitingEvent>
         ensures { IsFront handle.0 self.now result }
     {
-        let low = handle.0 as u128 * 5;
-        match first_between(&self.lanes, low, low + 5) {
-            None => None,
-            Some(event) => self.events.get(event),
-        }
+        let low = self.first_lane(handle)?;
+        let event = first_between(&self.lanes, low, low + 4)?;
+        self.events.get(event)
     }
 
     /// Takes the timeouts of a timer away.
@@ -190,10 +199,10 @@ impl Waiting {
         }
     }
 
-    fn clear_between(&mut self, low: u128, high: u128)
-        ensures { self.new ≡ filter (λ w. not (is_within low high (Q.lane_of w))) self.old }
+    fn clear_between(&mut self, low: u64, last: u64)
+        ensures { self.new ≡ filter (λ w. not (is_within low (last + 1) (Q.lane_of w))) self.old }
     {
-        while let Some(event) = self.first_in(low, high) {
+        while let Some(event) = self.first_in(low, last) {
             self.take(event);
         }
     }
@@ -202,16 +211,16 @@ impl Waiting {
     pub fn clear_all(&mut self, handle: Handle)
         ensures { self.new ≡ filter (λ w. not (handle.0 == w.handle.0)) self.old }
     {
-        let low = handle.0 as u128 * 5;
-        self.clear_between(low, low + 5);
+        if let Some(low) = self.first_lane(handle) {
+            self.clear_between(low, low + 4);
+        }
     }
 
-    fn clear_if(&mut self, which: bool, lane: u128)
-        requires { lane + 1 < 2 ^ 128 }
+    fn clear_if(&mut self, which: bool, lane: u64)
         ensures { self.new ≡ filter (λ w. not (which && Q.lane_of w == lane)) self.old }
     {
         if which {
-            self.clear_between(lane, lane + 1);
+            self.clear_between(lane, lane);
         }
     }
 
@@ -219,18 +228,20 @@ impl Waiting {
     pub fn clear_masked(&mut self, handle: Handle, mask: Mask)
         ensures { self.new ≡ filter (λ w. not (handle.0 == w.handle.0 && P.is_without mask w.upcall)) self.old }
     {
-        let first = handle.0 as u128 * 5;
-        self.clear_if(!mask.write, first + 2);
-        self.clear_if(!mask.except, first + 3);
-        self.clear_if(!mask.read, first + 4);
+        if let Some(first) = self.first_lane(handle) {
+            self.clear_if(!mask.write, first + 2);
+            self.clear_if(!mask.except, first + 3);
+            self.clear_if(!mask.read, first + 4);
+        }
     }
 }
 
-/// Adds an event that is not there, with its keys.
+/// Adds an event that is not there, with its keys. A handle whose lanes do not all fit a word is refused as want of memory: no
+/// journal in memory has as many handles.
 fn put_in(
     events: &mut NumberMap<WaitingEvent>,
-    lanes: &mut BTreeSet<(u128, u64)>,
-    timers: &mut BTreeSet<(u128, u64)>,
+    lanes: &mut BTreeSet<(u64, u64)>,
+    timers: &mut BTreeSet<(u64, u64)>,
     w: WaitingEvent,
 ) -> Result<(), NoMemory>
     requires queued { IsQueued events.old.entries (contains pair_cmp lanes.old) (contains pair_cmp timers.old) }
@@ -238,6 +249,9 @@ fn put_in(
     ensures queued { OnOk result (IsQueued events.new.entries (contains pair_cmp lanes.new) (contains pair_cmp timers.new)) }
     ensures last { Each (λ v. v.event < w.event) (values_of events.old.entries) → OnOk result (values_of events.new.entries ≡ values_of events.old.entries ++ w ∷ []) }
 {
+    if first_lane(w.handle).is_none() {
+        return Err(NoMemory);
+    }
     enlist(lanes, timers, &w)?;
     events.insert(w.event, w)?;
     Ok(())

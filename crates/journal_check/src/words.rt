@@ -1,11 +1,11 @@
 //! Tests of single words, as the definitions have them.
 
-ghost use Rattle.std.specs.Prelude.{◌≡◌};
+ghost use Rattle.std.specs.Prelude.{◌≡◌, ◌<◌, ◌≤◌, ◌+◌, ◌*◌, ◌^◌, IfSome, None};
 ghost use Rattle.reactor_journal.specs.Past as P;
 ghost use Rattle.reactor_journal.specs.Follow as F;
 ghost use Rattle.journal_check.specs.Queue as Q;
 
-use ev_types::Upcall;
+use ev_types::{Handle, Upcall};
 use reactor_journal::Entry;
 use reactor_summary::WaitingEvent;
 
@@ -23,10 +23,23 @@ pub fn class_of(upcall: Upcall) -> usize
 }
 
 /// The lane of an event: five for each handle, one for each class.
-pub fn lane_of(event: &WaitingEvent) -> u128
+pub fn lane_of(event: &WaitingEvent) -> u64
+    requires { Q.IsNarrow event.now }
     ensures { result ≡ Q.lane_of event.now }
 {
-    event.handle.0 as u128 * 5 + class_of(event.upcall) as u128
+    event.handle.0 * 5 + class_of(event.upcall) as u64
+}
+
+/// The first of the five lanes of a handle, where all five fit a word.
+pub fn first_lane(handle: Handle) -> Option<u64>
+    ensures lane { IfSome result (λ n. n ≡ handle.0 * 5 × n + 4 < 2 ^ 64) }
+    ensures none { result ≡ None → 2 ^ 64 ≤ handle.0 * 5 + 4 }
+{
+    if handle.0 < u64::MAX / 5 {
+        Some(handle.0 * 5)
+    } else {
+        None
+    }
 }
 
 /// The timer of a timeout.

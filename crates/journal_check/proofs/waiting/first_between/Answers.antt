@@ -1,4 +1,4 @@
-use Rattle.std.proofs.Common.{◌≡◌, ◌≤◌, true, arith}
+use Rattle.std.proofs.Common.{◌≡◌, ◌<◌, ◌≤◌, true, arith}
 use Rattle.std.proofs.lemmas.Bool.{false_from_ne_true}
 use Rattle.std.specs.BTreeSet.{contains}
 use Rattle.journal_check.specs.Index.{pair_cmp}
@@ -12,7 +12,7 @@ returns-in-Some-clause-found c =
     record {
       at = c.in-Some.field-0.now.0;
       from = pair_starts c.args.low c.in-Some.field-0.now first.0.0;
-      below = c.if-at-high.true;
+      below = omega arith;
       is = first.1;
       least = λ n j le h. least (n, j) (pair_reaches c.args.low n j le, tt) h;
     }
@@ -22,7 +22,7 @@ returns-in_default-clause-none c q n i le lt =
     let least = rw c.in-Some.ensures.steps at (c.range.ensures.in_range tt).2 in
     false_from_ne_true _ (λ (h : contains pair_cmp c.args.keys.now (n, i) ≡ true).
     let end : c.in-Some.field-0.now.0 ≤ n = pair_ends c.in-Some.field-0.now n i (least (n, i) (pair_reaches c.args.low n i le, tt) h) in
-    let past : c.args.high ≤ c.in-Some.field-0.now.0 = c.if-at-high.false in
+    let past : c.args.last < c.in-Some.field-0.now.0 = c.if-at-last.false in
     absurd (omega arith))
 
 pub returns-in_default-2-clause-none : goal.returns-in_default-2-clause-none

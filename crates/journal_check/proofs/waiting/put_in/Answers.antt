@@ -1,4 +1,4 @@
-use Rattle.std.proofs.Common.{ℕ, ◌≡◌, List, None, refl, sym, ap, ◌∙◌, subst}
+use Rattle.std.proofs.Common.{ℕ, ◌≡◌, not, List, None, refl, sym, ap, ◌∙◌, subst}
 use Rattle.std.specs.BTreeMap.{is_at}
 use Rattle.std.specs.BTreeSet.{contains}
 use Rattle.std.specs.Map.{values_of, lookup}
@@ -9,7 +9,7 @@ use Rattle.journal_check.specs.Index.{pair_cmp}
 use Rattle.journal_check.specs.Queue.{lane_key, timer_key, Finds}
 use Rattle.std.proofs.lemmas.Map.Lookups.{exact_unsigned}
 use Rattle.journal_check.proofs.Keyed.{each_inserted}
-use Rattle.journal_check.proofs.Queue.{IsOwn, finds_more, inserted_last, absent_from}
+use Rattle.journal_check.proofs.Queue.{IsOwn, IsNarrowAt, narrow_from, finds_more, inserted_last, absent_from}
 use Rattle.journal_check.proofs.waiting.put_in.Goals as goal
 
 pub returns-clause-queued : goal.returns-clause-queued
@@ -22,6 +22,7 @@ returns-clause-queued c =
           (finds_more lane_key (contains pair_cmp c.args.lanes.now) (contains pair_cmp c.enlist.new.lanes) c.args.w c.args.events.now.entries absent c.requires.queued.by_lane c.in_ok-enlist.ensures.0);
       by_timer = subst (λ (es : List (ℕ × WaitingEvent)). Finds timer_key (contains pair_cmp c.enlist.new.timers) (values_of es)) (sym c.in_ok-insert.ensures.entries)
           (finds_more timer_key (contains pair_cmp c.args.timers.now) (contains pair_cmp c.enlist.new.timers) c.args.w c.args.events.now.entries absent c.requires.queued.by_timer c.in_ok-enlist.ensures.1);
+      narrow = subst (Each IsNarrowAt) (sym c.in_ok-insert.ensures.entries) (each_inserted IsNarrowAt nat_cmp c.args.events.now.entries c.args.w.event c.args.w (exact_unsigned c.args.w.event) c.requires.queued.narrow (narrow_from c.args.w c.first_lane.result c.first_lane.ensures.lane (c.is_none.ensures ∙ ap not c.if-is_none.false)));
     }
 
 pub returns-clause-last : goal.returns-clause-last

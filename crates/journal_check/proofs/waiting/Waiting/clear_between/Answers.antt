@@ -1,4 +1,4 @@
-use Rattle.std.proofs.Common.{◌<◌, not, length, List, sym, ap, ◌∙◌, subst}
+use Rattle.std.proofs.Common.{◌+◌, ◌<◌, not, length, List, sym, ap, ◌∙◌, subst}
 use Rattle.std.specs.List.{filter}
 use Rattle.reactor_summary.specs.declared.parts.WaitingEvent.{WaitingEvent}
 use Rattle.journal_check.specs.Queue.{lane_of, is_within}
@@ -11,8 +11,8 @@ loop-event-smaller c = subst (λ (xs : List WaitingEvent). length xs < length c.
 
 pub loop-event-preserved : goal.loop-event-preserved
 loop-event-preserved c =
-    ap (filter (λ (w : WaitingEvent). not (is_within c.args.low c.args.high (lane_of w)))) c.take.ensures
-    ∙ (one_out (λ (w : WaitingEvent). is_within c.args.low c.args.high (lane_of w)) c.in-Some.event c.loop-event.self c.in-Some.ensures.found.passes ∙ c.loop-event.invariant)
+    ap (filter (λ (w : WaitingEvent). not (is_within c.args.low (c.args.last + 1) (lane_of w)))) c.take.ensures
+    ∙ (one_out (λ (w : WaitingEvent). is_within c.args.low (c.args.last + 1) (lane_of w)) c.in-Some.event c.loop-event.self c.in-Some.ensures.found.passes ∙ c.loop-event.invariant)
 
 pub returns : goal.returns
-returns c = sym (filter_all (λ (w : WaitingEvent). is_within c.args.low c.args.high (lane_of w)) c.loop-event.self (c.first_in.ensures.none c.in_default.is)) ∙ c.loop-event.invariant
+returns c = sym (filter_all (λ (w : WaitingEvent). is_within c.args.low (c.args.last + 1) (lane_of w)) c.loop-event.self (c.first_in.ensures.none c.in_default.is)) ∙ c.loop-event.invariant

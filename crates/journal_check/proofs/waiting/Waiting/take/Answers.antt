@@ -9,7 +9,7 @@ use Rattle.reactor_summary.specs.declared.parts.WaitingEvent.{WaitingEvent}
 use Rattle.journal_check.specs.Index.{pair_cmp}
 use Rattle.journal_check.specs.Queue.{lane_key, timer_key, Finds}
 use Rattle.journal_check.proofs.Keyed.{values_removed, each_removed}
-use Rattle.journal_check.proofs.Queue.{IsOwn, own_agrees, finds_less}
+use Rattle.journal_check.proofs.Queue.{IsOwn, IsNarrowAt, narrow_found, own_agrees, finds_less}
 use Rattle.journal_check.proofs.waiting.Waiting.take.Goals as goal
 
 pub invariant_of-self : goal.invariant_of-self
@@ -27,7 +27,11 @@ invariant_of-self c =
           (finds_less lane_key (contains pair_cmp c.self.inside.lanes) (contains pair_cmp c.delist.new.lanes) c.args.event c.in-Some.w c.self.inside.events.entries c.self.invariant.ordered c.self.invariant.own is c.self.invariant.by_lane c.delist.ensures.0);
       by_timer = subst (Finds timer_key (contains pair_cmp c.delist.new.timers)) (sym values)
           (finds_less timer_key (contains pair_cmp c.self.inside.timers) (contains pair_cmp c.delist.new.timers) c.args.event c.in-Some.w c.self.inside.events.entries c.self.invariant.ordered c.self.invariant.own is c.self.invariant.by_timer c.delist.ensures.1);
+      narrow = subst (Each IsNarrowAt) (sym c.remove.ensures.entries) (each_removed IsNarrowAt (is_at (nat_cmp c.args.event)) c.self.inside.events.entries c.self.invariant.narrow);
     }
+
+pub delist-requires : goal.delist-requires
+delist-requires c = narrow_found c.args.event c.self.inside.events.entries c.in-Some.w c.self.invariant.narrow (sym c.remove.ensures.value ∙ c.in-Some.is)
 
 pub returns-in-Some : goal.returns-in-Some
 returns-in-Some c =
