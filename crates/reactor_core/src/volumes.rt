@@ -70,8 +70,8 @@ impl<
         }
     }
 
-    // Whether as many entries are held as a volume has at least, and the whole journal has fewer than 2^62.
-    fn is_volume_due(&self) -> bool
+    /// Whether `hand_over` is due: as many entries are held as a volume has at least, and the whole journal has fewer than 2^62.
+    pub fn is_volume_due(&self) -> bool
         ensures { From ⟦<Self as Means>⟧.m self.now (λ t F h. result ≡ is_due self.now F h) }
     {
         self.journal.len() >= self.volume && self.state.entries() < MOST_ENTRIES
