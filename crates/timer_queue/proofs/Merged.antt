@@ -8,7 +8,6 @@ use Rattle.std.specs.List.{filter, list_all, All}
 use Rattle.std.specs.List.Sorted.{IsPermutation}
 use Rattle.std.specs.Prelude.{IfSome, IfNone, OnSome}
 use Rattle.timer_queue.specs.declared.timer.Timer.{Timer}
-use Rattle.timer_queue.specs.Content.{Content}
 use Rattle.timer_queue.specs.Timers.{comes_before, is_scheduled, names_once, with_timer, without_timer, in_order, first_deadline, AreApart, IsSchedule}
 use Rattle.timer_queue.specs.Sorted.{recent_first, AreRows}
 use Rattle.timer_queue.proofs.Schedules.{none_filtered, schedule_filtered, schedule_none, schedule_tail, schedule_with, before_trans, before_other, length-with_timer, without_timer-fresh}
@@ -226,41 +225,17 @@ left_of number xs s false h = omega (arith, ap length (without_timer-fresh numbe
 
 -- ---- both rows are put together
 
-pub out_of_list : (o : Option Timer) (rs ls new : List Timer) → IfSome o (λ t. ls ≡ t ∷ new) → IfSome o (λ t. IsPermutation (rs ++ ls) (t ∷ (rs ++ new)))
-out_of_list None rs ls new is = tt
-out_of_list (Some t) rs ls new is = subst (λ xs. IsPermutation (rs ++ xs) (t ∷ (rs ++ new))) (sym is) (IsPermutation-middle rs t new)
-
-pub nothing_recent : (o : Option Timer) (rs new ls : List Timer) → IfNone o (rs ≡ []) → recent_first rs ls ≡ true → IfNone o (ls ≡ [])
-nothing_recent (Some t) rs new ls none h = tt
-nothing_recent None rs new ls none h = absurd (false≢true (ap (λ xs. recent_first xs ls) (sym none) ∙ h))
-
-pub nothing_in_list : (o : Option Timer) (rs ls : List Timer) → IfNone o (ls ≡ []) → recent_first rs ls ≡ false → IfNone o (rs ≡ [])
-nothing_in_list (Some t) rs ls none h = tt
-nothing_in_list None rs ls none h = none_first rs (ap (recent_first rs) (sym none) ∙ h)
-
-pub both_empty : (o : Option Timer) (rs ls : List Timer) → IfNone o (rs ≡ []) → IfNone o (ls ≡ []) → IfNone o (rs ++ ls ≡ [])
-both_empty (Some t) rs ls none also = tt
-both_empty None rs ls none also = ap (λ xs. xs ++ ls) none ∙ also
-
-pub empty_still : {A : Type 0} (timers : A → List Timer) (o : Option Timer) (old new : A) → IfNone o (timers old ≡ []) → IfNone o (new ≡ old) → IfNone o (timers new ≡ [])
-empty_still timers (Some t) old new none same = tt
-empty_still timers None old new none same = ap timers same ∙ none
-
-pub room_still : (o : Option Timer) (old new : Content) → IfSome o (λ t. old.timers ≡ t ∷ new.timers) → OnSome o (new.spare ≡ old.spare + 1) → IfNone o (new ≡ old) → new.spare + length new.timers ≡ old.spare + length old.timers
-room_still None old new taken spare same = ap (λ (v : Content). v.spare + length v.timers) same
-room_still (Some t) old new taken spare same = omega (arith, ap length taken, spare)
-
 -- while they are put together: the timers are those that were there, and there is room for all
 pub record IsMerging (begun merged left : List Timer) (room spare : ℕ) : Type 0 where
   pub timers : IsPermutation begun (merged ++ left)
   pub rises : IsSchedule merged
   pub room_left : length merged + spare ≡ room
 
-pub merging_begins : (begun merged : List Timer) (spare : ℕ) → merged ≡ [] → IsMerging begun merged begun spare spare
-merging_begins begun merged spare none = record {
-  timers = subst (λ xs. IsPermutation begun (xs ++ begun)) (sym none) (IsPermutation-refl begun);
-  rises = subst IsSchedule (sym none) schedule_none;
-  room_left = omega (arith, ap length none);
+pub merging_begins : (rs ls merged : List Timer) → merged ≡ [] → IsSchedule ls → IsMerging (rs ++ ls) (merged ++ ls) rs (length (rs ++ ls)) (length rs)
+merging_begins rs ls merged none rises = record {
+  timers = subst (λ xs. IsPermutation (rs ++ ls) ((xs ++ ls) ++ rs)) (sym none) (IsPermutation-append_comm rs ls);
+  rises = subst (λ xs. IsSchedule (xs ++ ls)) (sym none) rises;
+  room_left = omega (arith, ap (λ xs. length (xs ++ ls)) none, length-append rs ls);
 }
 
 apart_merging : (begun merged left : List Timer) (room spare : ℕ) → AreApart begun → IsMerging begun merged left room spare → AreApart (merged ++ left)
@@ -269,17 +244,13 @@ apart_merging begun merged left room spare apart m = apart_permutation begun (me
 still_there : (t : Timer) (merged left rest : List Timer) → IsPermutation left (t ∷ rest) → IsPermutation (merged ++ left) (merged ++ t ∷ rest)
 still_there t merged left rest taken = IsPermutation-append_right merged left (t ∷ rest) taken
 
-pub merging_fresh : (begun merged left rest : List Timer) (room spare : ℕ) (t : Timer) → AreApart begun → IsMerging begun merged left room spare → IsPermutation left (t ∷ rest) → is_scheduled t.timer merged ≡ false
+merging_fresh : (begun merged left rest : List Timer) (room spare : ℕ) (t : Timer) → AreApart begun → IsMerging begun merged left room spare → IsPermutation left (t ∷ rest) → is_scheduled t.timer merged ≡ false
 merging_fresh begun merged left rest room spare t apart m taken =
     let whole : AreApart (merged ++ t ∷ rest) = apart_permutation (merged ++ left) (merged ++ t ∷ rest) (still_there t merged left rest taken) (apart_merging begun merged left room spare apart m) in
     let turned : AreApart ((t ∷ rest) ++ merged) = apart_permutation (merged ++ t ∷ rest) ((t ∷ rest) ++ merged) (IsPermutation-append_comm merged (t ∷ rest)) whole in
     not_in_both t.timer (t ∷ rest) merged turned (or_left (t.timer == t.timer) (is_scheduled t.timer rest) (eq-eqb t.timer t.timer refl))
 
-pub merging_room : (begun merged left rest : List Timer) (room spare : ℕ) (t : Timer) → length begun ≤ room → IsMerging begun merged left room spare → IsPermutation left (t ∷ rest) → 1 ≤ spare
-merging_room begun merged left rest room spare t fits m taken =
-    omega (arith, fits, m.room_left, length_permutation begun (merged ++ left) m.timers, length-append merged left, length_permutation left (t ∷ rest) taken)
-
-pub merging_more : (begun merged left rest : List Timer) (room spare spare' : ℕ) (t : Timer) → AreApart begun → spare' + 1 ≡ spare → IsMerging begun merged left room spare → IsPermutation left (t ∷ rest) → IsMerging begun (with_timer t merged) rest room spare'
+merging_more : (begun merged left rest : List Timer) (room spare spare' : ℕ) (t : Timer) → AreApart begun → spare' + 1 ≡ spare → IsMerging begun merged left room spare → IsPermutation left (t ∷ rest) → IsMerging begun (with_timer t merged) rest room spare'
 merging_more begun merged left rest room spare spare' t apart less m taken = record {
   timers = IsPermutation-trans begun (merged ++ left) (with_timer t merged ++ rest) m.timers
       (IsPermutation-trans (merged ++ left) (merged ++ t ∷ rest) (with_timer t merged ++ rest) (still_there t merged left rest taken)
@@ -292,8 +263,40 @@ merging_more begun merged left rest room spare spare' t apart less m taken = rec
 pub merging_ends : (begun merged left : List Timer) (room spare : ℕ) → left ≡ [] → IsMerging begun merged left room spare → IsPermutation begun merged
 merging_ends begun merged left room spare none m = subst (λ xs. IsPermutation begun xs) (ap (λ xs. merged ++ xs) none ∙ append-nil merged) m.timers
 
-pub shorter_left : (t : Timer) (left rest : List Timer) → IsPermutation left (t ∷ rest) → length rest < length left
-shorter_left t left rest taken = omega (arith, length_permutation left (t ∷ rest) taken)
+-- a timer that comes before all of a part behind stands in front of it
+with_timer-in_front : (t : Timer) (xs ys : List Timer) → list_all (λ u. comes_before t u) ys ≡ true → with_timer t (xs ++ ys) ≡ with_timer t xs ++ ys
+with_timer-in_front t [] [] h = refl
+with_timer-in_front t [] (y ∷ ys) h = cond-true (comes_before t y) _ _ (and_parts (comes_before t y) (list_all (λ u. comes_before t u) ys) h).0
+with_timer-in_front t (x ∷ xs) ys h = step (comes_before t x) (with_timer-in_front t xs ys h)
+  where
+    step : (b : Bool) → with_timer t (xs ++ ys) ≡ with_timer t xs ++ ys → cond b (t ∷ x ∷ (xs ++ ys)) (x ∷ with_timer t (xs ++ ys)) ≡ cond b (t ∷ x ∷ xs) (x ∷ with_timer t xs) ++ ys
+    step true e = refl
+    step false e = ap (λ us. x ∷ us) e
+
+-- the merged timers have the list behind them, and what is left is the recent ones
+pub passing_room : (begun merged ls rs : List Timer) (room spare : ℕ) → IsMerging begun (merged ++ ls) rs (length begun) (length rs) → length begun ≤ room → spare + length merged ≡ room → length ls ≤ spare
+passing_room begun merged ls rs room spare m fits is = omega (arith, fits, is, m.room_left, length-append merged ls)
+
+-- where one of them leaves
+module _ (begun whole merged ls rs rest : List Timer) (t : Timer) (w : IsMerging begun whole rs (length begun) (length rs)) (parts : merged ++ ls ≡ whole) (taken : rs ≡ t ∷ rest) where
+  m : IsMerging begun (merged ++ ls) rs (length begun) (length rs)
+  m = subst (λ xs. IsMerging begun xs rs (length begun) (length rs)) (sym parts) w
+
+  taken_out : IsPermutation rs (t ∷ rest)
+  taken_out = subst (λ xs. IsPermutation rs xs) taken (IsPermutation-refl rs)
+
+  pub passing_room_more : (room spare : ℕ) → length begun ≤ room → spare + length merged ≡ room → 1 ≤ spare
+  passing_room_more room spare fits is = omega (arith, fits, is, m.room_left, length-append merged ls, ap length taken)
+
+  pub passing_fresh : AreApart begun → is_scheduled t.timer merged ≡ false
+  passing_fresh apart =
+      (or_parts (is_scheduled t.timer merged) (is_scheduled t.timer ls)
+      (sym (list_any-append (λ u. u.timer == t.timer) merged ls) ∙ merging_fresh begun (merged ++ ls) rs rest (length begun) (length rs) t apart m taken_out)).0
+
+  pub passing_more : AreApart begun → list_all (λ u. comes_before t u) ls ≡ true → IsMerging begun (with_timer t merged ++ ls) rest (length begun) (length rest)
+  passing_more apart behind =
+      subst (λ xs. IsMerging begun xs rest (length begun) (length rest)) (with_timer-in_front t merged ls behind)
+      (merging_more begun (merged ++ ls) rs rest (length begun) (length rs) (length rest) t apart (omega (arith, ap length taken)) m taken_out)
 
 -- ---- a timer is scheduled
 

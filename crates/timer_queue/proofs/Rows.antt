@@ -1,13 +1,15 @@
 -- A schedule that stands in a list from a place on.
 use Rattle.std.proofs.Common.{ℕ, zero, suc, ◌≡◌, ◌≢◌, ◌+◌, ◌-◌, ◌<◌, ◌≤◌, ◌==◌, Bool, true, false, not, cond, List, [], ◌∷◌, ◌++◌, length, get_or, take, drop, refl, sym, ap, ◌∙◌, subst, arith, ◌⊎◌, inl, inr}
-use Rattle.std.proofs.lemmas.Bool.{not-true, eqb-true, ne_eqb, both_ways, cases_eq, false_from_ne_true}
-use Rattle.std.proofs.lemmas.List.{take_all, take_more, drop-drop, length-take-le, length-drop, get_or-take, get_or-drop, take-append-drop}
+use Rattle.std.proofs.lemmas.Bool.{not-true, eqb-true, ne_eqb, both_ways, cases_eq, false_from_ne_true, and_parts, and_from, or_parts}
+use Rattle.std.proofs.lemmas.List.Folds.{list_all-append, list_any-append}
+use Rattle.std.proofs.lemmas.List.{take_all, take_more, append_assoc, drop-drop, length-take-le, length-drop, get_or-take, get_or-drop, take-append-drop}
 use Rattle.std.proofs.lemmas.List.Sums.{list_all-from_AllPass}
-use Rattle.std.specs.List.{filter, insert, remove, AllPass}
+use Rattle.std.specs.List.{filter, insert, remove, AllPass, AllWithin, list_all}
 use Rattle.std.specs.List.Sorted.{IsPartitionedBy, IsPartitionPoint}
 use Rattle.timer_queue.specs.declared.timer.Timer.{Timer}
-use Rattle.timer_queue.specs.Timers.{comes_before, is_rising, names_once, with_timer, without_timer}
-use Rattle.timer_queue.proofs.Schedules.{before_trans, with_timer-between}
+use Rattle.timer_queue.specs.Timers.{comes_before, is_rising, is_scheduled, names_once, with_timer, without_timer, IsSchedule}
+use Rattle.timer_queue.specs.Sorted.{IsSorted}
+use Rattle.timer_queue.proofs.Schedules.{before_trans, with_timer-between, schedule_tail}
 use Rattle.timer_queue.proofs.Places.{filter_place, rising_at, once_at}
 
 module _ {X : Type 0} where
@@ -133,3 +135,63 @@ put_last a xs h last =
       ],
       λ k d low l. absurd (omega arith),
     )
+
+-- ---- a schedule in two parts
+
+pub schedule_back : (xs ys : List Timer) → IsSchedule (xs ++ ys) → IsSchedule ys
+schedule_back [] ys h = h
+schedule_back (x ∷ xs) ys h = schedule_back xs ys (schedule_tail x (xs ++ ys) h)
+
+pub schedule_front : (xs ys : List Timer) → IsSchedule (xs ++ ys) → IsSchedule xs
+schedule_front xs ys h = record { rising = rising xs h.rising; once = once xs h.once }
+  where
+    rising : (zs : List Timer) → is_rising (zs ++ ys) ≡ true → is_rising zs ≡ true
+    rising [] h = refl
+    rising (z ∷ zs) h =
+        let p : (list_all (λ u. comes_before z u) (zs ++ ys) ≡ true) × (is_rising (zs ++ ys) ≡ true) = and_parts (list_all (λ u. comes_before z u) (zs ++ ys)) (is_rising (zs ++ ys)) h in
+        and_from (list_all (λ u. comes_before z u) zs) (is_rising zs)
+        (and_parts (list_all (λ u. comes_before z u) zs) (list_all (λ u. comes_before z u) ys) (sym (list_all-append (λ u. comes_before z u) zs ys) ∙ p.0)).0 (rising zs p.1)
+
+    once : (zs : List Timer) → names_once (zs ++ ys) ≡ true → names_once zs ≡ true
+    once [] h = refl
+    once (z ∷ zs) h =
+        let p : (not (is_scheduled z.timer (zs ++ ys)) ≡ true) × (names_once (zs ++ ys) ≡ true) = and_parts (not (is_scheduled z.timer (zs ++ ys))) (names_once (zs ++ ys)) h in
+        and_from (not (is_scheduled z.timer zs)) (names_once zs)
+        (ap not (or_parts (is_scheduled z.timer zs) (is_scheduled z.timer ys) (sym (list_any-append (λ u. u.timer == z.timer) zs ys) ∙ not-true _ p.0)).0) (once zs p.1)
+
+-- the part from a place on comes behind a timer
+pub all_behind : (p : Timer → Bool) (xs : List Timer) (n : ℕ) → AllWithin (λ u. p u ≡ true) xs n (length xs) → list_all p (drop n xs) ≡ true
+all_behind p xs n h =
+    list_all-from_AllPass p (drop n xs) (λ k d l.
+    let m : length (drop n xs) ≡ length xs - n = length-drop n xs in
+    ap p (get_or-drop n xs k d) ∙ h (n + k) d (omega arith) (omega arith))
+
+-- the front of the timers from a place on goes to another row
+module _ (items : List Timer) (h n : ℕ) where
+  rest_is : drop n (drop h items) ≡ drop (h + n) items
+  rest_is = drop-drop n h items
+
+  pub passed_within : n ≤ length (take (length items - h) (drop h items)) → h ≤ length items → h + n ≤ length items
+  passed_within l m = omega (arith, l, m, ap length (from_place items h), length-drop h items)
+
+  pub passed_order : (to : List Timer) (k : ℕ) → k ≡ n → IsSchedule (to ++ drop h items) → IsSchedule (to ++ take k (drop h items))
+  passed_order to k e s =
+      subst (λ i. IsSchedule (to ++ take i (drop h items))) (sym e)
+      (schedule_front (to ++ take n (drop h items)) (drop n (drop h items))
+      (subst IsSchedule (ap (λ zs. to ++ zs) (sym (take-append-drop n (drop h items))) ∙ sym (append_assoc to (take n (drop h items)) (drop n (drop h items)))) s))
+
+  pub passed_sorted : (room capacity : ℕ) → h + n ≤ length items → IsSorted items h room capacity → IsSorted items (h + n) room capacity
+  passed_sorted room capacity l s = record {
+    schedule = subst IsSchedule rest_is (schedule_back (take n (drop h items)) (drop n (drop h items)) (subst IsSchedule (sym (take-append-drop n (drop h items))) s.schedule));
+    within = l;
+    fits = omega (arith, s.fits, length-drop h items, length-drop (h + n) items);
+    places = s.places;
+  }
+
+  pub passed_timers : (to : List Timer) (k : ℕ) → k ≡ n → (to ++ take k (drop h items)) ++ drop (h + n) items ≡ to ++ drop h items
+  passed_timers to k e =
+      ap (λ i. (to ++ take i (drop h items)) ++ drop (h + n) items) e ∙ ap (λ zs. (to ++ take n (drop h items)) ++ zs) (sym rest_is)
+      ∙ append_assoc to (take n (drop h items)) (drop n (drop h items)) ∙ ap (λ zs. to ++ zs) (take-append-drop n (drop h items))
+
+  pub passed_behind : (p : Timer → Bool) → AllWithin (λ u. p u ≡ true) (drop h items) n (length (drop h items)) → list_all p (drop (h + n) items) ≡ true
+  passed_behind p b = ap (list_all p) (sym rest_is) ∙ all_behind p (drop h items) n b

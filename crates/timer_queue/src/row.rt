@@ -1,6 +1,7 @@
 //! A sorted row of timers.
-ghost use Rattle.std.specs.Prelude.{◌≡◌, ◌+◌, ◌-◌, ◌<◌, ◌≤◌, [], true, length, ◌∷◌, IfSome, IfNone, OnSome, drop, insert, remove, slice_get, vec_len, vec_capacity};
-ghost use Rattle.timer_queue.specs.Timers.{is_rising, with_timer};
+ghost use Rattle.std.specs.Prelude.{◌≡◌, ◌+◌, ◌-◌, ◌<◌, ◌≤◌, [], true, false, length, ◌∷◌, ◌++◌, IfSome, IfNone, OnSome, drop, insert, remove, slice_get, vec_len, vec_capacity};
+ghost use Rattle.std.specs.List.{AllWithin, list_all};
+ghost use Rattle.timer_queue.specs.Timers.{comes_before, is_rising, with_timer, IsSchedule};
 ghost use Rattle.timer_queue.specs.Sorted.{Found};
 
 use crate::{Timer, TimerQueue};
@@ -76,6 +77,48 @@ impl Row {
     {
         self.timers.get(self.head).copied()
     }
+
+    /// Takes those out that this timer does not come before, and puts them behind the timers of another row.
+    pub fn pass_before(&mut self, t: &Timer, to: &mut Row)
+        requires order { IsSchedule (to.old.timers ++ self.old.timers) }
+        requires room { length self.old.timers ≤ to.old.spare }
+        ensures timers { to.new.timers ++ self.new.timers ≡ to.old.timers ++ self.old.timers }
+        ensures behind { list_all (λ u. comes_before t.now u) self.new.timers ≡ true }
+        ensures spare { self.new.spare + length self.new.timers ≡ self.old.spare + length self.old.timers }
+        ensures spare_there { to.new.spare + length to.new.timers ≡ to.old.spare + length to.old.timers }
+    {
+        let end = self.head + count_before(&self.timers[self.head..], t);
+        to.append(&self.timers[self.head..end]);
+        self.head = end;
+    }
+
+    /// Takes all timers out, and puts them behind the timers of another row.
+    pub fn pass_all(&mut self, to: &mut Row)
+        requires order { IsSchedule (to.old.timers ++ self.old.timers) }
+        requires room { length self.old.timers ≤ to.old.spare }
+        ensures timers { to.new.timers ≡ to.old.timers ++ self.old.timers }
+        ensures empty { self.new.timers ≡ [] }
+        ensures spare { self.new.spare ≡ self.old.spare + length self.old.timers }
+        ensures spare_there { to.new.spare + length to.new.timers ≡ to.old.spare + length to.old.timers }
+    {
+        to.append(&self.timers[self.head..]);
+        self.timers.clear();
+        self.head = 0;
+    }
+
+    // Puts these behind its timers.
+    fn append(&mut self, run: &[Timer])
+        requires order { IsSchedule (self.old.timers ++ run.now) }
+        requires room { length run.now ≤ self.old.spare }
+        ensures timers { self.new.timers ≡ self.old.timers ++ run.now }
+        ensures spare { self.new.spare + length run.now ≡ self.old.spare }
+    {
+        self.head = make_places(&mut self.timers, self.head, run.len());
+        match self.timers.extend_from_slice(run) {
+            Ok(()) => {}
+            Err(_) => unreachable!(),
+        }
+    }
 }
 
 impl TimerQueue for Row {
@@ -148,6 +191,32 @@ fn close_up(timers: &mut Vec<Timer>, head: usize)
     timers.truncate(held);
 }
 
+// Makes so many places behind the timers from `head` on. The answer is where these begin.
+fn make_places(timers: &mut Vec<Timer>, head: usize, count: usize) -> usize
+    requires within { head ≤ length timers.old.items }
+    requires room { length timers.old.items - head + count ≤ vec_capacity timers.old }
+    ensures items { drop result timers.new.items ≡ drop head timers.old.items }
+    ensures within { result ≤ length timers.new.items }
+    ensures places { length timers.new.items + count ≤ vec_capacity timers.new }
+    ensures capacity { vec_capacity timers.new ≡ vec_capacity timers.old }
+{
+    if count <= timers.capacity() - timers.len() {
+        return head;
+    }
+    close_up(timers, head);
+    0
+}
+
+// How many of these a timer does not come before.
+fn count_before(timers: &[Timer], t: &Timer) -> usize
+    requires { is_rising timers.now ≡ true }
+    ensures within { result ≤ length timers.now }
+    ensures front { AllWithin (λ u. comes_before t.now u ≡ false) timers.now 0 result }
+    ensures back { AllWithin (λ u. comes_before t.now u ≡ true) timers.now result (length timers.now) }
+{
+    timers.partition_point(|u| !t.comes_before(u))
+}
+
 // Where a timer stands among these.
 fn place_for(timers: &[Timer], t: &Timer) -> usize
     requires { is_rising timers.now ≡ true }
@@ -158,7 +227,7 @@ fn place_for(timers: &[Timer], t: &Timer) -> usize
         return 0;
     };
     if t.comes_before(last) {
-        return timers.partition_point(|u| !t.comes_before(u));
+        return count_before(timers, t);
     }
     timers.len()
 }

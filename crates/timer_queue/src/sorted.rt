@@ -1,7 +1,6 @@
 //! A timer queue over two sorted rows.
-ghost use Rattle.std.specs.Prelude.{◌≡◌, ◌+◌, ◌-◌, ◌<◌, ◌≤◌, ◌++◌, ◌∷◌, List, [], true, length, IfSome, IfNone};
+ghost use Rattle.std.specs.Prelude.{◌≡◌, ◌+◌, ◌-◌, ◌<◌, ◌≤◌, ◌++◌, [], length};
 ghost use Rattle.std.specs.List.Sorted.{IsPermutation};
-ghost use Rattle.timer_queue.specs.declared.timer.Timer.{Timer};
 ghost use Rattle.timer_queue.specs.Timers.{AreApart, IsSchedule};
 ghost use Rattle.timer_queue.specs.Sorted.{AreRows, recent_first};
 
@@ -120,24 +119,10 @@ fn is_recent_first(recent: &Row, list: &Row) -> bool
     }
 }
 
-// Takes the first timer of both rows out.
-fn take_either(recent: &mut Row, list: &mut Row) -> Option<Timer>
-    ensures taken { IfSome result (λ t. IsPermutation (recent.old.timers ++ list.old.timers) (t ∷ (recent.new.timers ++ list.new.timers))) }
-    ensures none { IfNone result (recent.old.timers ++ list.old.timers ≡ []) }
-    ensures recent { IfNone result (recent.new.timers ≡ []) }
-    ensures list { IfNone result (list.new.timers ≡ []) }
-    ensures room { list.new.spare + length list.new.timers ≡ list.old.spare + length list.old.timers }
-{
-    if is_recent_first(recent, list) {
-        recent.take_first()
-    } else {
-        list.take_first()
-    }
-}
-
 // Puts the timers of both rows together in the second.
 fn put_together(recent: &mut Row, list: &mut Row, merged: &mut Row)
     requires apart { AreApart (recent.old.timers ++ list.old.timers) }
+    requires rises { IsSchedule list.old.timers }
     requires empty { merged.old.timers ≡ [] }
     requires room { length recent.old.timers + length list.old.timers ≤ merged.old.spare }
     ensures recent { recent.new.timers ≡ [] }
@@ -147,8 +132,11 @@ fn put_together(recent: &mut Row, list: &mut Row, merged: &mut Row)
     ensures room { list.new.spare + length list.new.timers ≡ merged.old.spare }
     ensures merged_room { merged.new.spare ≡ list.old.spare + length list.old.timers }
 {
-    while let Some(t) = take_either(recent, list) {
+    // What stands in the list between two recent timers goes over in one run.
+    while let Some(t) = recent.take_first() {
+        list.pass_before(&t, merged);
         merged.schedule(t);
     }
+    list.pass_all(merged);
     mem::swap(list, merged);
 }

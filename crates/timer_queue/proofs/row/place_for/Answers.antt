@@ -1,16 +1,14 @@
-use Rattle.std.proofs.Common.{◌≡◌, not, true, false, ap, ◌∙◌, sym, rules}
-use Rattle.std.proofs.lemmas.List.Sorted.{IsPartitionPoint-from_clause}
-use Rattle.std.specs.List.Sorted.{IsPartitionPoint}
+use Rattle.std.proofs.Common.{not, ap, ◌∙◌, sym}
 use Rattle.timer_queue.specs.Timers.{comes_before}
-use Rattle.timer_queue.proofs.Rows.{rising_parted, rising_insert, put_last}
+use Rattle.timer_queue.proofs.Rows.{rising_insert, put_last}
 use Rattle.timer_queue.proofs.row.place_for.Goals as goal
 
 pub returns-then-comes_before-clause-place : goal.returns-then-comes_before-clause-place
 returns-then-comes_before-clause-place c =
-    let xs = c.args.timers.now in
-    let parted : IsPartitionPoint (λ u. not (comes_before c.args.t.now u) ≡ true) (λ u. not (comes_before c.args.t.now u) ≡ false) xs c.partition_point.result =
-    IsPartitionPoint-from_clause (λ u. not (comes_before c.args.t.now u)) xs _ c.partition_point.ensures.partitioned (rising_parted c.args.t.now xs c.requires) (λ a r f' k. search rules) in
-    rising_insert c.args.t.now xs c.partition_point.result c.partition_point.ensures.bound parted
+    rising_insert c.args.t.now c.args.timers.now c.count_before.result c.count_before.ensures.within (
+      λ k d l m. ap not (c.count_before.ensures.front k d l m),
+      λ k d l m. ap not (c.count_before.ensures.back k d l m),
+    )
 
 pub returns-clause-place : goal.returns-clause-place
 returns-clause-place c =
