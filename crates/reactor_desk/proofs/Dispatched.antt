@@ -220,6 +220,35 @@ module _ {H M Q W V N E : Type 0} (m : Meaning H M Q W V N E) (q : DeskTerms) (F
     gives = gives;
   }
 
+  -- where no volume was due
+  abbrev pub as_found : (old : Desk H M Q W V N E) → DeskStands m q F old h → HandedOver old old.core
+  as_found old o = record { first = F; within = o.core.tracks.journal.within; stands = o }
+
+  -- what a lead came to behind the volume, it came to with it
+  pub leads_since : (most : Option ℕ) (old new : Desk H M Q W V N E) (core : Core H M Q W V N E) (l : Led H N E) (G : ℕ) → core.net ≡ old.core.net → LeadsOn m q G h most (record { core = core; drainer = old.drainer }) l new → LeadsOn m q F h most old l new
+  leads_since most old new core l G same on = record {
+    first = on.first;
+    within = on.within;
+    notices = on.notices;
+    are = on.are;
+    few = on.few;
+    drained = on.drained;
+    net = on.net;
+    reserves = subst (λ n. Reserves (m.facts n) on.net) same on.reserves;
+    gives = on.gives;
+  }
+
+  -- a dispatch hands nothing over
+  pub first_dispatched : (most : Option ℕ) (before : NetFacts E) (l : Led H N E) (new : Desk H M Q W V N E) → DispatchGives m q F h most before l new → new.core.first ≡ F
+  first_dispatched most before (led.Job job) new g = g.stands.core.tracks.journal.first
+  first_dispatched most before led.Quiet new g = g.stands.core.tracks.journal.first
+  first_dispatched most before led.Over new g = g.stands.core.tracks.journal.first
+  first_dispatched most before led.NetFault new g = g.2.core.tracks.journal.first
+  first_dispatched most before led.NoMemory new g = g.stands.core.tracks.journal.first
+  first_dispatched most before led.Stopped new g = absurd g
+  first_dispatched most before led.Broken new g = absurd g
+  first_dispatched most before led.VolumeFault new g = absurd g
+
   -- what the whole lead gives
   pub lead_gives : (most : Option ℕ) (old new : Desk H M Q W V N E) (l : Led H N E) → MayLead m h old → LeadsOn m q F h most old l new → LeadGives m q F h most old l new
   lead_gives most old new (led.Job job) r on = (r, on)

@@ -25,6 +25,10 @@ core_of desk = desk.core
 abbrev pub drainer_of : {H M Q W V N E : Type 0} → Desk H M Q W V N E → Drainer
 drainer_of desk = desk.drainer
 
+-- how many entries its reactor handed over
+abbrev pub first_of : {H M Q W V N E : Type 0} → Desk H M Q W V N E → ℕ
+first_of desk = desk.core.first
+
 -- terms that leave all open, for views that say nothing
 abbrev pub no_ring : TableId
 no_ring = record { words = 0; slots = 0; views_name = 0; atom = 0; block = 0; offset = 0; slot_names = [] }

@@ -10,6 +10,7 @@ use Rattle.reactor_journal.specs.Past.{past_of, is_pick, count}
 use Rattle.reactor_summary.specs.Summary.{summary}
 use Rattle.reactor_state.specs.State.{after}
 use Rattle.reactor_core.specs.Calls.{time_left, least_limit, is_taken, IsAnsweredAt}
+use Rattle.reactor_core.specs.HandingOver.{is_due}
 use Rattle.reactor_core.specs.Marks.{is_polled}
 use Rattle.reactor_core.specs.Polling.{name_of, AreDue, due_of, ready_of}
 use Rattle.reactor_core.specs.Stands.{Meaning}
@@ -146,6 +147,10 @@ pub record LeadsOn {H M Q W V N E : Type 0} (m : Meaning H M Q W V N E) (q : Des
 pub record MayLead {H M Q W V N E : Type 0} (m : Meaning H M Q W V N E) (h : List (Entry N)) (old : Desk H M Q W V N E) : Type 0 where
   pub running : IsRunning h
   pub whole : m.is_broken (watch_of (core_of old)) ≡ false
+
+-- a desk does not lead where entries were appended in the same hold: a volume is due, it was stopped, or its watch failed
+abbrev pub MayNotLeadOn : {H M Q W V N E : Type 0} → Meaning H M Q W V N E → ℕ → List (Entry N) → Desk H M Q W V N E → Type 0
+MayNotLeadOn m F h old = ((summary (past_of h)).ended ≡ true) ⊎ ((m.is_broken (watch_of (core_of old)) ≡ true) ⊎ (is_due (core_of old) F h ≡ true))
 
 -- What the lead of a desk gives.
 abbrev pub LeadGives : {H M Q W V N E : Type 0} → Meaning H M Q W V N E → DeskTerms → ℕ → List (Entry N) → Option ℕ → Desk H M Q W V N E → Led H N E → Desk H M Q W V N E → Type 0

@@ -1,12 +1,13 @@
 //! The lead of a desk: what the thread does that holds the token.
-ghost use Rattle.std.specs.Prelude.{◌≡◌};
+ghost use Rattle.std.specs.Prelude.{◌≡◌, false, IfSome, IfNone};
 ghost use Rattle.ev_base.specs.Net.{Reserves};
 ghost use Rattle.notify_ring.specs.Words.{drainer_ring, id_of};
+ghost use Rattle.reactor_core.specs.HandingOver.{is_due};
 ghost use Rattle.reactor_core.specs.Polling.{FitsLimit};
 ghost use Rattle.reactor_core.specs.Views.{net_of};
-ghost use Rattle.reactor_desk.specs.Desks.{DeskWith, FromDesk, KeepsMarks, core_of, drainer_of};
+ghost use Rattle.reactor_desk.specs.Desks.{DeskWith, FromDesk, KeepsMarks, core_of, drainer_of, first_of};
 ghost use Rattle.reactor_desk.specs.Draining.{IsRunning, Drains, DrainsOne, HasLooked, LeavesDrained};
-ghost use Rattle.reactor_desk.specs.Leading.{DispatchGives, LeadGives, LeadTells, StartsFrom, FromStart, GivesBehind};
+ghost use Rattle.reactor_desk.specs.Leading.{DispatchGives, LeadGives, LeadTells, LeadsOn, MayNotLeadOn, StartsFrom, FromStart, GivesBehind};
 
 use crate::Desk;
 use ev_base::Net;
@@ -74,11 +75,44 @@ impl<
             Err(HandOverRefused::Failed) => return Led::VolumeFault,
             Err(HandOverRefused::NoMemory) => return Led::NoMemory,
         }
-        match self.drain(ring) {
-            Ok(_) => {}
-            Err(NoMemory) => return Led::NoMemory,
+        self.go_on(ring, most_ms)
+    }
+
+    /// Leads as `lead` does, in a hold of the token in which entries were appended before, and hands no volume over. None comes exactly where
+    /// one is due, where the reactor was stopped, and where its watch failed, and leaves all as it was.
+    pub fn lead_on(&mut self, ring: &Ring, most_ms: Option<u64>) -> Option<Led<H>>
+        requires stands { DeskWith ⟦<Self as Means>⟧.m (λ q h. FitsLimit q.run most_ms) self.old }
+        requires ring { drainer_ring (drainer_of self.old) ≡ id_of ring.now }
+        ensures gives { FromDesk ⟦<Self as Means>⟧.m self.old (λ q F h. FitsLimit q.run most_ms
+            → IfSome result (λ led. LeadGives ⟦<Self as Means>⟧.m q F h most_ms self.old led self.new)) }
+        ensures none { FromDesk ⟦<Self as Means>⟧.m self.old (λ q F h. IfNone result
+            (MayNotLeadOn ⟦<Self as Means>⟧.m F h self.old × (self.new ≡ self.old))) }
+        ensures due { FromDesk ⟦<Self as Means>⟧.m self.old (λ q F h. IfSome result
+            (λ led. is_due (core_of self.old) F h ≡ false)) }
+        ensures tells { IfSome result (λ led. LeadTells ⟦<Self as Means>⟧.m self.old led self.new) }
+        ensures first { first_of self.new ≡ first_of self.old }
+        ensures marks { KeepsMarks ⟦<Self as Means>⟧.m self.old self.new }
+    {
+        if self.core.is_ended() || self.core.is_broken() || self.core.is_volume_due() {
+            return None;
         }
-        self.dispatch(most_ms)
+        Some(self.go_on(ring, most_ms))
+    }
+
+    /// Takes the postings of the ring, and starts the next upcall, or waits once and looks again.
+    fn go_on(&mut self, ring: &Ring, most_ms: Option<u64>) -> Led<H>
+        requires stands { DeskWith ⟦<Self as Means>⟧.m (λ q h. IsRunning h × FitsLimit q.run most_ms) self.old }
+        requires ring { drainer_ring (drainer_of self.old) ≡ id_of ring.now }
+        ensures gives { FromDesk ⟦<Self as Means>⟧.m self.old (λ q F h. IsRunning h → FitsLimit q.run most_ms
+            → LeadsOn ⟦<Self as Means>⟧.m q F h most_ms self.old result self.new) }
+        ensures tells { LeadTells ⟦<Self as Means>⟧.m self.old result self.new }
+        ensures first { first_of self.new ≡ first_of self.old }
+        ensures marks { KeepsMarks ⟦<Self as Means>⟧.m self.old self.new }
+    {
+        match self.drain(ring) {
+            Ok(_) => self.dispatch(most_ms),
+            Err(NoMemory) => Led::NoMemory,
+        }
     }
 
     /// Starts the next upcall, or waits once and looks again.

@@ -33,7 +33,7 @@ use Rattle.tp_reactor.specs.Working.{MayPost, PostsNotice, Round, Rounds, Runs, 
 use Rattle.tp_reactor.specs.declared.working.Ran.{Ran}
 use Rattle.tp_reactor.specs.declared.working.Ran.TheVariants as ran
 use Rattle.tp_reactor.proofs.Marked.{marks_tell}
-use Rattle.tp_reactor.proofs.Rounds.{kin_same, kin_then}
+use Rattle.tp_reactor.proofs.Rounds.{kin_same, kin_then, led_kin, settled_kin, no_job}
 
 -- Of a worker that knew v and knows w from then on, with postings p before and s from then on.
 pub record Grows {N : Type 0} (v w : View (Entry N) DeskTerms) (p s : RingView) : Type 0 where
@@ -74,12 +74,9 @@ module _ {H M Q W V N E : Type 0} (m : Meaning H M Q W V N E) where
     led_marks : NoneAbove v.marks w.marks
     led_marks = subst (NoneAbove v.marks) (sym (ap (λ (x : View (Entry N) DeskTerms). x.marks) d.leaves.view)) (none_above-trans v.marks (marks_of m d.found) (marks_of m d.left) d.finds.above d.leaves.risen)
 
-    led_kept : SameKin v w
-    led_kept = let view = d.leaves.view in record { terms = ap (λ x. x.terms) view; root = ap (λ x. x.root) view; children = ap (λ x. x.children) view }
-
     pub led_grows : (p s : RingView) → event_of l ≡ None → s ≡ p → Grows v w p s
     led_grows p s idle same = record {
-      kin = led_kept;
+      kin = led_kin m v w most l d;
       seen = led_seen;
       marks = led_marks;
       idle = λ _. ap (λ (x : View (Entry N) DeskTerms). x.mine) d.leaves.view ∙ idle;
@@ -101,9 +98,6 @@ module _ {H M Q W V N E : Type 0} (m : Meaning H M Q W V N E) where
 
     settled_marks : NoneAbove v.marks w.marks
     settled_marks = subst (NoneAbove v.marks) (sym (ap (λ (x : View (Entry N) DeskTerms). x.marks) d.leaves.view)) (none_above-trans v.marks (marks_of m d.found) (marks_of m d.left) d.finds.above d.leaves.risen)
-
-    settled_kept : SameKin v w
-    settled_kept = let view = d.leaves.view in record { terms = ap (λ x. x.terms) view; root = ap (λ x. x.root) view; children = ap (λ x. x.children) view }
 
     settled_idle : w.mine ≡ None
     settled_idle = ap (λ (x : View (Entry N) DeskTerms). x.mine) d.leaves.view
@@ -132,7 +126,7 @@ module _ {H M Q W V N E : Type 0} (m : Meaning H M Q W V N E) where
     serves_grows v w p s d =
         let more : (length p.posted ≤ length s.posted) × (s.ended ≡ p.ended) = may_more until d.settled p s d.posts in
         record {
-          kin = kin_then v d.between w (led_kept v d.between most _ d.led) (settled_kept d.between w d.done d.settled d.settles);
+          kin = kin_then v d.between w (led_kin m v d.between most _ d.led) (settled_kin m d.between w d.done d.settled d.settles);
           seen = begins-trans v.seen d.between.seen w.seen (led_seen v d.between most _ d.led) (settled_seen d.between w d.done d.settled d.settles);
           marks = none_above-trans v.marks d.between.marks w.marks (led_marks v d.between most _ d.led) (settled_marks d.between w d.done d.settled d.settles);
           idle = λ _. settled_idle d.between w d.done d.settled d.settles;
@@ -161,16 +155,6 @@ module _ {H M Q W V N E : Type 0} (m : Meaning H M Q W V N E) where
 
   -- ---- a whole loop
 
-  no_job : (l : Led H N E) (answer : Ran) → ran_of l ≡ Some answer → event_of l ≡ None
-  no_job (led.Job job) answer is = cc
-  no_job led.Quiet answer is = refl
-  no_job led.Over answer is = refl
-  no_job led.Stopped answer is = refl
-  no_job led.Broken answer is = refl
-  no_job led.VolumeFault answer is = refl
-  no_job led.NetFault answer is = refl
-  no_job led.NoMemory answer is = refl
-
   pub is_over : (l : Led H N E) → ran_of l ≡ Some ran.Over → l ≡ led.Over
   is_over (led.Job job) is = cc
   is_over led.Quiet is = cc
@@ -186,7 +170,7 @@ module _ {H M Q W V N E : Type 0} (m : Meaning H M Q W V N E) where
     before_last = rounds_grow most until d.rounds v d.last p d.last_posted d.were
 
     pub runs_grow : Grows v w p s
-    runs_grow = grows_then v d.last w p d.last_posted s before_last (led_grows d.last w most d.ends.led d.ends.is_led d.last_posted s (no_job d.ends.led answer d.ends.answers) d.ends.poster)
+    runs_grow = grows_then v d.last w p d.last_posted s before_last (led_grows d.last w most d.ends.led d.ends.is_led d.last_posted s (no_job m d.ends.led answer d.ends.answers) d.ends.poster)
 
     pub runs_post : length p.posted < length s.posted → HasClosed until w.seen
     runs_post more = closed_later until d.last.seen w.seen (led_seen d.last w most d.ends.led d.ends.is_led) (rounds_post most until d.rounds v d.last p d.last_posted d.were (omega (arith, more, ap (λ (x : RingView). length x.posted) d.ends.poster)))

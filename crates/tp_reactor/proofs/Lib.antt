@@ -1,5 +1,6 @@
 pub mod Turns
 pub mod Settling
+pub mod Onward
 pub mod Belongs
 pub mod Sharing
 pub mod Lives

@@ -11,7 +11,7 @@ ghost use Rattle.reactor_core.specs.Upcalls.{DoneFits};
 ghost use Rattle.reactor_core.specs.Views.{done_event};
 ghost use Rattle.reactor_desk.specs.Desks.{DeskStands, marks_of};
 ghost use Rattle.tp_reactor.specs.Led.{IsLed, MarksTell};
-ghost use Rattle.tp_reactor.specs.Settled.{HasSettled};
+ghost use Rattle.tp_reactor.specs.Settled.{HasSettled, SettlesOn};
 ghost use Rattle.tp_reactor.specs.Words.{posted_of, known_by, poster_of, IsOf};
 
 use crate::{Reactor, Worker};
@@ -61,9 +61,7 @@ impl<
         let gate = self.gate.lock(rt);
         self.step_aside(rt);
         let mut held = self.token.get(rt, &mut worker.pass);
-        if self.wanted.load(Ordering::SeqCst) > 0 {
-            self.waker.wake();
-        }
+        self.heed_callers();
         let led = held.value().lead(&self.ring, most_ms);
         self.token.put(&mut worker.pass, held);
         drop(gate);
@@ -144,6 +142,45 @@ impl<
         settled
     }
 
+    // Settles the worker's own upcall as `settle` does, and leads in the same hold of the token, so that a worker that goes on takes the token once
+    // for each upcall. It does not lead where as many handlers were closed as `pause_at` says, so that the caller can post that first, nor where
+    // a volume is to be handed over.
+    pub(crate) fn settle_on<R: Wait>(
+        &self,
+        rt: &R,
+        worker: &mut Worker<H, M, Q, W, V>,
+        done: Done<H>,
+        most_ms: Option<u64>,
+        pause_at: Option<u64>,
+    ) -> (Settled, Option<Led<H>>)
+        requires of { IsOf worker.old self.now }
+        requires free { (known_by worker.old).base ≡ None }
+        requires own { (known_by worker.old).mine ≡ Some (done_event done) }
+        requires fits { DoneFits H.means (known_by worker.old).terms.run (past_of (known_by worker.old).seen) done }
+        requires limit { FitsLimit (known_by worker.old).terms.run most_ms }
+        ensures of { IsOf worker.new self.now }
+        ensures settled { SettlesOn ⟦<Self as Means>⟧.m (known_by worker.old) done result.0 most_ms result.1 (known_by worker.new) }
+        ensures poster { poster_of worker.new ≡ poster_of worker.old }
+    {
+        let mut held = self.take(rt, worker);
+        let settled = held.value().settle(done);
+        if is_reached(pause_at, settled.closed) {
+            self.token.put(&mut worker.pass, held);
+            return (settled, None);
+        }
+        self.heed_callers();
+        let led = held.value().lead_on(&self.ring, most_ms);
+        self.token.put(&mut worker.pass, held);
+        (settled, led)
+    }
+
+    // Lets the next wait end at once where calls want the token.
+    fn heed_callers(&self) {
+        if self.wanted.load(Ordering::SeqCst) > 0 {
+            self.waker.wake();
+        }
+    }
+
     /// Posts a notification to the handler of a handle (ACE's `notify`), and wakes the leader. It neither waits nor takes memory. `Full` comes
     /// exactly where 256 places of the ring or more were held or in flight when it looked, and then nothing is posted.
     pub fn post(
@@ -161,5 +198,13 @@ impl<
         let posted = self.ring.post(&mut worker.poster, handle, kind);
         self.waker.wake();
         posted
+    }
+}
+
+// Whether as many were closed.
+fn is_reached(pause_at: Option<u64>, closed: u64) -> bool {
+    match pause_at {
+        Some(count) => count <= closed,
+        None => false,
     }
 }

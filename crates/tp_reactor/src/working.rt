@@ -1,14 +1,14 @@
 //! The loop of a worker.
-ghost use Rattle.std.specs.Prelude.{◌≡◌, ◌<◌, ◌≤◌, ◌+◌, ◌^◌, length, None, Some, IfSome, IfNone, cond, true};
+ghost use Rattle.std.specs.Prelude.{◌≡◌, ◌<◌, ◌≤◌, ◌+◌, ◌^◌, length, None, Some, cond, true};
 ghost use Rattle.notify_ring.specs.Words.{poster_view};
 ghost use Rattle.reactor_core.specs.Polling.{FitsLimit};
-ghost use Rattle.tp_reactor.specs.Working.{MayPost, Round, EndsRun, Runs, first_ran};
+ghost use Rattle.tp_reactor.specs.Working.{JobReady, LedBefore, ServesAndLeads, MayPost, Goes, Runs, first_ran};
 ghost use Rattle.tp_reactor.specs.Words.{posted_of, known_by, poster_of, IsOf, IsIdle, SameKin};
 
 use crate::{Reactor, Worker};
 use ev_base::{Net, Wake};
 use ev_types::{Handle, Kind};
-use reactor_core::{Means, Settled};
+use reactor_core::{Job, Means, Settled};
 use reactor_desk::Led;
 use reactor_model::{EventHandler, Volumes, Watch};
 use std::sync::Wait;
@@ -52,7 +52,7 @@ impl<
     V: Volumes<H::Note>,
     K: Wake,
 > Reactor<H, M, Q, W, V, K> {
-    /// Leads, runs the job and settles it, until a lead answers neither a job nor Quiet.
+    /// Leads, runs the job, settles it and leads again, until a lead answers neither a job nor Quiet.
     pub(crate) fn work<R: Wait>(
         &self,
         rt: &R,
@@ -72,49 +72,78 @@ impl<
         ensures room { waits.new ≡ true → length (posted_of worker.new) < 2 ^ 56 }
         ensures once { length (posted_of worker.new) + cond waits.new 1 0 ≤ length (posted_of worker.old) + cond waits.old 1 0 }
     {
+        let mut led = self.lead(rt, worker, most_ms);
         for _ in rt.forever() {
-            if let Some(ran) = self.round(rt, worker, most_ms, until, waits) {
-                return ran;
+            match self.round(rt, worker, led, most_ms, until, waits) {
+                Ok(next) => led = next,
+                Err(ran) => return ran,
             }
         }
         unreachable!()
     }
 
-    // One round; with an answer, the loop ends.
+    // One round, from what a lead answered: its job is run and settled, and the next lead is made. With an Err the loop ends.
     fn round<R: Wait>(
         &self,
         rt: &R,
         worker: &mut Worker<H, M, Q, W, V>,
+        led: Led<H>,
         most_ms: Option<u64>,
         until: Option<(u64, Handle)>,
         waits: &mut bool,
-    ) -> Option<Ran>
+    ) -> Result<Led<H>, Ran>
         requires of { IsOf worker.old self.now }
-        requires idle { IsIdle worker.old }
+        requires led { LedBefore ⟦<Self as Means>⟧.m most_ms led (known_by worker.old) }
         requires limit { FitsLimit (known_by worker.old).terms.run most_ms }
         requires room { waits.old ≡ true → length (posted_of worker.old) < 2 ^ 56 }
         ensures of { IsOf worker.new self.now }
-        ensures idle { IsIdle worker.new }
         ensures kin { SameKin (known_by worker.old) (known_by worker.new) }
-        ensures goes { IfNone result (Round ⟦<Self as Means>⟧.m most_ms until (known_by worker.old) (poster_view (poster_of worker.old)) (known_by worker.new) (poster_view (poster_of worker.new))) }
-        ensures ends { IfSome result (λ ran. EndsRun ⟦<Self as Means>⟧.m most_ms (known_by worker.old) (poster_view (poster_of worker.old)) ran (known_by worker.new) (poster_view (poster_of worker.new))) }
+        ensures goes { Goes ⟦<Self as Means>⟧.m most_ms until led (known_by worker.old) (poster_view (poster_of worker.old)) result (known_by worker.new) (poster_view (poster_of worker.new)) }
         ensures room { waits.new ≡ true → length (posted_of worker.new) < 2 ^ 56 }
         ensures once { length (posted_of worker.new) + cond waits.new 1 0 ≤ length (posted_of worker.old) + cond waits.old 1 0 }
     {
-        match self.lead(rt, worker, most_ms) {
-            Led::Job(job) => {
-                let done = job.run();
-                let settled = self.settle(rt, worker, done);
-                self.tell(worker, until, settled, waits);
-                None
-            }
-            Led::Quiet => None,
-            Led::Over => Some(Ran::Over),
-            Led::Stopped => Some(Ran::Stopped),
-            Led::Broken => Some(Ran::Broken),
-            Led::VolumeFault => Some(Ran::VolumeFault),
-            Led::NetFault => Some(Ran::NetFault),
-            Led::NoMemory => Some(Ran::NoMemory),
+        match led {
+            Led::Job(job) => Ok(self.serve(rt, worker, job, most_ms, until, waits)),
+            Led::Quiet => Ok(self.lead(rt, worker, most_ms)),
+            Led::Over => Err(Ran::Over),
+            Led::Stopped => Err(Ran::Stopped),
+            Led::Broken => Err(Ran::Broken),
+            Led::VolumeFault => Err(Ran::VolumeFault),
+            Led::NetFault => Err(Ran::NetFault),
+            Led::NoMemory => Err(Ran::NoMemory),
+        }
+    }
+
+    // Runs a job, settles it and leads again. Where a notice is due it is posted before that.
+    fn serve<R: Wait>(
+        &self,
+        rt: &R,
+        worker: &mut Worker<H, M, Q, W, V>,
+        job: Job<H>,
+        most_ms: Option<u64>,
+        until: Option<(u64, Handle)>,
+        waits: &mut bool,
+    ) -> Led<H>
+        requires of { IsOf worker.old self.now }
+        requires ready { JobReady ⟦<Self as Means>⟧.m (known_by worker.old) job }
+        requires limit { FitsLimit (known_by worker.old).terms.run most_ms }
+        requires room { waits.old ≡ true → length (posted_of worker.old) < 2 ^ 56 }
+        ensures of { IsOf worker.new self.now }
+        ensures serves { ServesAndLeads ⟦<Self as Means>⟧.m most_ms until job (known_by worker.old) (poster_view (poster_of worker.old)) result (known_by worker.new) (poster_view (poster_of worker.new)) }
+        ensures room { waits.new ≡ true → length (posted_of worker.new) < 2 ^ 56 }
+        ensures once { length (posted_of worker.new) + cond waits.new 1 0 ≤ length (posted_of worker.old) + cond waits.old 1 0 }
+    {
+        let done = job.run();
+        let pause_at = if *waits {
+            until.map(|(count, _)| count)
+        } else {
+            None
+        };
+        let (settled, led) = self.settle_on(rt, worker, done, most_ms, pause_at);
+        self.tell(worker, until, settled, waits);
+        match led {
+            Some(led) => led,
+            None => self.lead(rt, worker, most_ms),
         }
     }
 

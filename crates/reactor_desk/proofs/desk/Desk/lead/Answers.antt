@@ -1,9 +1,41 @@
-use Rattle.std.proofs.Common.{sym, ap, ◌∙◌, ◌++◌, refl}
+use Rattle.std.proofs.Common.{sym, ap, ◌∙◌, refl}
 use Rattle.reactor_core.specs.declared.marks.WaitMarks.{WaitMarks}
-use Rattle.reactor_desk.proofs.Dispatched.{handed_over, lead_gives, leads_nowhere, leads_drained, leads_on, tells_of, desk_same}
-use Rattle.reactor_desk.proofs.Marks.{core_hands_same, core_hands_none, core_rests, core_then, core_keeps, desk_keeps, core_same}
-use Rattle.reactor_desk.proofs.Notices.{notices_ended}
+use Rattle.reactor_desk.proofs.Dispatched.{handed_over, lead_gives, leads_nowhere, leads_since, tells_of, desk_same}
+use Rattle.reactor_desk.proofs.Marks.{core_hands_same, core_hands_none, core_then, core_keeps, desk_keeps, core_same}
 use Rattle.reactor_desk.proofs.desk.Desk.lead.Goals as goal
+
+pub hand_over-requires : goal.hand_over-requires
+hand_over-requires g c = let o = c.requires.stands in (o.0.run, o.1, o.2, o.3.core)
+
+pub go_on-requires-clause-stands : goal.go_on-requires-clause-stands
+go_on-requires-clause-stands g c =
+    let o = c.requires.stands in
+    let over = handed_over _ o.0 o.1 o.2 _ c.args.self.now _ o.3 (c.in-Ok.ensures.ok o.0.run o.1 o.2 o.3.core) in
+    (o.0, over.first, o.2, over.stands, (sym (c.is_ended.ensures o.0.run o.1 o.2 o.3.core) ∙ c.if-is_ended.false, o.4))
+
+pub go_on-requires-clause-ring : goal.go_on-requires-clause-ring
+go_on-requires-clause-ring g c = c.requires.ring
+
+pub returns-clause-gives : goal.returns-clause-gives
+returns-clause-gives g c q F h o fits =
+    let running = sym (c.is_ended.ensures q.run F h o.core) ∙ c.if-is_ended.false in
+    let hands = c.in-Ok.ensures.ok q.run F h o.core in
+    let over = handed_over _ q F h _ c.args.self.now _ o hands in
+    lead_gives _ q F h c.args.most_ms c.args.self.now _ c.go_on.result (record { running = running; whole = sym c.is_broken.ensures.told ∙ c.if-is_broken.false })
+    (leads_since _ q F h c.args.most_ms c.args.self.now _ _ _ over.first hands.others.net (c.go_on.ensures.gives q over.first h over.stands running fits))
+
+pub returns-clause-tells : goal.returns-clause-tells
+returns-clause-tells g c =
+    let o = c.requires.stands in
+    let hands = c.in-Ok.ensures.ok o.0.run o.1 o.2 o.3.core in
+    tells_of _ c.go_on.result c.args.self.now (record { core = c.hand_over.new.self; drainer = c.args.self.now.drainer }) c.go_on.new.self (ap (λ n. (g.M.Net.facts n).failed_waits) hands.others.net)
+    hands.faults (ap (λ (k : WaitMarks). k.over) hands.others.marks) c.go_on.ensures.tells
+
+pub returns-clause-marks : goal.returns-clause-marks
+returns-clause-marks g c =
+    let o = c.requires.stands in
+    let hands = c.in-Ok.ensures.ok o.0.run o.1 o.2 o.3.core in
+    desk_keeps _ _ _ (core_then _ _ _ _ (core_hands_same _ c.args.self.now.core c.hand_over.new.self hands.others hands.faults) (core_keeps _ _ _ c.go_on.ensures.marks))
 
 pub returns-in-Err-Failed-clause-marks : goal.returns-in-Err-Failed-clause-marks
 returns-in-Err-Failed-clause-marks g c = desk_keeps _ _ _ (core_hands_none _ c.in-Err-Failed.field-0 _ _ c.in-Err-Failed.ensures.same.others c.in-Err-Failed.ensures.cause)
@@ -14,61 +46,6 @@ returns-in-Err-NoMemory-clause-gives g c q F h o fits =
 
 pub returns-in-Err-NoMemory-clause-marks : goal.returns-in-Err-NoMemory-clause-marks
 returns-in-Err-NoMemory-clause-marks g c = desk_keeps _ _ _ (core_hands_none _ c.in-Err-NoMemory.field-0 _ _ c.in-Err-NoMemory.ensures.same.others c.in-Err-NoMemory.ensures.cause)
-
-pub drain-requires-clause-stands : goal.drain-requires-clause-stands
-drain-requires-clause-stands g c =
-    let o = c.requires.stands in
-    let over = handed_over _ o.0 o.1 o.2 _ c.args.self.now _ o.3 (c.in-Ok.ensures.ok o.0.run o.1 o.2 o.3.core) in
-    (o.0, over.first, o.2, over.stands, sym (c.is_ended.ensures o.0.run o.1 o.2 o.3.core) ∙ c.if-is_ended.false)
-
-pub returns-in-Err-clause-gives : goal.returns-in-Err-clause-gives
-returns-in-Err-clause-gives g c q F h o fits =
-    let running = sym (c.is_ended.ensures q.run F h o.core) ∙ c.if-is_ended.false in
-    let hands = c.in-Ok.ensures.ok q.run F h o.core in
-    let over = handed_over _ q F h _ c.args.self.now _ o hands in
-    (record { running = running; whole = sym c.is_broken.ensures.told ∙ c.if-is_broken.false }, leads_drained _ q F h c.args.most_ms c.args.self.now _ _ _ over hands.others.net (c.in-Err.ensures.drains q over.first h over.stands running) c.drain.ensures.rest.net)
-
-pub returns-in-Err-clause-marks : goal.returns-in-Err-clause-marks
-returns-in-Err-clause-marks g c =
-    let o = c.requires.stands in
-    let hands = c.in-Ok.ensures.ok o.0.run o.1 o.2 o.3.core in
-    desk_keeps _ _ _ (core_then _ _ _ _ (core_hands_same _ c.args.self.now.core c.hand_over.new.self hands.others hands.faults) (core_rests _ _ _ c.drain.ensures.rest.rest))
-
-pub dispatch-requires : goal.dispatch-requires
-dispatch-requires g c =
-    let o = c.requires.stands in
-    let running = sym (c.is_ended.ensures o.0.run o.1 o.2 o.3.core) ∙ c.if-is_ended.false in
-    let over = handed_over _ o.0 o.1 o.2 _ c.args.self.now _ o.3 (c.in-Ok.ensures.ok o.0.run o.1 o.2 o.3.core) in
-    let d = c.in-Ok-drain.ensures.drains o.0 over.first o.2 over.stands running in
-    (o.0, over.first, o.2 ++ d.some.notices, d.some.stands, (d.answer.2, notices_ended o.2 d.some.notices d.some.are ∙ running, o.4))
-
-pub returns-clause-gives : goal.returns-clause-gives
-returns-clause-gives g c q F h o fits =
-    let running = sym (c.is_ended.ensures q.run F h o.core) ∙ c.if-is_ended.false in
-    let hands = c.in-Ok.ensures.ok q.run F h o.core in
-    let over = handed_over _ q F h _ c.args.self.now _ o hands in
-    let d = c.in-Ok-drain.ensures.drains q over.first h over.stands running in
-    lead_gives _ q F h c.args.most_ms c.args.self.now _ c.dispatch.result (record { running = running; whole = sym c.is_broken.ensures.told ∙ c.if-is_broken.false })
-    (leads_on _ q F h c.args.most_ms c.args.self.now _ _ _ _ _ over hands.others.net d c.drain.ensures.rest.net (c.dispatch.ensures.gives q over.first (h ++ d.some.notices) d.some.stands d.answer.2 (notices_ended h d.some.notices d.some.are ∙ running) fits) c.dispatch.ensures.drainer)
-
-pub returns-clause-tells : goal.returns-clause-tells
-returns-clause-tells g c =
-    let o = c.requires.stands in
-    let hands = c.in-Ok.ensures.ok o.0.run o.1 o.2 o.3.core in
-    tells_of _ c.dispatch.result c.args.self.now c.drain.new.self c.dispatch.new.self (c.drain.ensures.rest.rest.wait_faults ∙ ap (λ n. (g.M.Net.facts n).failed_waits) hands.others.net)
-    (ap (λ v. (g.V.Volumes.facts v).faults) c.drain.ensures.rest.rest.volumes ∙ hands.faults) (ap (λ (k : WaitMarks). k.over) (c.drain.ensures.rest.rest.marks ∙ hands.others.marks)) c.dispatch.ensures.tells
-
-pub returns-clause-marks : goal.returns-clause-marks
-returns-clause-marks g c =
-    let o = c.requires.stands in
-    let hands = c.in-Ok.ensures.ok o.0.run o.1 o.2 o.3.core in
-    desk_keeps _ _ _ (core_then _ _ _ _ (core_hands_same _ c.args.self.now.core c.hand_over.new.self hands.others hands.faults) (core_then _ _ _ _ (core_rests _ _ _ c.drain.ensures.rest.rest) (core_keeps _ _ _ c.dispatch.ensures.marks)))
-
-pub hand_over-requires : goal.hand_over-requires
-hand_over-requires g c = let o = c.requires.stands in (o.0.run, o.1, o.2, o.3.core)
-
-pub drain-requires-clause-ring : goal.drain-requires-clause-ring
-drain-requires-clause-ring g c = c.requires.ring
 
 pub returns-then-is_ended-clause-gives : goal.returns-then-is_ended-clause-gives
 returns-then-is_ended-clause-gives g c q F h o fits = (sym (c.is_ended.ensures q.run F h o.core) ∙ c.if-is_ended.true, refl)
@@ -93,6 +70,3 @@ returns-in-Err-Failed-clause-gives g c q F h o fits = (record { running = sym (c
 
 pub returns-in-Err-NoMemory-clause-tells : goal.returns-in-Err-NoMemory-clause-tells
 returns-in-Err-NoMemory-clause-tells g c = tt
-
-pub returns-in-Err-clause-tells : goal.returns-in-Err-clause-tells
-returns-in-Err-clause-tells g c = tt

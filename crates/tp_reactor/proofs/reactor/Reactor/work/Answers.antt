@@ -1,24 +1,29 @@
-use Rattle.std.proofs.Common.{arith}
-use Rattle.tp_reactor.proofs.Rounds.{no_rounds, round_more, runs_by, kin_then, kin_same}
+use Rattle.std.proofs.Common.{arith, ap, length}
+use Rattle.notify_ring.specs.Words.{poster_view}
+use Rattle.tp_reactor.proofs.Rounds.{begin_rounds, go_round, end_rounds, led_kin, kin_then}
 use Rattle.tp_reactor.proofs.reactor.Reactor.work.Goals as goal
 
 pub loop-init : goal.loop-init
-loop-init g c = record { can = tt; finite = tt; of = c.requires.of; idle = c.requires.idle; kin = kin_same _; rounds = no_rounds _ _ _ _ _; room = c.requires.room; once = omega arith }
-
-pub returns-in-Some-round-clause-runs : goal.returns-in-Some-round-clause-runs
-returns-in-Some-round-clause-runs g c = runs_by _ _ _ _ _ _ _ _ _ _ c.loop.invariant.rounds c.in-Some-round.ensures.ends
-
-pub returns-in-Some-round-clause-once : goal.returns-in-Some-round-clause-once
-returns-in-Some-round-clause-once g c = omega (arith, c.loop.invariant.once, c.in-Some-round.ensures.once)
+loop-init g c = record {
+  can = tt;
+  finite = tt;
+  of = c.lead-led.ensures.of;
+  kin = led_kin _ _ _ c.args.most_ms c.lead-led.result c.lead-led.ensures.led;
+  rounds = begin_rounds _ c.args.most_ms c.args.until _ _ _ _ c.lead-led.result (ap poster_view c.lead-led.ensures.poster) c.lead-led.ensures.led;
+  room = λ w. omega (arith, c.requires.room w, ap (λ p. length (poster_view p).posted) c.lead-led.ensures.poster);
+  once = omega (arith, ap (λ p. length (poster_view p).posted) c.lead-led.ensures.poster);
+}
 
 pub loop-preserved : goal.loop-preserved
 loop-preserved g c = record {
   can = tt;
   finite = tt;
   of = c.round.ensures.of;
-  idle = c.round.ensures.idle;
   kin = kin_then _ _ _ c.loop.invariant.kin c.round.ensures.kin;
-  rounds = round_more _ _ _ _ _ _ _ _ _ c.loop.invariant.rounds c.in_default.ensures.goes;
+  rounds = go_round _ c.args.most_ms c.args.until _ _ _ _ _ _ c.loop.led c.in-Ok.next c.loop.invariant.rounds c.in-Ok.ensures.goes;
   room = c.round.ensures.room;
   once = omega (arith, c.loop.invariant.once, c.round.ensures.once);
 }
+
+pub returns-in-Err-clause-runs : goal.returns-in-Err-clause-runs
+returns-in-Err-clause-runs g c = end_rounds _ c.args.most_ms c.args.until _ _ _ _ _ _ c.loop.led c.in-Err.ran c.loop.invariant.rounds c.in-Err.ensures.goes

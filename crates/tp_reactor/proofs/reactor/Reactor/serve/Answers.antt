@@ -1,0 +1,14 @@
+use Rattle.std.proofs.Common.{ap}
+use Rattle.notify_ring.specs.Words.{poster_view}
+use Rattle.tp_reactor.proofs.Rounds.{serves_on, serves_after}
+use Rattle.tp_reactor.proofs.reactor.Reactor.serve.Goals as goal
+
+pub returns-in-Some-clause-serves : goal.returns-in-Some-clause-serves
+returns-in-Some-clause-serves g c =
+    serves_on _ c.args.most_ms c.args.until c.args.job c.run-done.result c.settle_on-led.result.0 c.settle_on-led.result.1 c.in-Some.led _ _ _ _ _ _ c.run-done.ensures.same c.in-Some.is c.settle_on-led.ensures.settled c.tell.ensures.pass
+    (ap poster_view c.settle_on-led.ensures.poster) c.tell.ensures.posts
+
+pub returns-in-None-clause-serves : goal.returns-in-None-clause-serves
+returns-in-None-clause-serves g c =
+    serves_after _ c.args.most_ms c.args.until c.args.job c.run-done.result c.settle_on-led.result.0 c.settle_on-led.result.1 c.lead.result _ _ _ _ _ _ _ _ c.run-done.ensures.same c.in-None.is c.settle_on-led.ensures.settled c.tell.ensures.pass
+    (ap poster_view c.settle_on-led.ensures.poster) c.tell.ensures.posts c.lead.ensures.led (ap poster_view c.lead.ensures.poster)
