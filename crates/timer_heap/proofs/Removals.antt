@@ -16,9 +16,10 @@ use Rattle.timer_queue.specs.declared.timer.Timer.{Timer}
 use Rattle.timer_queue.specs.Timers.{comes_before, is_scheduled}
 use Rattle.timer_queue.proofs.Schedules.{before_trans}
 use Rattle.timer_queue.proofs.Places.{none_at}
-use Rattle.timer_heap.specs.declared.index.Numbered.{Numbered}
+use Rattle.timer_index.specs.declared.index.Numbered.{Numbered}
 use Rattle.timer_heap.specs.Heap.{parent, IsHeap}
-use Rattle.timer_heap.specs.Tree.{ArePairs, IsHeapAround, IsIndex, IsKeyed, IsRising, matched, found_at, place_in, IsSound}
+use Rattle.timer_index.specs.Index.{IsRising}
+use Rattle.timer_heap.specs.Tree.{ArePairs, IsHeapAround, IsIndex, IsKeyed, matched, found_at, place_in, IsSound}
 use Rattle.timer_queue.proofs.Swaps.{brought, brought_within, get_or-swap}
 use Rattle.timer_heap.proofs.Sifts.{other_is}
 use Rattle.timer_queue.proofs.Contents.{apart_removed}

@@ -1,10 +1,11 @@
 -- How a heap keeps track of where its timers are.
-use Rattle.std.specs.Prelude.{ℕ, ◌≡◌, ◌≢◌, ◌<◌, ◌≤◌, true, List, length, slice_index_or, slice_index, slice_get, vec_capacity, AllPairs, Contains, Option, Some, None, if◌then◌else◌, ◌==◌}
+use Rattle.std.specs.Prelude.{ℕ, ◌≡◌, ◌≢◌, ◌<◌, ◌≤◌, true, List, length, slice_index_or, slice_index, slice_get, vec_capacity, Contains, Option, Some, None, if◌then◌else◌, ◌==◌}
 use Rattle.std.specs.List.{AllWithin}
 use Rattle.std.specs.List.Sorted.{IsPermutation}
 use Rattle.timer_queue.specs.declared.timer.Timer.{Timer}
 use Rattle.timer_queue.specs.Timers.{comes_before, AreApart}
-use Rattle.timer_heap.specs.declared.index.Numbered.{Numbered}
+use Rattle.timer_index.specs.declared.index.Numbered.{Numbered}
+use Rattle.timer_index.specs.Index.{IsRising}
 use Rattle.timer_heap.specs.declared.tree.Tree.{Tree}
 use Rattle.timer_heap.specs.Heap.{parent, IsHeap}
 
@@ -54,10 +55,6 @@ pub record IsHeapAbove (slots : List Timer) (at : ℕ) : Type 0 where
 pub record IsHeapAround (slots : List Timer) (at : ℕ) : Type 0 where
   pub others : (k : ℕ) (d : Timer) → 0 < k → k < length slots → k ≢ at → parent k ≢ at → comes_before (slice_index_or slots (parent k) d) (slice_index_or slots k d) ≡ true
   pub across : (k : ℕ) (d : Timer) → 0 < at → 0 < k → k < length slots → parent k ≡ at → comes_before (slice_index_or slots (parent at) d) (slice_index_or slots k d) ≡ true
-
--- the entries of the index rise by number
-abbrev pub IsRising : List Numbered → Type 0
-IsRising index = AllPairs (λ e f. e.timer < f.timer) index
 
 -- the index rises by number, and has each timer of the heap with its key
 pub record IsIndex (index : List Numbered) (slots : List Timer) (keys : List ℕ) : Type 0 where

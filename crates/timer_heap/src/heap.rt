@@ -5,11 +5,12 @@ ghost use Rattle.timer_queue.specs.declared.timer.Timer.{Timer};
 ghost use Rattle.timer_queue.specs.Timers.{is_scheduled, with_timer, in_order};
 ghost use Rattle.timer_heap.specs.Heap.{IsHeap, OnPath};
 
-use crate::index::{Numbered, entry_of, make_room, put};
+use crate::index::make_room;
 use crate::tree::{Tree, add, make_keys, place_of, take_out};
 use ev_types::{Handle, NoMemory};
 use std::alloc::Global;
 use std::marker::Model;
+use timer_index::{Numbered, entry_of, put};
 use timer_queue::{Timer, TimerQueue};
 
 /// A timer queue that is a binary heap, with the place of each timer by its number.
@@ -66,7 +67,7 @@ impl HeapTimers {
         ensures spare { self.new.spare + 1 ≡ self.old.spare }
         ensures path { (k : ℕ) (d : Timer) → k < length self.old.slots → (OnPath k (length self.old.slots) → ⊥) → slice_index_or self.new.slots k d ≡ slice_index_or self.old.slots k d }
     {
-        let key = self.tree.keys[self.tree.slots.len()];
+        let key = self.tree.keys[self.tree.slots.len()] as u64;
         make_room(&mut self.index, &self.tree);
         put(
             &mut self.index,

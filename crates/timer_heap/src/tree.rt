@@ -6,7 +6,7 @@ ghost use Rattle.timer_queue.specs.Timers.{comes_before, AreApart};
 ghost use Rattle.timer_heap.specs.Heap.{parent, IsHeap, OnPath};
 ghost use Rattle.timer_heap.specs.Tree.{StaysClear, HasKeys, KeepsRoom, AreMoved, IsHeapBelow, IsHeapAbove, IsHeapAround, ArePairs, place_in};
 
-use crate::index::Numbered;
+use timer_index::Numbered;
 use timer_queue::Timer;
 
 /// The timers of a heap, with a key for each place.
@@ -187,7 +187,7 @@ pub fn add(tree: &mut Tree, t: Timer)
 pub fn place_of(tree: &Tree, entry: &Numbered) -> Option<usize>
     ensures { result ≡ place_in tree.now.slots.items tree.now.places.items entry.now }
 {
-    let place = *tree.places.get(entry.key)?;
+    let place = *tree.places.get(entry.key as usize)?;
     let t = tree.slots.get(place)?;
     if t.timer == entry.timer {
         Some(place)

@@ -2,7 +2,7 @@ use Rattle.std.proofs.Common.{◌≡◌, ◌≤◌, ap, sym, subst, rules, arith
 use Rattle.std.proofs.lemmas.Fn.{filter_same}
 use Rattle.std.proofs.lemmas.List.Elements.{filter_passes}
 use Rattle.std.specs.List.{filter}
-use Rattle.timer_heap.specs.declared.index.Numbered.{Numbered}
+use Rattle.timer_index.specs.declared.index.Numbered.{Numbered}
 use Rattle.timer_heap.specs.Tree.{IsIndex, place_in}
 use Rattle.timer_heap.proofs.Removals.{leads, index_filtered, length-leading}
 use Rattle.timer_heap.proofs.index.make_room.Goals as goal

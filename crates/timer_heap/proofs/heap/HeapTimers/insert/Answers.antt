@@ -16,17 +16,17 @@ invariant_of-self c =
     let tree = c.self.inside.tree in
     let slots : List Timer = tree.slots.items in
     let fresh : is_scheduled c.args.t.timer (in_order slots) ≡ false = ap (λ q. is_scheduled c.args.t.timer (in_order q.slots)) c.self.view_is ∙ c.requires.fresh in
-    let key : c.index-key.result.now ≡ get_or tree.keys.items (length slots) 0 =
+    let key : c.index.result.now ≡ get_or tree.keys.items (length slots) 0 =
     let spare : length tree.keys.items - length slots ≡ c.args.self.now.spare = ap (λ q. q.spare) c.self.view_is in
     let within : length slots < length tree.keys.items = omega (arith, c.requires.room) in
     let at : c.len.result ≡ length slots = omega arith in
-    get_or_read tree.keys.items (length slots) c.index-key.result.now within (rw at at c.index-key.ensures) 0 in
+    get_or_read tree.keys.items (length slots) c.index.result.now within (rw at at c.index.ensures) 0 in
     record {
       heap = c.add.ensures.heap;
       apart = apart_moved _ _ _ _ c.add.ensures.moved (apart_push c.args.t slots c.self.invariant.apart fresh);
       keyed = c.add.ensures.keyed;
       each_key = c.add.ensures.room.places ∙ c.self.invariant.each_key ∙ sym c.add.ensures.moved.keys;
-      indexed = index_added c.make_room.new.index.items c.put.new.index.items slots c.add.new.tree.slots.items tree.keys.items c.add.new.tree.keys.items c.args.t c.index-key.result.now
+      indexed = index_added c.make_room.new.index.items c.put.new.index.items slots c.add.new.tree.slots.items tree.keys.items c.add.new.tree.keys.items c.args.t c.index.result.now
           c.make_room.ensures.sound c.put.ensures.rising c.put.ensures.there c.put.ensures.others key (unscheduled c.args.t.timer slots fresh) c.add.ensures.moved.pairs;
       slots_fit = omega (arith, c.self.invariant.slots_fit, c.add.ensures.moved.keys);
       index_fits = omega (arith, c.self.invariant.index_fits, c.add.ensures.moved.keys);

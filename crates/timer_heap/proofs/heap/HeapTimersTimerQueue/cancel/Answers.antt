@@ -3,7 +3,7 @@ use Rattle.timer_queue.specs.declared.timer.Timer.{Timer}
 use Rattle.timer_queue.specs.Timers.{in_order, is_scheduled, without_timer}
 use Rattle.timer_queue.proofs.Schedules.{without_timer-fresh}
 use Rattle.timer_queue.proofs.Members.{is_scheduled-same, members_in_order}
-use Rattle.timer_heap.specs.declared.index.Numbered.{Numbered}
+use Rattle.timer_index.specs.declared.index.Numbered.{Numbered}
 use Rattle.timer_queue.proofs.Contents.{in_order-removed, was_scheduled, length_removed}
 use Rattle.timer_heap.proofs.Removals.{unlisted, led_nowhere, found_from, sound_taken}
 use Rattle.timer_heap.proofs.heap.HeapTimersTimerQueue.cancel.Goals as goal

@@ -1,9 +1,9 @@
 use Rattle.std.proofs.Common.{arith, ap, ◌∙◌, ◌≡◌, length, get_or, ◌<◌}
 use Rattle.std.proofs.lemmas.List.{get_or_default}
-use Rattle.timer_heap.specs.declared.index.Numbered.{Numbered}
-use Rattle.timer_heap.proofs.Entries.{not_numbered, one_entry}
-use Rattle.timer_heap.proofs.index.entry_of.Goals as goal
-use Rattle.timer_heap.proofs.index.entry_of.Goals.{else-place-index-via-then-place-index+else-index-place, else-place-index-via-else-place-index}
+use Rattle.timer_index.specs.declared.index.Numbered.{Numbered}
+use Rattle.timer_index.proofs.Entries.{not_numbered, one_entry}
+use Rattle.timer_index.proofs.index.entry_of.Goals as goal
+use Rattle.timer_index.proofs.index.entry_of.Goals.{else-place-index-via-then-place-index+else-index-place, else-place-index-via-else-place-index}
 
 pub returns-then-index-place : goal.returns-then-index-place
 returns-then-index-place c =

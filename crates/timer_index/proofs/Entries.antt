@@ -1,12 +1,13 @@
--- The index of a heap.
-use Rattle.std.proofs.Common.{ℕ, ◌≡◌, ◌≢◌, ◌<◌, ◌≤◌, true, List, length, get_or, sym, ap, ◌∙◌, subst, arith, ◌⊎◌, inl, inr, Contains}
-use Rattle.std.proofs.lemmas.Bool.{cases_eq, cases_lt, lt-ltb, ltb-true}
+-- Entries that rise by number.
+use Rattle.std.proofs.Common.{ℕ, ◌≡◌, ◌≢◌, ◌<◌, ◌≤◌, ◌-◌, Bool, true, false, eqb, List, length, get_or, sym, ap, ◌∙◌, subst, arith, ◌⊎◌, inl, inr, Contains}
+use Rattle.std.proofs.lemmas.Bool.{cases_eq, cases_lt, lt-ltb, ltb-true, eq-eqb, ne_eqb, eqb-false}
+use Rattle.std.proofs.lemmas.Map.Keys.{apart_from_distinct, IsDistinct-from_apart, IsDistinct-IsPermutation}
 use Rattle.std.proofs.lemmas.List.{get_or_default}
-use Rattle.std.specs.List.{All, AllWithin, HoldsAt}
-use Rattle.std.specs.List.Sorted.{IsPartitionedBy}
+use Rattle.std.specs.List.{All, AllPairs, AllWithin, HoldsAt, IsDistinct}
+use Rattle.std.specs.List.Sorted.{IsPartitionedBy, IsPermutation, IsNonDecreasingBy}
 use Rattle.std.specs.Prelude.{nat_lt}
-use Rattle.timer_heap.specs.declared.index.Numbered.{Numbered}
-use Rattle.timer_heap.specs.Tree.{IsRising}
+use Rattle.timer_index.specs.declared.index.Numbered.{Numbered}
+use Rattle.timer_index.specs.Index.{IsRising}
 
 -- in a rising index the numbers below one stand in front
 pub rising_parted : (index : List Numbered) (timer : ℕ) → IsRising index → IsPartitionedBy (λ e. nat_lt e.timer timer) index
@@ -57,3 +58,34 @@ one_entry index place e f rising l at has same =
   where
     order : (m n : ℕ) → m ≢ n → (m < n) ⊎ (n < m)
     order m n ne = grind arith
+
+-- the last has the greatest number
+pub all_below : (index : List Numbered) (timer : ℕ) → IsRising index → (0 < length index) × ((d : Numbered) → (get_or index (length index - 1) d).timer < timer) → AllWithin (λ e. e.timer < timer) index 0 (length index)
+all_below index timer rising last k d low l =
+    let b : (get_or index (length index - 1) d).timer < timer = last.1 d in
+    elim (cases_eq k (length index - 1)) [
+      | inl same ↦ subst (λ i. (get_or index i d).timer < timer) (sym same) b
+      | inr differs ↦
+          let r : (get_or index k d).timer < (get_or index (length index - 1) d).timer = rising k (length index - 1) d (omega (arith, differs, l)) (omega arith) in
+          omega arith
+    ]
+
+-- entries of different numbers, sorted by them
+pub rises_sorted : (old new : List Numbered) → AllPairs (λ e f. e.timer ≢ f.timer) old → IsPermutation old new → IsNonDecreasingBy (λ e. e.timer) new → IsRising new
+rises_sorted old new apart moved sorted i j d less within =
+    let distinct : IsDistinct same new = IsDistinct-IsPermutation same flips old new moved (IsDistinct-from_apart same old (λ a b x l m. ne_eqb _ _ (apart a b x l m))) in
+    let differs : same (get_or new i d) (get_or new j d) ≡ false = apart_from_distinct same new i j d distinct less within in
+    let order : (get_or new i d).timer ≤ (get_or new j d).timer = sorted i j d (omega (arith, less)) within in
+    below (get_or new i d).timer (get_or new j d).timer order (eqb-false _ _ differs)
+  where
+    same : Numbered → Numbered → Bool
+    same e f = eqb e.timer f.timer
+
+    flips : (e f : Numbered) → same e f ≡ same f e
+    flips e f = elim (cases_eq e.timer f.timer) [
+      | inl is ↦ eq-eqb _ _ is ∙ sym (eq-eqb _ _ (sym is))
+      | inr not_so ↦ ne_eqb _ _ not_so ∙ sym (ne_eqb _ _ (λ is. not_so (sym is)))
+    ]
+
+    below : (a b : ℕ) → a ≤ b → (a ≡ b → ⊥) → a < b
+    below a b l ne = grind arith
