@@ -4,9 +4,8 @@ use Rattle.std.proofs.lemmas.Bool.{and_parts, cases_Bool, cond-true, cond-false,
 use Rattle.std.proofs.lemmas.List.{length-map, take_more, map-append, append-nil, append_assoc, take-append-drop, get_or_default}
 use Rattle.std.proofs.lemmas.Option.{slice_get-get_or}
 use Rattle.std.proofs.lemmas.List.Elements.{All-map}
-use Rattle.std.proofs.lemmas.List.Folds.{list_any_none}
 use Rattle.std.proofs.lemmas.List.Sorted.{IsPermutation-refl}
-use Rattle.std.specs.List.{list_all, filter, slice_get, All, AllWithin}
+use Rattle.std.specs.List.{list_all, filter, slice_get, All}
 use Rattle.std.specs.List.Sorted.{IsPermutation}
 use Rattle.std.specs.Option.{option_map}
 use Rattle.timer_queue.specs.declared.timer.Timer.{Timer}
@@ -273,11 +272,6 @@ none_reached now t (u ∷ rest) rising e l = none_due now (u ∷ rest) rising (�
 pub behind : (first : Option Timer) (t f : Timer) → is_behind first t ≡ true → first ≡ Some f → f.timer ≢ t.timer
 behind first t f h e same =
     both_ways (f.timer == t.timer) (not-true _ (ap (λ o. is_behind o t) (sym e) ∙ h)) (eq-eqb _ _ same)
-
--- a search of the places
-pub nowhere_scheduled : (number : ℕ) (places : List Place) → AllWithin (λ p. (p.timer.timer == number) ≡ false) places 0 (length places) → is_scheduled number (timers_of places) ≡ false
-nowhere_scheduled number places h =
-    list_any_none (λ t. t.timer == number) (timers_of places) (All-map (λ t. (t.timer == number) ≡ false) (λ p. p.timer) places (λ k d l. h k d (omega arith) l))
 
 pub all_timers : (q : Timer → Bool) (places : List Place) → ((k : ℕ) (d : Place) → k < length places → q (get_or places k d).timer ≡ true) → All (λ t. q t ≡ true) (timers_of places)
 all_timers q places h = All-map (λ t. q t ≡ true) (λ p. p.timer) places h

@@ -7,3 +7,4 @@ pub mod Firsts
 pub mod Ticks
 pub mod Hints
 pub mod Forward
+pub mod Kept

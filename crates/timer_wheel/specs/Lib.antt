@@ -1,3 +1,4 @@
 pub mod Spokes
 pub mod Content
 pub mod Chains
+pub mod Index

@@ -1,15 +1,18 @@
 //! The chains of a wheel: the places of each spoke, linked in order of (deadline, timer).
-ghost use Rattle.std.specs.Prelude.{◌≡◌, ◌<◌, ◌≤◌, ◌%◌, ◌/◌, ◌++◌, ◌∷◌, [], ℕ, List, length, true, false, vec_len, vec_capacity, replicate, None, Some, IfOk, slice_get, Contains};
+ghost use Rattle.std.specs.Prelude.{◌≡◌, ◌<◌, ◌≤◌, ◌%◌, ◌/◌, ◌++◌, ◌∷◌, [], ℕ, List, length, true, false, vec_len, vec_capacity, replicate, None, Some, IfOk, IfSome, IfNone, slice_get, Contains};
 ghost use Rattle.std.specs.List.Sorted.{IsPermutation};
 ghost use Rattle.timer_queue.specs.declared.timer.Timer.{Timer};
 ghost use Rattle.timer_queue.specs.Timers.{is_rising, is_scheduled, with_timer, without_timer, in_order, AreApart, IsSchedule};
 ghost use Rattle.timer_wheel.specs.declared.place.Place.{Place};
 ghost use Rattle.timer_wheel.specs.Spokes.{Follows, spoke_of, timers_of};
+ghost use Rattle.timer_wheel.specs.Index.{entry_of_timer};
 ghost use Rattle.timer_wheel.specs.Chains.{IsGap, IsStart, ComesForward, Walked, AreChains, HasAllBut, linked_heads, linked_places};
 
 use crate::Place;
 use crate::hint::{follow, name_place, start_for};
+use ev_types::Handle;
 use std::alloc::{AllocError, Global};
+use timer_index::Numbered;
 use timer_queue::Timer;
 
 /// Where a timer stands, or would stand, in a chain.
@@ -138,6 +141,51 @@ pub fn add(
     });
     link(heads, places, spoke, gap.last, Some(place));
     name_place(hints, resolution, &t, place);
+}
+
+// The timer of an entry, where it is there. It is looked for in the chain of its spoke, from a hint on.
+pub fn find(
+    heads: &[Option<usize>],
+    places: &[Place],
+    hints: &[usize],
+    resolution: u64,
+    entry: Numbered,
+) -> Option<Timer>
+    requires ticks { 0 < resolution }
+    requires spokes { 0 < length heads.now }
+    requires apart { AreApart (timers_of places.now) }
+    requires chains { AreChains (length heads.now) resolution heads.now places.now (in_order (timers_of places.now)) }
+    ensures there { IfSome result (λ t. Contains (timers_of places.now) t) }
+    ensures number { IfSome result (λ t. t.timer ≡ entry.timer) }
+    ensures none { IfNone result ((t : Timer) → Contains (timers_of places.now) t → entry_of_timer t ≡ entry → ⊥) }
+{
+    let sought = Timer {
+        deadline: entry.key,
+        timer: entry.timer,
+        handle: Handle(0),
+        every: 0,
+    };
+    let spoke = spoke(heads.len(), resolution, entry.key);
+    let head = heads[spoke];
+    let start = start_for(
+        hints,
+        places,
+        head,
+        heads.len(),
+        resolution,
+        &sought,
+        places.len(),
+    );
+    let gap = gap_of(places, head, start, &sought);
+    let Some(k) = gap.at else { return None };
+    let Some(place) = places.get(k) else {
+        return None;
+    };
+    if place.timer.timer == entry.timer {
+        Some(place.timer)
+    } else {
+        None
+    }
 }
 
 // Moves the last place into one that no chain leads to.

@@ -4,6 +4,7 @@
 mod chain;
 mod first;
 mod hint;
+mod index;
 mod place;
 mod wheel;
 

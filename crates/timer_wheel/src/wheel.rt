@@ -6,12 +6,14 @@ ghost use Rattle.timer_wheel.specs.Chains.{ComesForward, IsWheel};
 ghost use Rattle.timer_wheel.specs.Spokes.{timers_of, of_spoke, Follows};
 
 use crate::Place;
-use crate::chain::{add, no_heads, take_out};
+use crate::chain::{add, find, no_heads, take_out};
 use crate::first::{earlier, find_next, is_behind};
 use crate::hint::fill_up;
+use crate::index::enter;
 use ev_types::{Handle, NoMemory};
 use std::alloc::Global;
 use std::marker::Model;
+use timer_index::{Numbered, entry_of};
 use timer_queue::{Timer, TimerQueue};
 
 /// A timer queue that is a wheel of `SPOKES` chains. A timer stands in the spoke of its tick, which is its
@@ -28,18 +30,22 @@ pub struct WheelTimers<const SPOKES: usize> {
     resolution: u64,
     // The timer that comes due first.
     first: Option<Timer>,
+    // By number. A timer that left may still have an entry, which leads to no timer.
+    index: Vec<Numbered>,
+    // How many timers fit.
+    room: usize,
 }
 
 impl<const SPOKES: usize> Model for WheelTimers<SPOKES> {
-    ghost use Rattle.std.specs.Prelude.{◌-◌, vec_len, vec_capacity};
+    ghost use Rattle.std.specs.Prelude.{◌-◌, length, vec_capacity};
     ghost use Rattle.timer_wheel.specs.Content.{Content};
-    ghost use Rattle.timer_wheel.specs.Chains.{IsWheel};
+    ghost use Rattle.timer_wheel.specs.Index.{IsKept};
 
     ghost Value = { Content };
 
-    ghost view = { λ w. record { heads = w.heads.items; places = w.places.items; resolution = w.resolution; spare = vec_capacity w.places - vec_len w.places } };
+    ghost view = { λ w. record { heads = w.heads.items; places = w.places.items; resolution = w.resolution; spare = w.room - length w.places.items } };
 
-    ghost invariant = { λ w. IsWheel SPOKES w.resolution w.heads.items w.places.items w.first };
+    ghost invariant = { λ w. IsKept SPOKES w.resolution w.heads.items w.places.items w.first w.index.items w.room (vec_capacity w.places) (vec_capacity w.index) };
 }
 
 impl<const SPOKES: usize> WheelTimers<SPOKES> {
@@ -59,6 +65,8 @@ impl<const SPOKES: usize> WheelTimers<SPOKES> {
             hints: Vec::new(alloc),
             resolution,
             first: None,
+            index: Vec::new(alloc),
+            room: 0,
         })
     }
 
@@ -87,17 +95,27 @@ impl<const SPOKES: usize> TimerQueue for WheelTimers<SPOKES> {
 
     fn reserve(&mut self, n: usize) -> Result<(), NoMemory> {
         let held = self.places.len();
-        if n <= self.places.capacity() - held {
+        if n <= self.room - held {
             return Ok(());
         }
-        self.hints
-            .reserve(held.saturating_add(n).saturating_sub(self.hints.len()))?;
+        let Some(end) = held.checked_add(n) else {
+            return Err(NoMemory);
+        };
+        // Half of the index may be entries of timers that left, so that they are seldom sought out.
+        let Some(entries) = end.checked_mul(2) else {
+            return Err(NoMemory);
+        };
+        self.hints.reserve(end.saturating_sub(self.hints.len()))?;
+        self.index
+            .reserve(entries.saturating_sub(self.index.len()))?;
         self.places.reserve(n)?;
+        self.room = self.places.capacity().min(self.index.capacity() / 2);
         fill_up(&mut self.hints, &self.places, self.resolution);
         Ok(())
     }
 
     fn schedule(&mut self, t: Timer) {
+        enter(&mut self.index, &self.places, &t);
         add(
             &mut self.heads,
             &mut self.places,
@@ -109,10 +127,18 @@ impl<const SPOKES: usize> TimerQueue for WheelTimers<SPOKES> {
     }
 
     fn cancel(&mut self, timer: u64) -> bool {
-        let Some(place) = self.places.iter().position(|p| p.timer.timer == timer) else {
+        let Some(entry) = entry_of(&self.index, timer) else {
             return false;
         };
-        let t = self.places[place].timer;
+        let Some(t) = find(
+            &self.heads,
+            &self.places,
+            &self.hints,
+            self.resolution,
+            entry,
+        ) else {
+            return false;
+        };
         remove(
             &mut self.heads,
             &mut self.places,

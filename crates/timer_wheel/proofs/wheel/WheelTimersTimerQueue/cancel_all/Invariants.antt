@@ -3,6 +3,7 @@ use Rattle.std.specs.Vec.{vec_capacity}
 use Rattle.timer_queue.specs.Timers.{in_order, without_handle}
 use Rattle.timer_wheel.specs.Spokes.{timers_of}
 use Rattle.timer_wheel.specs.Chains.{IsClear, IsWheel}
+use Rattle.timer_wheel.specs.Index.{Covers}
 use Rattle.timer_wheel.proofs.wheel.WheelTimersTimerQueue.cancel_all.Given as goal
 
 abbrev pub invariant-loop-end : goal.invariant-loop-end
@@ -15,6 +16,9 @@ invariant-loop-end g l =
       others : without_handle l.handle.0 (in_order (timers_of w.places.items)) ≡ without_handle l.handle.0 (in_order (timers_of before.places.items));
       capacity : vec_capacity w.places ≡ vec_capacity before.places;
       fewer : length w.places.items ≤ length before.places.items;
+      index : w.index ≡ before.index;
+      room : w.room ≡ before.room;
+      covers : Covers w.index.items (timers_of w.places.items);
       within : l.end ≤ length w.places.items;
       clear : IsClear l.handle.0 w.places.items l.end;
     }
