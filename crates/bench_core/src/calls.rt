@@ -2,7 +2,8 @@
 //! journal is the same.
 ghost use Rattle.std.specs.Prelude.{◌≡◌, ◌≤◌, IfOk, length, true};
 ghost use Rattle.demux.specs.PlayNet.{do_not_fall, are_bounded};
-ghost use Rattle.core_rows.specs.Idle.{AreOutOrOne, IsIdle, IsOut};
+ghost use Rattle.core_loop.specs.Idle.{IsIdle, IsOut};
+ghost use Rattle.core_rows.specs.Idle.{AreOutOrOne};
 ghost use Rattle.core_rows.specs.Play.{play_rows};
 
 use crate::runs::Refused;

@@ -1,6 +1,6 @@
 //! Runs of a reactor with so many handles, by what was reported and by what was posted.
 ghost use Rattle.std.specs.Prelude.{◌≤◌, IfOk};
-ghost use Rattle.core_rows.specs.Idle.{IsIdle};
+ghost use Rattle.core_loop.specs.Idle.{IsIdle};
 ghost use Rattle.core_rows.specs.RoundRobin.{round_robin_rows};
 
 use crate::gaps::{Gaps, next_random};

@@ -1,6 +1,6 @@
 //! The one-thread reactor over the same net, for comparison.
 ghost use Rattle.std.specs.Prelude.{◌≤◌, IfOk};
-ghost use Rattle.core_rows.specs.Idle.{IsIdle};
+ghost use Rattle.core_loop.specs.Idle.{IsIdle};
 ghost use Rattle.core_rows.specs.RoundRobin.{round_robin_rows};
 
 use crate::events::{EVENTS_OF_WAIT, VOLUME};

@@ -11,7 +11,8 @@ use Rattle.reactor_model.specs.Volumes.{VolumesFacts, tells_nothing}
 use Rattle.reactor_core.specs.Beginning.{CanBegin}
 use Rattle.reactor_core.specs.Ends.{WhereTold}
 use Rattle.reactor_core.specs.Stands.{Stands}
-use Rattle.core_rows.specs.Idle.{RowsOf, IsIdle}
+use Rattle.core_loop.specs.Idle.{IsIdle}
+use Rattle.core_rows.specs.Idle.{RowsOf}
 use Rattle.core_rows.specs.RoundRobin.{round_robin_facts}
 use Rattle.core_rows.specs.declared.round_robin.RoundRobinNet.{RoundRobinNet}
 use Rattle.core_rows.proofs.Idling.{MeaningOf}

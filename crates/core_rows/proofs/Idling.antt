@@ -1,41 +1,29 @@
 -- That no upcall is on its way behind each call.
-use Rattle.std.proofs.Common.{◌+◌, ℕ, ◌≡◌, Bool, true, false, List, [], ◌∷◌, ◌++◌, length, refl, sym, ap, ◌∙◌, subst, Option, Some, None}
+use Rattle.std.proofs.Common.{◌+◌, ℕ, ◌≡◌, Bool, true, false, List, [], ◌∷◌, ◌++◌, length, refl, sym, ap, ◌∙◌, subst}
 use Rattle.std.specs.Prelude.{Result, Ok, Err, OnOk, OnErr, IfOk, if◌then◌else◌}
 use Rattle.ev_types.specs.declared.upcall.Handle.{Handle}
 use Rattle.ev_types.specs.declared.upcall.Kind.{Kind}
-use Rattle.ev_types.specs.declared.upcall.Mask.{Mask}
 use Rattle.ev_base.specs.Terms.{Terms}
 use Rattle.demux.specs.declared.play_end.PlayEnd.{PlayEnd}
 use Rattle.timer_queue.specs.Content.{Content}
 use Rattle.reactor_journal.specs.declared.entry.Entry.{Entry}
-use Rattle.reactor_journal.specs.declared.entry.Entry.TheVariants.{Scheduled, Posted, Stale, Removed, Ended}
+use Rattle.reactor_journal.specs.declared.entry.Entry.TheVariants.{Scheduled, Posted, Stale, Removed}
 use Rattle.reactor_summary.specs.Summary.{Summary, step, is_alive}
 use Rattle.reactor_model.specs.declared.watch.NoWatch.{NoWatch}
 use Rattle.reactor_core.specs.Stands.{Meaning, Stands, StandsAsBefore, HasRoom}
 use Rattle.reactor_core.specs.Requests.{GoesOnBy, WhereStanding}
 use Rattle.reactor_core.specs.Postings.{posting, post_places}
-use Rattle.reactor_core.specs.Polling.{FitsLimit, Polls}
 use Rattle.reactor_core.specs.HandingOver.{HandsDue, HandsOver}
-use Rattle.reactor_core.specs.declared.polling.Polled.{Polled}
-use Rattle.reactor_core.specs.Offering.{RegisterGives}
-use Rattle.reactor_core.specs.Registering.{registered}
-use Rattle.reactor_core.specs.Removing.{Removes, StopsOnce}
-use Rattle.reactor_core.specs.declared.registering.RegisterRefused.{RegisterRefused}
-use Rattle.reactor_core.specs.declared.registering.RegisterRefused.TheVariants.{Stopped, Full, NoMemory, NetFailed}
+use Rattle.reactor_core.specs.Removing.{Removes}
 use Rattle.core_rows.specs.declared.handler.Steady.{Steady}
-use Rattle.core_rows.specs.Idle.{RowsOf, IsIdle, WasStopped}
-use Rattle.core_rows.proofs.Keeping.{sum, sum_more, Keeps, keeps_one, keeps_removed, keeps_closing, keeps_removals, keeps_polled, keeps_registered}
-use Rattle.reactor_core.proofs.Over.{none_live}
+use Rattle.core_loop.specs.Idle.{IsIdle}
+use Rattle.core_rows.specs.Idle.{RowsOf}
+use Rattle.core_loop.proofs.Idling.{idle_keeps, idle_same}
+use Rattle.core_loop.proofs.Keeping.{sum, Keeps, keeps_one, keeps_removed, keeps_closing}
 
 -- what the parts of a reactor of steady handlers mean
 abbrev pub MeaningOf : Type 0 → Type 0 → Type 1
 MeaningOf M V = Meaning Steady M Content NoWatch V ℕ PlayEnd
-
-pub idle_keeps : {M V : Type 0} {m : MeaningOf M V} (old new : RowsOf M V) (i : IsIdle m old) (es : List (Entry ℕ)) → Keeps i.history es → Stands m i.terms new i.first (i.history ++ es) → IsIdle m new
-idle_keeps old new i es k st = record { terms = i.terms; limit = i.limit; first = i.first; history = i.history ++ es; stands = st; none_open = k.opens ∙ i.none_open }
-
-pub idle_same : {M V : Type 0} {m : MeaningOf M V} (old new : RowsOf M V) (i : IsIdle m old) → Stands m i.terms new i.first i.history → IsIdle m new
-idle_same old new i st = record { terms = i.terms; limit = i.limit; first = i.first; history = i.history; stands = st; none_open = i.none_open }
 
 -- a call that appends one entry
 pub goes_on : {M V : Type 0} {m : MeaningOf M V} {A E : Type 0} (old new : RowsOf M V) (result : Result A E) (e : Summary → Entry ℕ) → ((s : Summary) → (step s (e s)).opens ≡ s.opens) → ((s : Summary) → s.ended ≡ true → (step s (e s)).ended ≡ true)
@@ -58,43 +46,11 @@ posting_ended s handle kind from seq = by_cases (is_alive s handle.0)
     by_cases true q = q
     by_cases false q = q
 
-pub registers : {M V : Type 0} {m : MeaningOf M V} (old new : RowsOf M V) (result : Result Handle (Steady × RegisterRefused)) (mask : Mask) (timer : Option (ℕ × ℕ)) (i : IsIdle m old)
-    → RegisterGives m i.terms i.first i.history mask timer old result new → IsIdle m new
-registers old new (Ok handle) mask timer i g = idle_keeps old new i (registered (sum i.history) handle mask timer) (keeps_registered i.history (sum i.history) handle mask timer) g.2
-registers old new (Err (back, Stopped)) mask timer i g = idle_same old new i g.1.stands
-registers old new (Err (back, Full l o)) mask timer i g = idle_same old new i g.4.stands
-registers old new (Err (back, NoMemory)) mask timer i g = idle_same old new i g.1.stands
-registers old new (Err (back, NetFailed)) mask timer i g = idle_same old new i g.2.stands
-
 pub removes : {M V : Type 0} {m : MeaningOf M V} (old new : RowsOf M V) (handle : Handle) (i : IsIdle m old) → Removes m i.terms i.first i.history handle new → IsIdle m new
 removes old new handle i r =
     let k : Keeps i.history (Removed handle ∷ []) = keeps_removed i.history handle in
     let l : Keeps (i.history ++ Removed handle ∷ []) r.entries = keeps_closing (i.history ++ Removed handle ∷ []) _ handle r.entries r.closing in
     record { terms = i.terms; limit = i.limit; first = i.first; history = (i.history ++ Removed handle ∷ []) ++ r.entries; stands = r.stands; none_open = l.opens ∙ (k.opens ∙ i.none_open) }
-
--- a history with no open event that was stopped
-pub record Over {M V : Type 0} (m : MeaningOf M V) (core : RowsOf M V) : Type 0 where
-  pub idle : IsIdle m core
-  pub ended : (sum idle.history).ended ≡ true
-
-pub stopped : {M V : Type 0} {m : MeaningOf M V} (old new : RowsOf M V) (i : IsIdle m old) (b : Bool) → (sum i.history).ended ≡ b → StopsOnce m i.terms i.first i.history new b → Over m new
-stopped old new i true q st = record { idle = record { terms = i.terms; limit = i.limit; first = i.first; history = i.history; stands = st; none_open = i.none_open }; ended = q }
-stopped old new i false q st =
-    let e : sum (i.history ++ Ended ∷ []) ≡ step {N = ℕ} (sum i.history) Ended = sum_more i.history Ended in
-    let k : Keeps (i.history ++ Ended ∷ []) st.entries = keeps_removals (i.history ++ Ended ∷ []) _ _ st.entries st.removals in
-    record {
-      idle = record { terms = i.terms; limit = i.limit; first = i.first; history = (i.history ++ Ended ∷ []) ++ st.entries; stands = st.stands; none_open = k.opens ∙ (ap (λ (s : Summary). s.opens) e ∙ i.none_open) };
-      ended = k.ended (ap (λ (s : Summary). s.ended) e);
-    }
-
-pub over_stopped : {M V : Type 0} {m : MeaningOf M V} (core : RowsOf M V) → Over m core → WasStopped m core
-over_stopped core o = (
-  o.idle.terms,
-  o.idle.first,
-  o.idle.history,
-  o.idle.stands,
-  record { ended = o.ended; none_live = none_live (sum o.idle.history).handles (sum o.idle.history).opens o.idle.none_open (o.idle.stands.settled.none_alive o.ended) o.idle.stands.settled.none_waits },
-)
 
 pub removes_or : {M V : Type 0} {m : MeaningOf M V} {E : Type 0} (old new : RowsOf M V) (handle : Handle) (result : Result (Unit {0}) E) → IsIdle m old
     → OnOk result ((t : Terms) (F : ℕ) (h : List (Entry ℕ)) → Stands m t old F h → Removes m t F h handle new) → OnErr result (new ≡ old) → IsIdle m new
@@ -105,20 +61,6 @@ pub posts : {M V : Type 0} {m : MeaningOf M V} {E : Type 0} (old new : RowsOf M 
     → OnOk result (GoesOnBy m old (λ s. posting s handle kind from seq) new) → OnErr result (StandsAsBefore m old new) → IsIdle m old → IsIdle m new
 posts old new handle kind from seq result ok err i =
     goes_on old new result (λ s. posting s handle kind from seq) (λ s. posting_opens s handle kind from seq) (λ s. posting_ended s handle kind from seq) ok err i
-
--- terms that leave the limit of waits open fit each limit
-pub any_limit : (t : Terms) (most : Option ℕ) → t.limit ≡ None → FitsLimit t most
-any_limit t most none limit is = absurd (not_some (sym none ∙ is))
-  where
-    not_some : {A : Type 0} {a : A} → None ≡ Some a → ⊥
-    not_some q = cc
-
-pub polls : {M V : Type 0} {m : MeaningOf M V} {E : Type 0} (old new : RowsOf M V) (most : Option ℕ) (result : Result Polled E) (i : IsIdle m old)
-    → IfOk result (λ polled. (t : Terms) (F : ℕ) (h : List (Entry ℕ)) → Stands m t old F h → FitsLimit t most → Polls m t F h most polled old new) → OnErr result (StandsAsBefore m old new) → IsIdle m new
-polls old new most (Ok polled) i ok err =
-    let w = (ok i.terms i.first i.history i.stands (any_limit i.terms most i.limit)).waits in
-    idle_keeps old new i _ (keeps_polled i.history w.now w.timers _) w.stands
-polls old new most (Err x) i ok err = idle_same old new i (err i.terms i.first i.history i.stands)
 
 pub schedules : {M V : Type 0} {m : MeaningOf M V} {E : Type 0} (old new : RowsOf M V) (handle : Handle) (delay every : ℕ) (result : Result ℕ E)
     → IfOk result (λ timer. GoesOnBy m old (λ s. Scheduled timer handle (s.moment + delay) every) new) → OnErr result (StandsAsBefore m old new) → IsIdle m old → IsIdle m new

@@ -1,4 +1,3 @@
-pub mod Keeping
 pub mod Idling
 pub mod Upcalls
 pub mod Beginning

@@ -27,10 +27,12 @@ use Rattle.reactor_core.specs.declared.upcalls.StartRefused.{StartRefused}
 use Rattle.reactor_core.proofs.Moves.{found_open}
 use Rattle.reactor_core.proofs.Owed.{opens_returned}
 use Rattle.core_rows.specs.declared.handler.Steady.{Steady}
-use Rattle.core_rows.specs.Idle.{RowsOf, rows, IsOut, AreOut}
+use Rattle.core_loop.specs.Idle.{IsOut}
+use Rattle.core_rows.specs.Idle.{RowsOf, rows, AreOut}
 use Rattle.core_rows.proofs.Idling.{MeaningOf}
-use Rattle.core_rows.proofs.Keeping.{sum, sum_more, Keeps, keeps_closing}
-use Rattle.core_rows.proofs.Upcalls.{StartGave, gave_some, gave_none, fits_started, one_open, out_same, keeps_acted}
+use Rattle.core_loop.proofs.Keeping.{sum, sum_more, Keeps, keeps_closing}
+use Rattle.core_loop.proofs.Upcalls.{StartGave, gave_some, gave_none, fits_started, one_open, keeps_acted}
+use Rattle.core_rows.proofs.Upcalls.{out_same}
 
 -- ---- the start of the second
 

@@ -1,5 +1,5 @@
--- When a reactor of steady handlers stands for a history in which no upcall is on its way, and when it does while one is.
-use Rattle.std.specs.Prelude.{ℕ, ◌≡◌, ◌≢◌, ◌≤◌, false, List, [], length, Option, Some, None}
+-- Reactors of steady handlers, and when one stands for a history in which two upcalls are on their way.
+use Rattle.std.specs.Prelude.{ℕ, ◌≡◌, ◌≢◌, ◌≤◌, false, List, length, Option, Some, None}
 use Rattle.ev_base.specs.Net.{NetFacts}
 use Rattle.ev_base.specs.Terms.{Terms}
 use Rattle.demux.specs.declared.play_end.PlayEnd.{PlayEnd}
@@ -10,13 +10,13 @@ use Rattle.reactor_summary.specs.Summary.{summary}
 use Rattle.reactor_model.specs.Volumes.{VolumesFacts}
 use Rattle.reactor_model.specs.declared.watch.NoWatch.{NoWatch}
 use Rattle.reactor_state.specs.State.{Shows, HasPlaces, IsPlaced}
-use Rattle.reactor_core.specs.Stands.{Meaning, meaning, Stands, StandsWith}
-use Rattle.reactor_core.specs.Beginning.{IsOver}
+use Rattle.reactor_core.specs.Stands.{Meaning, meaning, Stands}
 use Rattle.reactor_core.specs.Upcalls.{DoneFits}
 use Rattle.reactor_core.specs.declared.reactor.Core.{Core}
 use Rattle.reactor_core.specs.declared.job.Done.{Done}
 use Rattle.core_rows.specs.declared.handler.Steady.{Steady}
 use Rattle.core_rows.specs.Handlers.{steady}
+use Rattle.core_loop.specs.Idle.{IsOut}
 
 -- a reactor of steady handlers over a net M, which keeps its timers in a sorted list and hands its volumes over to V
 abbrev pub RowsOf : Type 0 → Type 0 → Type 0
@@ -25,30 +25,6 @@ RowsOf M V = Core Steady M Content NoWatch V ℕ PlayEnd
 -- what its parts mean, by what its net tells and keeps and what its volumes tell
 abbrev pub rows : {M V : Type 0} → (M → NetFacts PlayEnd) → (Terms → M → Type 0) → (V → VolumesFacts ℕ) → Meaning Steady M Content NoWatch V ℕ PlayEnd
 rows facts keeps volumes = meaning steady facts keeps (Shows (λ q. q.timers)) (HasPlaces (λ q. q.spare)) IsPlaced (λ t watch h. Unit {0}) (λ watch. 0) (λ watch. false) (λ watch. 0) volumes
-
--- it stands for a history, on terms that leave the limit of waits open, and no event is open
-pub record IsIdle {M V : Type 0} (m : Meaning Steady M Content NoWatch V ℕ PlayEnd) (core : RowsOf M V) : Type 0 where
-  pub terms : Terms
-  pub limit : terms.limit ≡ None
-  pub first : ℕ
-  pub history : List (Entry ℕ)
-  pub stands : Stands m terms core first history
-  pub none_open : (summary (past_of history)).opens ≡ []
-
--- it stands for such a history, and no event is open but that of an upcall that was made, which is to be settled
-pub record IsOut {M V : Type 0} (m : Meaning Steady M Content NoWatch V ℕ PlayEnd) (core : RowsOf M V) (done : Done Steady ℕ PlayEnd) : Type 0 where
-  pub terms : Terms
-  pub limit : terms.limit ≡ None
-  pub first : ℕ
-  pub history : List (Entry ℕ)
-  pub stands : Stands m terms core first history
-  pub fits : DoneFits m.means terms (past_of history) done
-  pub one_open : length (summary (past_of history)).opens ≤ 1
-
--- it stands so while the upcall is out, or stands idle where there is none
-abbrev pub IsOutOrIdle : {M V : Type 0} → Meaning Steady M Content NoWatch V ℕ PlayEnd → RowsOf M V → Option (Done Steady ℕ PlayEnd) → Type 0
-IsOutOrIdle m core (Some done) = IsOut m core done
-IsOutOrIdle m core None = IsIdle m core
 
 -- it stands for such a history, and no events are open but those of two upcalls that were made, which are to be settled
 pub record AreOut {M V : Type 0} (m : Meaning Steady M Content NoWatch V ℕ PlayEnd) (core : RowsOf M V) (done other : Done Steady ℕ PlayEnd) : Type 0 where
@@ -66,7 +42,3 @@ pub record AreOut {M V : Type 0} (m : Meaning Steady M Content NoWatch V ℕ Pla
 abbrev pub AreOutOrOne : {M V : Type 0} → Meaning Steady M Content NoWatch V ℕ PlayEnd → RowsOf M V → Done Steady ℕ PlayEnd → Option (Done Steady ℕ PlayEnd) → Type 0
 AreOutOrOne m core done (Some other) = AreOut m core done other
 AreOutOrOne m core done None = IsOut m core done
-
--- it stands for a history that is over
-abbrev pub WasStopped : {M V : Type 0} → Meaning Steady M Content NoWatch V ℕ PlayEnd → RowsOf M V → Type 0
-WasStopped m core = StandsWith m (λ t h. IsOver (summary (past_of h))) core

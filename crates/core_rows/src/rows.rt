@@ -1,7 +1,8 @@
 //! Reactors of steady handlers, and their calls.
 ghost use Rattle.std.specs.Prelude.{◌≤◌, IfOk, OnErr, Some};
 ghost use Rattle.reactor_model.specs.Turns.{IsTimer};
-ghost use Rattle.core_rows.specs.Idle.{AreOut, AreOutOrOne, IsIdle, IsOut, IsOutOrIdle, WasStopped};
+ghost use Rattle.core_loop.specs.Idle.{IsIdle, IsOut, IsOutOrIdle, WasStopped};
+ghost use Rattle.core_rows.specs.Idle.{AreOut, AreOutOrOne};
 
 use crate::Steady;
 use demux::PlayEnd;

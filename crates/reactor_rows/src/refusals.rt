@@ -1,6 +1,6 @@
 //! What the calls of a reactor refuse, and what a refusal leaves.
 ghost use Rattle.std.specs.Prelude.{◌≤◌, IfOk};
-ghost use Rattle.core_rows.specs.Idle.{IsIdle};
+ghost use Rattle.core_loop.specs.Idle.{IsIdle};
 ghost use Rattle.core_rows.specs.Play.{play_rows};
 ghost use Rattle.core_rows.specs.RoundRobin.{round_robin_rows};
 

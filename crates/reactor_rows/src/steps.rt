@@ -1,7 +1,7 @@
 //! Runs of a reactor that are laid down: what is called, what each call is to answer, and which entries are to stand in the end.
 ghost use Rattle.std.specs.Prelude.{◌≡◌, ◌≤◌, IfOk, length, true};
 ghost use Rattle.demux.specs.PlayNet.{do_not_fall, are_bounded};
-ghost use Rattle.core_rows.specs.Idle.{IsIdle};
+ghost use Rattle.core_loop.specs.Idle.{IsIdle};
 ghost use Rattle.core_rows.specs.Play.{play_rows};
 
 use core_rows::*;

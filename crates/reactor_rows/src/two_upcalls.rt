@@ -1,5 +1,5 @@
 //! What becomes of two upcalls that are on their way when the first of them stops the reactor, and which wait was over.
-ghost use Rattle.core_rows.specs.Idle.{IsIdle};
+ghost use Rattle.core_loop.specs.Idle.{IsIdle};
 ghost use Rattle.core_rows.specs.Play.{play_rows};
 
 use crate::steps::{NONE, PlayRows, READ, Step, in_the_end, play, reactor};

@@ -20,7 +20,7 @@ use Rattle.reactor_core.specs.Removing.{StopsOnce}
 use Rattle.reactor_core.specs.Stands.{Meaning, Stands, StandsWith}
 use Rattle.reactor_core.specs.declared.reactor.Core.{Core}
 use Rattle.reactor_core.proofs.Over.{none_live}
-use Rattle.core_rows.proofs.Keeping.{Keeps, sum, sum_more, keeps_removals}
+use Rattle.core_loop.proofs.Keeping.{Keeps, sum, sum_more, keeps_removals}
 use Rattle.tp_rows.specs.declared.member.Member.{Member}
 
 -- an event that is not open has no entry among the open ones

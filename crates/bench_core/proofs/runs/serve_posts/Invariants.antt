@@ -1,4 +1,4 @@
-use Rattle.core_rows.specs.Idle.{IsIdle}
+use Rattle.core_loop.specs.Idle.{IsIdle}
 use Rattle.core_rows.specs.RoundRobin.{round_robin_rows}
 use Rattle.bench_core.proofs.runs.serve_posts.Given as goal
 

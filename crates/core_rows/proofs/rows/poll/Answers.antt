@@ -1,5 +1,5 @@
 use Rattle.std.proofs.Common.{None}
-use Rattle.core_rows.proofs.Idling.{any_limit, polls}
+use Rattle.core_loop.proofs.Idling.{any_limit, polls}
 use Rattle.core_rows.proofs.rows.poll.Goals as goal
 
 pub poll-requires : goal.poll-requires

@@ -1,5 +1,5 @@
 use Rattle.std.proofs.Common.{None}
-use Rattle.core_rows.proofs.Idling.{registers}
+use Rattle.core_loop.proofs.Idling.{registers}
 use Rattle.core_rows.proofs.rows.register.Goals as goal
 
 pub returns : goal.returns

@@ -1,5 +1,5 @@
 use Rattle.std.proofs.Common.{Ok, ap, ◌∙◌}
-use Rattle.core_rows.proofs.Upcalls.{goes_out, stays_idle}
+use Rattle.core_loop.proofs.Upcalls.{goes_out, stays_idle}
 use Rattle.core_rows.proofs.rows.start.Goals as goal
 
 pub returns-in-Ok-Some-clause-ok : goal.returns-in-Ok-Some-clause-ok

@@ -1,5 +1,5 @@
 use Rattle.std.specs.Prelude.{refl}
-use Rattle.core_rows.proofs.Idling.{stopped, over_stopped}
+use Rattle.core_loop.proofs.Idling.{stopped, over_stopped}
 use Rattle.core_rows.proofs.rows.stop.Goals as goal
 
 pub returns-clause-idle : goal.returns-clause-idle

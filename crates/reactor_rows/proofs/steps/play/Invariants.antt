@@ -1,4 +1,4 @@
-use Rattle.core_rows.specs.Idle.{IsIdle}
+use Rattle.core_loop.specs.Idle.{IsIdle}
 use Rattle.core_rows.specs.Play.{play_rows}
 use Rattle.reactor_rows.proofs.steps.play.Given as goal
 

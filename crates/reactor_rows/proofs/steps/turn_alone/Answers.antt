@@ -1,7 +1,8 @@
 use Rattle.std.proofs.Common.{Ok, ap, ◌∙◌, subst}
-use Rattle.core_rows.specs.Idle.{IsOut, IsOutOrIdle}
+use Rattle.core_loop.specs.Idle.{IsOut, IsOutOrIdle}
 use Rattle.core_rows.specs.Play.{play_rows}
-use Rattle.core_rows.proofs.Upcalls.{gave_some, gave_none, fits_started, out_same}
+use Rattle.core_loop.proofs.Upcalls.{gave_some, gave_none, fits_started}
+use Rattle.core_rows.proofs.Upcalls.{out_same}
 use Rattle.reactor_rows.proofs.steps.turn_alone.Goals as goal
 
 pub settle-requires : goal.settle-requires
