@@ -1,13 +1,12 @@
 //! Long inputs of `one`: volumes that are handed over, and a write that fails early.
 ghost use Rattle.std.specs.Prelude.{None, ◌==◌, ◌&&◌, ◌-◌, ◌^◌};
 
-use crate::running::{RECORD, room, serve};
+use crate::running::{Left, RECORD, Ran, room, room_for, run_line, see, volumes};
 use ev_base::{Got, MemSink, Source};
 use log_handler::ServerNote;
-use logging_server::Served;
 use reactor_model::{DropVolumes, MemVolumes, check};
-use script_net::ScriptNet;
 use std::alloc::Global;
+use std::process::Abort;
 use std::sync::Wait;
 use std::test::Fail;
 use std::thread::Threads;
@@ -50,54 +49,77 @@ fn bytes(left: u64) -> ByteByByte {
     }
 }
 
+/// What is left of a long run of `one`.
+type Long = Left<MemSink, ByteByByte, MemVolumes<ServerNote>>;
+
 /// Runs `one` on so many bytes, where the takes of these numbers fail.
 fn run_long<R: Threads + Wait + Copy + Send + Sync + 'static>(
     rt: &R,
     alloc: Global,
     count: u64,
     fails: &[u64],
-) -> Result<Served<MemSink, ByteByByte, ScriptNet, MemVolumes<ServerNote>>, Fail> {
-    let output = MemSink::new(alloc, 1 << 21, None).map_err(|_| Fail::from("no room"))?;
-    let volumes = MemVolumes::new(alloc, Vec::from_slice(alloc, fails)?);
-    serve(rt, alloc, bytes(count), output, volumes)
+) -> Result<Long, Fail> {
+    let volumes = volumes(alloc, fails)?;
+    let output = room_for(alloc, 1 << 21, None)?;
+    run_line(rt, alloc, "one", bytes(count), output, volumes)
+}
+
+/// Sees that a journal was handed over to its volumes.
+fn see_handed_over(rt: &impl Abort, left: &Long) {
+    assert_eq!(*rt; left.status, 0);
+    let taken = left.volumes.entries().len();
+    assert!(*rt; taken >= 65_536);
+    assert_eq!(*rt; taken as u64, left.first);
+}
+
+/// Sees the lines of 69,905 records, and that of a closing inside the next.
+fn see_long_lines(rt: &impl Abort, written: &[u8]) {
+    let line = b"0 1,2 7 LM_DEBUG: hi\n".as_slice();
+    let mut lines = written.chunks(line.len());
+    for at in 0..69_905 {
+        assert_eq!(*rt; lines.next(), Some(line), "line {at}");
+    }
+    assert_eq!(*rt; lines.next(), Some(b"0 closed: partial 1\n".as_slice()));
+    assert_eq!(*rt; lines.next(), None);
 }
 
 #[test]
 fn a_long_journal_is_handed_over(rt: HostRuntime) -> Result<(), Fail> {
-    let alloc = rt.alloc();
     // 69,905 records and one byte, each byte a piece
-    let served = run_long(&rt, alloc, 30 * 69_905 + 1, &[])?;
-    assert_eq!(rt; served.status, 0);
-    let taken = served.volumes.entries().len();
-    assert!(rt; taken >= 65_536);
-    assert_eq!(rt; taken as u64, served.first);
-    let line = b"0 1,2 7 LM_DEBUG: hi\n".as_slice();
-    let mut lines = served.output.bytes().chunks(line.len());
-    for at in 0..69_905 {
-        assert_eq!(rt; lines.next(), Some(line), "line {at}");
-    }
-    assert_eq!(rt; lines.next(), Some(b"0 closed: partial 1\n".as_slice()));
-    assert_eq!(rt; lines.next(), None);
+    let left = run_long(&rt, rt.alloc(), 30 * 69_905 + 1, &[])?;
+    see_handed_over(&rt, &left);
+    see_long_lines(&rt, left.output.bytes());
     Ok(())
+}
+
+/// Sees that a run was halted as its first volume was refused.
+fn see_halted(rt: &impl Abort, alloc: Global, left: &Long) {
+    assert_eq!(*rt; (left.status, left.first), (12, 0));
+    // the journal grows by two entries a byte, and holds 65,536 once the last upcall was settled
+    let text = left.output.bytes();
+    assert!(*rt; text.ends_with(b"0 1,2 7 LM_DEBUG: hi\n0 closed: stopped\n"));
+    assert_eq!(*rt; text.len(), 21 * 1_092 + 18);
+    assert_eq!(*rt; check(alloc, left.journal.as_slice(), 1), Ok(()));
+}
+
+/// Runs `one` on many bytes with a sink that fails behind ten bytes, and gives how many bytes are not read, and the rest in few values.
+fn run_broken<R: Threads + Wait + Copy + Send + Sync + 'static>(
+    rt: &R,
+    alloc: Global,
+) -> Result<(u64, Ran), Fail> {
+    let output = room(alloc, Some(10))?;
+    let left = run_line(rt, alloc, "one", bytes(1 << 40), output, DropVolumes)?;
+    Ok((left.input.left, left.ran()))
 }
 
 #[test]
 fn faults_halt_a_long_run(rt: HostRuntime) -> Result<(), Fail> {
     let alloc = rt.alloc();
-    let served = run_long(&rt, alloc, 60_000, &[0])?;
-    assert_eq!(rt; (served.status, served.first), (12, 0));
-    // the journal grows by two entries a byte, and holds 65,536 once the last upcall was settled
-    let text = served.output.bytes();
-    assert!(rt; text.ends_with(b"0 1,2 7 LM_DEBUG: hi\n0 closed: stopped\n"));
-    assert_eq!(rt; text.len(), 21 * 1_092 + 18);
-    assert_eq!(rt; check(alloc, served.journal.as_slice(), 1), Ok(()));
+    let halted = run_long(&rt, alloc, 60_000, &[0])?;
+    see_halted(&rt, alloc, &halted);
     // nothing is read behind the record whose line could not be written
-    let input = bytes(1 << 40);
-    let broken = serve(&rt, alloc, input, room(alloc, Some(10))?, DropVolumes)?;
-    assert_eq!(rt;
-        (broken.status, broken.output.bytes()),
-        (4, b"0 1,2 7 LM".as_slice())
-    );
-    assert_eq!(rt; broken.input.left, (1 << 40) - 30);
+    let (unread, broken) = run_broken(&rt, alloc)?;
+    see(&rt, "a sink that fails", &broken, (4, 0), b"0 1,2 7 LM");
+    assert_eq!(rt; unread, (1 << 40) - 30);
     Ok(())
 }

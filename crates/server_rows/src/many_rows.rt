@@ -1,78 +1,88 @@
 //! Long runs of several workers.
-use crate::running::{room_for, words_of};
+use crate::running::{Left, room_for, run_line, volumes};
 use ev_base::{MemSink, SteadySource};
 use journal_check::check;
-use logging_server::logd_main;
+use log_handler::ServerNote;
 use reactor_model::{DropVolumes, MemVolumes};
 use script_generator::gen_script;
-use script_net::ScriptHost;
+use std::alloc::Global;
+use std::process::Abort;
+use std::sync::Wait;
 use std::test::Fail;
+use std::thread::Threads;
+
+/// What is left of a run whose volumes are kept.
+type Kept = Left<MemSink, SteadySource, MemVolumes<ServerNote>>;
+
+/// How many lines a text has.
+fn count_lines(text: &[u8]) -> usize {
+    text.iter().filter(|byte| **byte == b'\n').count()
+}
+
+/// Runs a script of 80 connections with four workers, where the takes of these numbers fail.
+fn run_many<R: Threads + Wait + Copy + Send + Sync + 'static>(
+    rt: &R,
+    alloc: Global,
+    fails: &[u64],
+) -> Result<Kept, Fail> {
+    let volumes = volumes(alloc, fails)?;
+    let output = room_for(alloc, 1 << 20, None)?;
+    let input = SteadySource::new(gen_script(alloc, 80, 7)?.into_vec());
+    run_line(rt, alloc, "replay --workers 4", input, output, volumes)
+}
+
+/// Sees that a journal was handed over to its volumes.
+fn see_handed_over(rt: &impl Abort, alloc: Global, left: &Kept) {
+    assert_eq!(*rt; left.status, 0);
+    assert_eq!(*rt; count_lines(left.output.bytes()), 10_080);
+    let taken = left.volumes.entries();
+    assert!(*rt; !taken.is_empty());
+    assert!(*rt; taken.len() + left.journal.as_slice().len() > 100_000);
+    assert!(*rt; check(alloc, taken, 1_001).is_ok());
+}
 
 #[test]
 fn a_long_journal_is_handed_over(rt: HostRuntime) -> Result<(), Fail> {
     let alloc = rt.alloc();
-    for (fails, status) in [(None, 0u8), (Some(0u64), 12)] {
-        let mut numbers = Vec::new(alloc);
-        if let Some(number) = fails {
-            numbers.push(number)?;
-        }
-        let script = gen_script(alloc, 80, 7)?;
-        let served = logd_main(
-            &rt,
-            alloc,
-            &words_of(alloc, "replay --workers 4")?,
-            &mut ScriptHost::new(None, true),
-            SteadySource::new(script.into_vec()),
-            room_for(alloc, 1 << 20)?,
-            MemVolumes::new(alloc, numbers),
-        );
-        assert_eq!(rt; served.status, status);
-        if status == 0 {
-            let lines = served
-                .output
-                .bytes()
-                .iter()
-                .filter(|byte| **byte == b'\n')
-                .count();
-            assert_eq!(rt; lines, 10_080);
-            let taken = served.volumes.entries();
-            assert!(rt; !taken.is_empty());
-            assert!(rt; taken.len() + served.journal.as_slice().len() > 100_000);
-            assert!(rt; check(alloc, taken, 1_001).is_ok());
-        }
-    }
+    let left = run_many(&rt, alloc, &[])?;
+    see_handed_over(&rt, alloc, &left);
+    let refused = run_many(&rt, alloc, &[0])?;
+    assert_eq!(rt; refused.status, 12);
+    Ok(())
+}
+
+/// What words write for a script of 40 connections.
+fn grouped<R: Abort + Threads + Wait + Copy + Send + Sync + 'static>(
+    rt: &R,
+    alloc: Global,
+    words: &str,
+) -> Result<MemSink, Fail> {
+    let input = SteadySource::new(gen_script(alloc, 40, 7)?.into_vec());
+    let output = room_for(alloc, 1 << 19, None)?;
+    let ran = run_line(rt, alloc, words, input, output, DropVolumes)?.ran();
+    assert_eq!(*rt; ran.status, 0, "{words}");
+    Ok(ran.output)
+}
+
+/// Sees that words write this text.
+fn see_text<R: Abort + Threads + Wait + Copy + Send + Sync + 'static>(
+    rt: &R,
+    alloc: Global,
+    words: &str,
+    text: &[u8],
+) -> Result<(), Fail> {
+    let written = grouped(rt, alloc, words)?;
+    assert!(*rt; text == written.bytes(), "{words}");
     Ok(())
 }
 
 #[test]
 fn grouped_lines_are_one_text(rt: HostRuntime) -> Result<(), Fail> {
     let alloc = rt.alloc();
-    let mut first: Option<MemSink> = None;
-    for words in [
-        "replay --grouped",
-        "replay --grouped --workers 2",
-        "replay --grouped --workers 8",
-        "replay --grouped --workers 64",
-    ] {
-        let served = logd_main(
-            &rt,
-            alloc,
-            &words_of(alloc, words)?,
-            &mut ScriptHost::new(None, true),
-            SteadySource::new(gen_script(alloc, 40, 7)?.into_vec()),
-            room_for(alloc, 1 << 19)?,
-            DropVolumes,
-        );
-        assert_eq!(rt; served.status, 0, "{words}");
-        match &first {
-            Some(text) => assert!(rt; text.bytes() == served.output.bytes(), "{words}"),
-            None => first = Some(served.output),
-        }
-    }
-    let lines = first.map_or(
-        0,
-        |text| text.bytes().iter().filter(|byte| **byte == b'\n').count(),
-    );
-    assert_eq!(rt; lines, 5_040);
+    let first = grouped(&rt, alloc, "replay --grouped")?;
+    see_text(&rt, alloc, "replay --grouped --workers 2", first.bytes())?;
+    see_text(&rt, alloc, "replay --grouped --workers 8", first.bytes())?;
+    see_text(&rt, alloc, "replay --grouped --workers 64", first.bytes())?;
+    assert_eq!(rt; count_lines(first.bytes()), 5_040);
     Ok(())
 }

@@ -1,189 +1,276 @@
 //! What `one` writes, by its input, with the status and the journal.
-use crate::running::{LINES, RECORD, room, run, serve};
-use ev_base::MemSource;
+use crate::running::{
+    LINES, Left, RECORD, Ran, long_record, room, run_line, run_words, see, source, volumes,
+};
+use ev_base::{MemSink, MemSource};
 use log_handler::ServerNote;
-use logging_server::logd_main;
-use reactor_model::{DropVolumes, Entry, check};
+use reactor_model::{DropVolumes, Entry, MemVolumes, check};
 use script_net::ScriptHost;
 use std::alloc::Global;
+use std::process::Abort;
 use std::sync::Wait;
 use std::test::Fail;
 use std::thread::Threads;
 
+/// What is written for an input that does not begin with a record.
+const MALFORMED: &[u8] = b"0 closed: malformed 0\n";
+
+/// Runs `one` on some pieces, of which the reads of these numbers fail, with a sink that fails behind so many bytes.
+fn run<R: Threads + Wait + Copy + Send + Sync + 'static>(
+    rt: &R,
+    alloc: Global,
+    pieces: &[&[u8]],
+    fails: &[u64],
+    fail_after: Option<u64>,
+) -> Result<Ran, Fail> {
+    let volumes = volumes(alloc, &[])?;
+    let output = room(alloc, fail_after)?;
+    let input = source(alloc, pieces, fails)?;
+    Ok(run_line(rt, alloc, "one", input, output, volumes)?.ran())
+}
+
+/// Runs `one` on a source, and keeps no volumes.
+fn run_source<R: Threads + Wait + Copy + Send + Sync + 'static>(
+    rt: &R,
+    alloc: Global,
+    input: MemSource,
+) -> Result<Ran, Fail> {
+    let output = room(alloc, None)?;
+    Ok(run_line(rt, alloc, "one", input, output, DropVolumes)?.ran())
+}
+
+/// Sees that pieces are served to their end, and what is written for them.
+fn see_lines<R: Abort + Threads + Wait + Copy + Send + Sync + 'static>(
+    rt: &R,
+    alloc: Global,
+    row: &str,
+    pieces: &[&[u8]],
+    lines: &[u8],
+) -> Result<(), Fail> {
+    let ran = run(rt, alloc, pieces, &[], None)?;
+    see(rt, row, &ran, (0, 0), lines);
+    Ok(())
+}
+
+/// Inputs in pieces, and what is written for them.
+const INPUTS: &[(&[&[u8]], &[u8])] = &[
+    (&[RECORD], LINES),
+    (&[], b"0 closed: end\n"),
+    // little-endian, and padding that is not zero
+    (
+        &[b"\x01\xaa\xbb\xcc\x16\0\0\0\x04\0\0\0\x07\0\0\0\x01\0\0\0\x02\0\0\0\x02\0\0\0hi"],
+        LINES,
+    ),
+    // a closing NUL, and eight bytes of slack
+    (
+        &[b"\0\0\0\0\0\0\0\x17\0\0\0\x04\0\0\0\x07\0\0\0\x01\0\0\0\x02\0\0\0\x03hi\0"],
+        LINES,
+    ),
+    (
+        &[
+            b"\0\0\0\0\0\0\0\x1e\0\0\0\x04\0\0\0\x07\0\0\0\x01\0\0\0\x02\0\0\0\x02hi\xff\xff\xff\xff\xff\xff\xff\xff",
+        ],
+        LINES,
+    ),
+    // a header of version 2 whose length is too small
+    (
+        &[RECORD, b"\x02\0\0\0\0\0\0\x16", RECORD],
+        b"0 1,2 7 LM_DEBUG: hi\n0 closed: malformed 30\n",
+    ),
+    // escapes, and a type that is no priority
+    (
+        &[b"\0\0\0\0\0\0\0\x17\0\0\0\x03\xff\xff\xff\xff\0\0\0\x01\0\0\0\x02\0\0\0\x03\x09\\\xe9"],
+        b"0 1,2 -1 3: \\x09\\\\\\xe9\n0 closed: end\n",
+    ),
+    // version 2, both orders, and an unknown version
+    (
+        &[b"\x02\0\0\0\0\0\0\x1a\0\0\0\x04\0\0\0\x07\0\0\0\x01\0\0\0\x01\0\0\0\x02\0\0\0\x02hi"],
+        b"0 4294967297,2 7 LM_DEBUG: hi\n0 closed: end\n",
+    ),
+    (
+        &[b"\x03\0\0\0\x1a\0\0\0\x04\0\0\0\x07\0\0\0\x01\0\0\0\x01\0\0\0\x02\0\0\0\x02\0\0\0hi"],
+        b"0 4294967297,2 7 LM_DEBUG: hi\n0 closed: end\n",
+    ),
+    (&[b"\x04"], b"0 closed: malformed 0\n"),
+    // lengths out of their range, and a message longer than its payload
+    (&[b"\0\0\0\0\0\x01\0\x15"], b"0 closed: malformed 0\n"),
+    (&[b"\0\0\0\0\0\0\0\x13"], b"0 closed: malformed 0\n"),
+    (
+        &[b"\0\0\0\0\0\0\0\x16\0\0\0\x04\0\0\0\x07\0\0\0\x01\0\0\0\x02\0\0\0\x03hi"],
+        b"0 closed: malformed 0\n",
+    ),
+    (
+        &[RECORD, RECORD, b"\0\0\0\0\0\0\0"],
+        b"0 1,2 7 LM_DEBUG: hi\n0 1,2 7 LM_DEBUG: hi\n0 closed: partial 7\n",
+    ),
+];
+
+/// Sees the lines of the inputs' row of this number.
+fn see_input<R: Abort + Threads + Wait + Copy + Send + Sync + 'static>(
+    rt: &R,
+    alloc: Global,
+    number: usize,
+    (pieces, lines): (&[&[u8]], &[u8]),
+) -> Result<(), Fail> {
+    let row = format!(in alloc; "input {number}")?;
+    see_lines(rt, alloc, &row, pieces, lines)
+}
+
 #[test]
 fn inputs_give_their_lines(rt: HostRuntime) -> Result<(), Fail> {
     let alloc = rt.alloc();
-    let table: [(&[&[u8]], &[u8]); 14] = [
-        (&[RECORD], LINES),
-        (&[], b"0 closed: end\n"),
-        // little-endian, and padding that is not zero
-        (
-            &[b"\x01\xaa\xbb\xcc\x16\0\0\0\x04\0\0\0\x07\0\0\0\x01\0\0\0\x02\0\0\0\x02\0\0\0hi"],
-            LINES,
-        ),
-        // a closing NUL, and eight bytes of slack
-        (
-            &[b"\0\0\0\0\0\0\0\x17\0\0\0\x04\0\0\0\x07\0\0\0\x01\0\0\0\x02\0\0\0\x03hi\0"],
-            LINES,
-        ),
-        (
-            &[
-                b"\0\0\0\0\0\0\0\x1e\0\0\0\x04\0\0\0\x07\0\0\0\x01\0\0\0\x02\0\0\0\x02hi\xff\xff\xff\xff\xff\xff\xff\xff",
-            ],
-            LINES,
-        ),
-        // a header of version 2 whose length is too small
-        (
-            &[RECORD, b"\x02\0\0\0\0\0\0\x16", RECORD],
-            b"0 1,2 7 LM_DEBUG: hi\n0 closed: malformed 30\n",
-        ),
-        // escapes, and a type that is no priority
-        (
-            &[
-                b"\0\0\0\0\0\0\0\x17\0\0\0\x03\xff\xff\xff\xff\0\0\0\x01\0\0\0\x02\0\0\0\x03\x09\\\xe9",
-            ],
-            b"0 1,2 -1 3: \\x09\\\\\\xe9\n0 closed: end\n",
-        ),
-        // version 2, both orders, and an unknown version
-        (
-            &[
-                b"\x02\0\0\0\0\0\0\x1a\0\0\0\x04\0\0\0\x07\0\0\0\x01\0\0\0\x01\0\0\0\x02\0\0\0\x02hi",
-            ],
-            b"0 4294967297,2 7 LM_DEBUG: hi\n0 closed: end\n",
-        ),
-        (
-            &[
-                b"\x03\0\0\0\x1a\0\0\0\x04\0\0\0\x07\0\0\0\x01\0\0\0\x01\0\0\0\x02\0\0\0\x02\0\0\0hi",
-            ],
-            b"0 4294967297,2 7 LM_DEBUG: hi\n0 closed: end\n",
-        ),
-        (&[b"\x04"], b"0 closed: malformed 0\n"),
-        // lengths out of their range, and a message longer than its payload
-        (&[b"\0\0\0\0\0\x01\0\x15"], b"0 closed: malformed 0\n"),
-        (&[b"\0\0\0\0\0\0\0\x13"], b"0 closed: malformed 0\n"),
-        (
-            &[b"\0\0\0\0\0\0\0\x16\0\0\0\x04\0\0\0\x07\0\0\0\x01\0\0\0\x02\0\0\0\x03hi"],
-            b"0 closed: malformed 0\n",
-        ),
-        (
-            &[RECORD, RECORD, b"\0\0\0\0\0\0\0"],
-            b"0 1,2 7 LM_DEBUG: hi\n0 1,2 7 LM_DEBUG: hi\n0 closed: partial 7\n",
-        ),
-    ];
-    for (pieces, lines) in table {
-        let served = run(&rt, alloc, pieces, &[], None)?;
-        assert_eq!(rt; served.output.bytes(), lines);
-        assert_eq!(rt; served.status, 0);
+    for (number, row) in INPUTS.iter().enumerate() {
+        see_input(&rt, alloc, number, *row)?;
     }
     Ok(())
+}
+
+/// The bytes of a record, each a piece.
+fn bytewise(alloc: Global) -> Result<MemSource, Fail> {
+    let mut bytes = Vec::new(alloc);
+    for byte in RECORD {
+        bytes.push(Vec::from_slice(alloc, &[*byte])?)?;
+    }
+    Ok(MemSource::new(bytes, Vec::new(alloc)))
+}
+
+/// Sees the lines of a record that is cut into two pieces, and those of the first alone.
+fn see_cut<R: Abort + Threads + Wait + Copy + Send + Sync + 'static>(
+    rt: &R,
+    alloc: Global,
+    front: &[u8],
+    back: &[u8],
+) -> Result<(), Fail> {
+    let cut = front.len();
+    let row = format!(in alloc; "cut after {cut}")?;
+    see_lines(rt, alloc, &row, &[front, back], LINES)?;
+    let partial = format!(in alloc; "0 closed: partial {cut}\n")?;
+    see_lines(rt, alloc, &row, &[front], partial.as_bytes())
 }
 
 #[test]
 fn cutting_does_not_matter(rt: HostRuntime) -> Result<(), Fail> {
     let alloc = rt.alloc();
-    let mut bytes = Vec::new(alloc);
-    for byte in RECORD {
-        bytes.push(Vec::from_slice(alloc, &[*byte])?)?;
-    }
-    let input = MemSource::new(bytes, Vec::new(alloc));
-    let served = serve(&rt, alloc, input, room(alloc, None)?, DropVolumes)?;
-    assert_eq!(rt; served.output.bytes(), LINES);
+    let ran = run_source(&rt, alloc, bytewise(alloc)?)?;
+    see(&rt, "byte by byte", &ran, (0, 0), LINES);
     for cut in 1..30 {
         if cut < RECORD.len() {
-            let front = &RECORD[..cut];
-            let back = &RECORD[cut..];
-            let served = run(&rt, alloc, &[front, back], &[], None)?;
-            assert_eq!(rt; served.output.bytes(), LINES, "cut after {cut}");
-            let partial = run(&rt, alloc, &[front], &[], None)?;
-            let line = format!(in alloc; "0 closed: partial {cut}\n")?;
-            assert_eq!(rt; partial.output.bytes(), line.as_bytes());
+            see_cut(&rt, alloc, &RECORD[..cut], &RECORD[cut..])?;
         }
     }
     Ok(())
 }
 
+/// Places of a record's bytes, and what is written where the byte is 255.
+const CHANGED: &[(usize, &[u8])] = &[
+    (0, MALFORMED),
+    (1, LINES),
+    (2, LINES),
+    (3, LINES),
+    (4, MALFORMED),
+    (5, MALFORMED),
+    (6, b"0 closed: partial 30\n"),
+    (7, b"0 closed: partial 30\n"),
+    (11, b"0 1,2 7 255: hi\n0 closed: end\n"),
+    (24, MALFORMED),
+    (25, MALFORMED),
+    (26, MALFORMED),
+    (27, MALFORMED),
+    (29, b"0 1,2 7 LM_DEBUG: h\\xff\n0 closed: end\n"),
+];
+
+/// Sees the lines of a record one byte of which is 255.
+fn see_changed<R: Abort + Threads + Wait + Copy + Send + Sync + 'static>(
+    rt: &R,
+    alloc: Global,
+    at: usize,
+    lines: &[u8],
+) -> Result<(), Fail> {
+    let row = format!(in alloc; "byte {at}")?;
+    let mut changed = Vec::from_slice(alloc, RECORD)?;
+    if at < changed.len() {
+        changed[at] = 0xff;
+    }
+    see_lines(rt, alloc, &row, &[changed.as_slice()], lines)
+}
+
 #[test]
 fn changed_bytes_are_told(rt: HostRuntime) -> Result<(), Fail> {
     let alloc = rt.alloc();
-    let malformed = b"0 closed: malformed 0\n".as_slice();
-    let table = [
-        (0usize, malformed),
-        (1, LINES),
-        (2, LINES),
-        (3, LINES),
-        (4, malformed),
-        (5, malformed),
-        (6, b"0 closed: partial 30\n"),
-        (7, b"0 closed: partial 30\n"),
-        (11, b"0 1,2 7 255: hi\n0 closed: end\n"),
-        (24, malformed),
-        (25, malformed),
-        (26, malformed),
-        (27, malformed),
-        (29, b"0 1,2 7 LM_DEBUG: h\\xff\n0 closed: end\n"),
-    ];
-    for (at, lines) in table {
-        let mut changed = Vec::from_slice(alloc, RECORD)?;
-        if at < changed.len() {
-            changed[at] = 0xff;
-        }
-        let served = run(&rt, alloc, &[changed.as_slice()], &[], None)?;
-        assert_eq!(rt; served.output.bytes(), lines, "byte {at}");
+    for (at, lines) in CHANGED {
+        see_changed(&rt, alloc, *at, lines)?;
     }
+    Ok(())
+}
+
+/// Sees what is written where a read fails.
+fn see_failed_read<R: Abort + Threads + Wait + Copy + Send + Sync + 'static>(
+    rt: &R,
+    alloc: Global,
+    pieces: &[&[u8]],
+    number: u64,
+    lines: &[u8],
+) -> Result<(), Fail> {
+    let ran = run(rt, alloc, pieces, &[number], None)?;
+    see(rt, "a failed read", &ran, (3, 0), lines);
+    Ok(())
+}
+
+/// Sees what is written where the sink fails behind so many bytes.
+fn see_failed_write<R: Abort + Threads + Wait + Copy + Send + Sync + 'static>(
+    rt: &R,
+    alloc: Global,
+    taken: usize,
+) -> Result<(), Fail> {
+    let ran = run(rt, alloc, &[RECORD], &[], Some(taken as u64))?;
+    let lines = LINES.get(..taken).ok_or("behind the lines")?;
+    let status = if taken < 35 { 4 } else { 0 };
+    see(rt, "a failed write", &ran, (status, 0), lines);
     Ok(())
 }
 
 #[test]
 fn faults_have_their_status(rt: HostRuntime) -> Result<(), Fail> {
     let alloc = rt.alloc();
-    let first = run(&rt, alloc, &[RECORD], &[0], None)?;
-    assert_eq!(rt; first.output.bytes(), b"0 closed: failed\n".as_slice());
-    assert_eq!(rt; first.status, 3);
-    let second = run(&rt, alloc, &[RECORD, RECORD], &[1], None)?;
-    assert_eq!(rt;
-        second.output.bytes(),
-        b"0 1,2 7 LM_DEBUG: hi\n0 closed: failed\n".as_slice()
-    );
-    assert_eq!(rt; second.status, 3);
-    for taken in 0..36usize {
-        let cut = run(&rt, alloc, &[RECORD], &[], Some(taken as u64))?;
-        if taken <= LINES.len() {
-            assert_eq!(rt; cut.output.bytes(), &LINES[..taken]);
-        }
-        assert_eq!(rt; cut.status, if taken < 35 { 4 } else { 0 });
+    see_failed_read(&rt, alloc, &[RECORD], 0, b"0 closed: failed\n")?;
+    let lines = b"0 1,2 7 LM_DEBUG: hi\n0 closed: failed\n";
+    see_failed_read(&rt, alloc, &[RECORD, RECORD], 1, lines)?;
+    for taken in 0..36 {
+        see_failed_write(&rt, alloc, taken)?;
     }
     Ok(())
 }
 
-/// A header with the fields of a record, and 65,536 bytes of a message, as two pieces.
-pub(crate) fn long_record(alloc: Global, header: &[u8]) -> Result<MemSource, Fail> {
-    let mut pieces = Vec::new(alloc);
-    pieces.push(Vec::from_slice(alloc, header)?)?;
-    pieces.push(vec![in alloc; b'a'; 65_536]?)?;
-    Ok(MemSource::new(pieces, Vec::new(alloc)))
+/// The lines of a record with a message of 65,536 bytes.
+fn longest_lines(alloc: Global) -> Result<Vec<u8>, Fail> {
+    let mut lines = Vec::from_slice(alloc, b"0 1,2 7 LM_DEBUG: ")?;
+    for _ in 0..65_536 {
+        lines.push(b'a')?;
+    }
+    lines.extend_from_slice(b"\n0 closed: end\n")?;
+    Ok(lines)
+}
+
+/// Sees what is written for a header and a message of 65,536 bytes.
+fn see_long<R: Abort + Threads + Wait + Copy + Send + Sync + 'static>(
+    rt: &R,
+    alloc: Global,
+    header: &[u8],
+    lines: &[u8],
+) -> Result<(), Fail> {
+    let ran = run_source(rt, alloc, long_record(alloc, header)?)?;
+    see(rt, "a long record", &ran, (0, 0), lines);
+    Ok(())
 }
 
 #[test]
 fn the_longest_message_fits(rt: HostRuntime) -> Result<(), Fail> {
     let alloc = rt.alloc();
     let header = b"\0\0\0\0\0\x01\0\x14\0\0\0\x04\0\0\0\x07\0\0\0\x01\0\0\0\x02\0\x01\0\0";
-    let input = long_record(alloc, header)?;
-    let served = serve(&rt, alloc, input, room(alloc, None)?, DropVolumes)?;
-    let mut lines = Vec::from_slice(alloc, b"0 1,2 7 LM_DEBUG: ")?;
-    for _ in 0..65_536 {
-        lines.push(b'a')?;
-    }
-    lines.extend_from_slice(b"\n0 closed: end\n")?;
-    assert_eq!(rt; served.output.bytes(), lines.as_slice());
     let longer = b"\0\0\0\0\0\x01\0\x14\0\0\0\x04\0\0\0\x07\0\0\0\x01\0\0\0\x02\0\x01\0\x01";
-    let input = long_record(alloc, longer)?;
-    let refused = serve(&rt, alloc, input, room(alloc, None)?, DropVolumes)?;
-    assert_eq!(rt;
-        refused.output.bytes(),
-        b"0 closed: malformed 0\n".as_slice()
-    );
-    assert_eq!(rt; (refused.status, refused.at), (0, 0));
-    Ok(())
+    see_long(&rt, alloc, longer, MALFORMED)?;
+    let lines = longest_lines(alloc)?;
+    see_long(&rt, alloc, header, &lines)
 }
 
 /// A note in a few words: of a record its numbers and its message.
@@ -230,74 +317,94 @@ fn entry_words(alloc: Global, entry: &Entry<ServerNote>) -> Result<String, Fail>
     })
 }
 
-#[test]
-fn one_record_has_its_journal(rt: HostRuntime) -> Result<(), Fail> {
-    let alloc = rt.alloc();
-    let served = run(&rt, alloc, &[RECORD], &[], None)?;
-    let journal = served.journal.as_slice();
-    assert_eq!(rt; served.first, 0);
-    assert_eq!(rt; served.volumes.entries().len(), 0);
-    assert_eq!(rt; check(alloc, journal, 1), Ok(()));
-    let entries = [
-        "opened 0 Mask { read: true, write: false, except: false }",
-        "polled 0",
-        "ready 0 Read",
-        "started 2",
-        "returned 2 Again piece 0 30 of 4 7 1 2 2",
-        "started 4",
-        "returned 4 Close piece 0 0",
-        "closed 0 end 0 End",
-        "polled 0",
-        "ended",
-    ];
-    assert_eq!(rt; journal.len(), entries.len());
-    for (entry, words) in journal.iter().zip(entries) {
-        assert_eq!(rt; entry_words(alloc, entry)?.as_str(), words);
+/// The journal of a run on one record, an entry in a few words.
+const ENTRIES: &[&str] = &[
+    "opened 0 Mask { read: true, write: false, except: false }",
+    "polled 0",
+    "ready 0 Read",
+    "started 2",
+    "returned 2 Again piece 0 30 of 4 7 1 2 2",
+    "started 4",
+    "returned 4 Close piece 0 0",
+    "closed 0 end 0 End",
+    "polled 0",
+    "ended",
+];
+
+/// Sees that a journal is legal, and that its entries are these.
+fn see_entries(rt: &impl Abort, alloc: Global, journal: &[Entry<ServerNote>]) -> Result<(), Fail> {
+    assert_eq!(*rt; check(alloc, journal, 1), Ok(()));
+    assert_eq!(*rt; journal.len(), ENTRIES.len());
+    for (entry, words) in journal.iter().zip(ENTRIES) {
+        let told = entry_words(alloc, entry)?;
+        assert_eq!(*rt; told.as_str(), *words);
     }
     Ok(())
 }
 
-/// Runs other words, and gives the status, how many entries there are, and how much was written.
-fn run_words<R: Threads + Wait + Copy + Send + Sync + 'static>(
+/// Runs `one` on one record, and gives all that is left.
+fn run_record<R: Threads + Wait + Copy + Send + Sync + 'static>(
     rt: &R,
     alloc: Global,
-    words: &[&str],
-) -> Result<(u8, usize, usize), Fail> {
+) -> Result<Left<MemSink, MemSource, MemVolumes<ServerNote>>, Fail> {
+    let volumes = volumes(alloc, &[])?;
+    let output = room(alloc, None)?;
+    let input = source(alloc, &[RECORD], &[])?;
+    run_line(rt, alloc, "one", input, output, volumes)
+}
+
+#[test]
+fn one_record_has_its_journal(rt: HostRuntime) -> Result<(), Fail> {
+    let alloc = rt.alloc();
+    let left = run_record(&rt, alloc)?;
+    assert_eq!(rt; left.first, 0);
+    assert_eq!(rt; left.volumes.entries().len(), 0);
+    see_entries(&rt, alloc, left.journal.as_slice())
+}
+
+/// Words that are no command.
+const OTHER_WORDS: &[&[&str]] = &[
+    &[],
+    &["one", "x"],
+    &["two"],
+    &["One"],
+    &["--", "one"],
+    &["serve"],
+    &["display", "display"],
+    &["Audit"],
+    &["gen", "0", "1"],
+];
+
+/// Owned words.
+fn owned(alloc: Global, words: &[&str]) -> Result<Vec<String>, Fail> {
     let mut owned = Vec::new(alloc);
     for word in words {
         owned.push(String::from_str(alloc, word)?)?;
     }
-    let input = MemSource::new(Vec::new(alloc), Vec::new(alloc));
+    Ok(owned)
+}
+
+/// Sees that words are refused, and that nothing is done.
+fn see_refused<R: Abort + Threads + Wait + Copy + Send + Sync + 'static>(
+    rt: &R,
+    alloc: Global,
+    words: &[&str],
+) -> Result<(), Fail> {
+    let words = owned(alloc, words)?;
     let output = room(alloc, None)?;
-    let served = logd_main(
-        rt,
-        alloc,
-        &owned,
-        &mut ScriptHost::new(None, true),
-        input,
-        output,
-        DropVolumes,
-    );
-    let entries = served.journal.as_slice().len();
-    Ok((served.status, entries, served.output.bytes().len()))
+    let input = MemSource::new(Vec::new(alloc), Vec::new(alloc));
+    let mut host = ScriptHost::new(None, true);
+    let ran = run_words(rt, alloc, &words, &mut host, input, output, DropVolumes).ran();
+    let written = ran.output.bytes().len();
+    assert_eq!(*rt; (ran.status, ran.entries, written), (1, 0, 0));
+    Ok(())
 }
 
 #[test]
 fn other_words_are_refused(rt: HostRuntime) -> Result<(), Fail> {
     let alloc = rt.alloc();
-    let table: [&[&str]; 9] = [
-        &[],
-        &["one", "x"],
-        &["two"],
-        &["One"],
-        &["--", "one"],
-        &["serve"],
-        &["display", "display"],
-        &["Audit"],
-        &["gen", "0", "1"],
-    ];
-    for words in table {
-        assert_eq!(rt; run_words(&rt, alloc, words)?, (1, 0, 0));
+    for words in OTHER_WORDS {
+        see_refused(&rt, alloc, words)?;
     }
     Ok(())
 }

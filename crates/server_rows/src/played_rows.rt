@@ -1,17 +1,13 @@
 //! Words that run the server over scripts and over hosts that play one: how each run ends, and what it writes.
-use crate::running::{LINES, room, words_of};
-use ev_base::{MemSink, SteadySource};
-use logging_server::{Served, logd_main};
+use crate::running::{LINES, Ran, room, run_words, see, text_source, words_of};
 use reactor_model::DropVolumes;
-use script_net::{ScriptHost, ScriptNet};
+use script_net::ScriptHost;
 use script_text::parse_script;
 use std::alloc::Global;
+use std::process::Abort;
 use std::sync::Wait;
 use std::test::Fail;
 use std::thread::Threads;
-
-/// What is left of a run over a script.
-pub(crate) type Left = Served<MemSink, SteadySource, ScriptNet, DropVolumes>;
 
 /// A connection that sends a record in two pieces and ends.
 const RECORD: &str =
@@ -27,18 +23,12 @@ pub(crate) fn run<R: Threads + Wait + Copy + Send + Sync + 'static>(
     words: &str,
     input: &str,
     host: ScriptHost,
-) -> Result<Left, Fail> {
+) -> Result<Ran, Fail> {
     let mut host = host;
-    let input = SteadySource::new(Vec::from_slice(alloc, input.as_bytes())?);
-    Ok(logd_main(
-        rt,
-        alloc,
-        &words_of(alloc, words)?,
-        &mut host,
-        input,
-        room(alloc, None)?,
-        DropVolumes,
-    ))
+    let words = words_of(alloc, words)?;
+    let output = room(alloc, None)?;
+    let input = text_source(alloc, input)?;
+    Ok(run_words(rt, alloc, &words, &mut host, input, output, DropVolumes).ran())
 }
 
 /// A host that plays a script, some waits and attaches of whose net fail, by their numbers from 0.
@@ -55,96 +45,139 @@ fn host_of(
     Ok(ScriptHost::of_parts(net, listener, waker))
 }
 
-#[test]
-fn a_host_is_served(rt: HostRuntime) -> Result<(), Fail> {
-    let alloc = rt.alloc();
-    // words, the script that the host plays, the waits and the attaches that fail, the status, what is written, and how many entries
-    // the journal has where the run fails
-    let table: [(&str, &str, &[u64], &[u64], u8, &[u8], Option<usize>); 6] = [
-        ("serve --port 7000", RECORD, &[], &[], 0, LINES, None),
-        (
-            "serve --workers 4 --timers heap --port=7000",
-            RECORD,
-            &[],
-            &[],
-            0,
-            LINES,
-            None,
-        ),
-        (
-            "serve --until 1 --port 7000",
-            TWO,
-            &[],
-            &[],
-            0,
-            b"0 closed: end\n",
-            None,
-        ),
-        ("serve --port 7000", "", &[], &[], 0, b"", None),
-        ("serve --port 7000", RECORD, &[0], &[], 5, b"", Some(4)),
-        ("serve --port 7000", RECORD, &[], &[0], 5, b"", Some(1)),
-    ];
-    for (words, script, waits, attaches, status, lines, entries) in table {
-        let host = host_of(alloc, script, waits, attaches)?;
-        let served = run(&rt, alloc, words, "", host)?;
-        assert_eq!(rt; served.output.bytes(), lines, "{words}");
-        assert_eq!(rt; served.status, status, "{words}");
-        if let Some(entries) = entries {
-            assert_eq!(rt; served.journal.as_slice().len(), entries, "{words}");
-        }
-        assert!(rt; served.net.is_some());
+/// A run over a host that plays a script: its words, the script, the waits and the attaches that fail, the status, what is written, and how
+/// many entries the journal has where the run fails.
+type Hosted<'a> = (
+    &'a str,
+    &'a str,
+    &'a [u64],
+    &'a [u64],
+    u8,
+    &'a [u8],
+    Option<usize>,
+);
+
+/// Runs over hosts.
+const HOSTED: &[Hosted<'static>] = &[
+    ("serve --port 7000", RECORD, &[], &[], 0, LINES, None),
+    (
+        "serve --workers 4 --timers heap --port=7000",
+        RECORD,
+        &[],
+        &[],
+        0,
+        LINES,
+        None,
+    ),
+    (
+        "serve --until 1 --port 7000",
+        TWO,
+        &[],
+        &[],
+        0,
+        b"0 closed: end\n",
+        None,
+    ),
+    ("serve --port 7000", "", &[], &[], 0, b"", None),
+    ("serve --port 7000", RECORD, &[0], &[], 5, b"", Some(4)),
+    ("serve --port 7000", RECORD, &[], &[0], 5, b"", Some(1)),
+];
+
+/// Sees a run over a host that plays a script.
+fn see_hosted<R: Abort + Threads + Wait + Copy + Send + Sync + 'static>(
+    rt: &R,
+    alloc: Global,
+    (words, script, waits, attaches, status, lines, entries): Hosted<'_>,
+) -> Result<(), Fail> {
+    let host = host_of(alloc, script, waits, attaches)?;
+    let ran = run(rt, alloc, words, "", host)?;
+    see(rt, words, &ran, (status, 0), lines);
+    if let Some(entries) = entries {
+        assert_eq!(*rt; ran.entries, entries, "{words}");
     }
-    let served = run(
-        &rt,
+    assert!(*rt; ran.has_net, "{words}");
+    Ok(())
+}
+
+/// Sees a run over a host that refuses to listen.
+fn see_unheard<R: Abort + Threads + Wait + Copy + Send + Sync + 'static>(
+    rt: &R,
+    alloc: Global,
+) -> Result<(), Fail> {
+    let ran = run(
+        rt,
         alloc,
         "serve --port 7000",
         "",
         ScriptHost::new(None, true),
     )?;
-    assert_eq!(rt; (served.status, served.at), (7, 0));
-    assert!(rt; served.net.is_none());
+    assert_eq!(*rt; (ran.status, ran.at, ran.has_net), (7, 0, false));
+    Ok(())
+}
+
+#[test]
+fn a_host_is_served(rt: HostRuntime) -> Result<(), Fail> {
+    let alloc = rt.alloc();
+    for row in HOSTED {
+        see_hosted(&rt, alloc, *row)?;
+    }
+    see_unheard(&rt, alloc)
+}
+
+/// Words, a script, the status with its number, and what is written.
+const REPLAYED: &[(&str, &str, (u8, u64), &[u8])] = &[
+    ("replay", RECORD, (0, 0), LINES),
+    ("replay --grouped --timers wheel", RECORD, (0, 0), LINES),
+    ("replay --workers=2", "", (0, 0), b""),
+    ("replay", "open 1\n", (2, 1), b""),
+    (
+        "replay --journal",
+        "open 0\nshut 0\ndata 0 00\n",
+        (2, 3),
+        b"",
+    ),
+];
+
+/// Sees how a run over a script ends, and what it writes.
+fn see_replayed<R: Abort + Threads + Wait + Copy + Send + Sync + 'static>(
+    rt: &R,
+    alloc: Global,
+    (words, script, ending, lines): (&str, &str, (u8, u64), &[u8]),
+) -> Result<(), Fail> {
+    let ran = run(rt, alloc, words, script, ScriptHost::new(None, true))?;
+    see(rt, words, &ran, ending, lines);
     Ok(())
 }
 
 #[test]
 fn a_script_is_replayed(rt: HostRuntime) -> Result<(), Fail> {
     let alloc = rt.alloc();
-    let table: [(&str, &str, u8, u64, &[u8]); 5] = [
-        ("replay", RECORD, 0, 0, LINES),
-        ("replay --grouped --timers wheel", RECORD, 0, 0, LINES),
-        ("replay --workers=2", "", 0, 0, b""),
-        ("replay", "open 1\n", 2, 1, b""),
-        ("replay --journal", "open 0\nshut 0\ndata 0 00\n", 2, 3, b""),
-    ];
-    for (words, script, status, at, lines) in table {
-        let served = run(&rt, alloc, words, script, ScriptHost::new(None, true))?;
-        assert_eq!(rt; served.output.bytes(), lines, "{words}");
-        assert_eq!(rt; (served.status, served.at), (status, at), "{words}");
+    for row in REPLAYED {
+        see_replayed(&rt, alloc, *row)?;
     }
+    Ok(())
+}
+
+/// Sees the summary of a generated script.
+fn see_summary<R: Abort + Threads + Wait + Copy + Send + Sync + 'static>(
+    rt: &R,
+    alloc: Global,
+    words: &str,
+    summary: &str,
+) -> Result<(), Fail> {
+    let ran = run(rt, alloc, words, "", ScriptHost::new(None, true))?;
+    see(rt, words, &ran, (0, 0), summary.as_bytes());
+    assert_eq!(*rt; ran.first, 0, "{words}");
     Ok(())
 }
 
 #[test]
 fn generated_scripts_are_run(rt: HostRuntime) -> Result<(), Fail> {
     let alloc = rt.alloc();
-    let table = [
-        (
-            "gen 1 0",
-            "connections 1\nrecords 125\nbytes 6035\nlines 126\n",
-        ),
-        (
-            "gen 40 7",
-            "connections 40\nrecords 5000\nbytes 242500\nlines 5040\n",
-        ),
-        (
-            "gen 80 7",
-            "connections 80\nrecords 10000\nbytes 485000\nlines 10080\n",
-        ),
-    ];
-    for (words, summary) in table {
-        let served = run(&rt, alloc, words, "", ScriptHost::new(None, true))?;
-        assert_eq!(rt; served.output.bytes(), summary.as_bytes(), "{words}");
-        assert_eq!(rt; (served.status, served.first), (0, 0), "{words}");
-    }
-    Ok(())
+    let one = "connections 1\nrecords 125\nbytes 6035\nlines 126\n";
+    see_summary(&rt, alloc, "gen 1 0", one)?;
+    let forty = "connections 40\nrecords 5000\nbytes 242500\nlines 5040\n";
+    see_summary(&rt, alloc, "gen 40 7", forty)?;
+    let eighty = "connections 80\nrecords 10000\nbytes 485000\nlines 10080\n";
+    see_summary(&rt, alloc, "gen 80 7", eighty)
 }

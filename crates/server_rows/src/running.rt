@@ -1,10 +1,11 @@
-//! Runs of the command `one`.
-use ev_base::{MemSink, MemSource, Sink, Source};
+//! Runs of the top call. A row gets what a run left without the clauses of that call, and mostly in the few values that it looks at.
+use ev_base::{MemSink, MemSource, Sink, Source, SteadySource};
 use log_handler::ServerNote;
-use logging_server::{Served, logd_main};
-use reactor_model::{MemVolumes, Volumes};
-use script_net::{ScriptHost, ScriptNet};
+use logging_server::logd_main;
+use reactor_model::{Journal, MemVolumes, Volumes};
+use script_net::ScriptHost;
 use std::alloc::Global;
+use std::process::Abort;
 use std::sync::Wait;
 use std::test::Fail;
 use std::thread::Threads;
@@ -16,14 +17,97 @@ pub(crate) const RECORD: &[u8] =
 /// What is written for it.
 pub(crate) const LINES: &[u8] = b"0 1,2 7 LM_DEBUG: hi\n0 closed: end\n";
 
-/// A sink with room for what short runs write.
-pub(crate) fn room(alloc: Global, fail_after: Option<u64>) -> Result<MemSink, Fail> {
-    MemSink::new(alloc, 1 << 18, fail_after).map_err(|_| Fail::from("no room"))
+/// What a run left.
+#[derive(Drop)]
+pub(crate) struct Left<K, S, V> {
+    pub(crate) status: u8,
+    pub(crate) at: u64,
+    pub(crate) journal: Journal<ServerNote>,
+    pub(crate) first: u64,
+    pub(crate) input: S,
+    pub(crate) output: K,
+    pub(crate) volumes: V,
+    /// Whether the host gave a net.
+    pub(crate) has_net: bool,
 }
 
-/// A sink with room for so many bytes.
-pub(crate) fn room_for(alloc: Global, bytes: usize) -> Result<MemSink, Fail> {
-    MemSink::new(alloc, bytes, None).map_err(|_| Fail::from("no room"))
+/// What a run left, in the values that most rows look at.
+#[derive(Drop)]
+pub(crate) struct Ran {
+    pub(crate) status: u8,
+    pub(crate) at: u64,
+    pub(crate) first: u64,
+    /// How many entries of the journal were not handed over.
+    pub(crate) entries: usize,
+    pub(crate) has_net: bool,
+    pub(crate) output: MemSink,
+}
+
+impl<S: Drop, V: Drop> Left<MemSink, S, V> {
+    /// Its few values.
+    pub(crate) fn ran(self) -> Ran {
+        Ran {
+            status: self.status,
+            at: self.at,
+            first: self.first,
+            entries: self.journal.as_slice().len(),
+            has_net: self.has_net,
+            output: self.output,
+        }
+    }
+}
+
+/// Runs words.
+pub(crate) fn run_words<
+    R: Threads + Wait + Copy + Send + Sync + 'static,
+    S: Source + Drop,
+    K: Sink + Drop + Send,
+    V: Volumes<ServerNote> + Drop + Send,
+>(
+    rt: &R,
+    alloc: Global,
+    words: &[String],
+    host: &mut ScriptHost,
+    input: S,
+    output: K,
+    volumes: V,
+) -> Left<K, S, V> {
+    let served = logd_main(rt, alloc, words, host, input, output, volumes);
+    Left {
+        status: served.status,
+        at: served.at,
+        journal: served.journal,
+        first: served.first,
+        input: served.input,
+        output: served.output,
+        volumes: served.volumes,
+        has_net: served.net.is_some(),
+    }
+}
+
+/// Runs the words of a line, with a host that refuses to listen.
+pub(crate) fn run_line<
+    R: Threads + Wait + Copy + Send + Sync + 'static,
+    S: Source + Drop,
+    K: Sink + Drop + Send,
+    V: Volumes<ServerNote> + Drop + Send,
+>(
+    rt: &R,
+    alloc: Global,
+    line: &str,
+    input: S,
+    output: K,
+    volumes: V,
+) -> Result<Left<K, S, V>, Fail> {
+    let words = words_of(alloc, line)?;
+    let mut host = ScriptHost::new(None, true);
+    Ok(run_words(rt, alloc, &words, &mut host, input, output, volumes))
+}
+
+/// Sees that a run ended with this status and its number, and wrote this.
+pub(crate) fn see(rt: &impl Abort, row: &str, ran: &Ran, ending: (u8, u64), written: &[u8]) {
+    assert_eq!(*rt; (ran.status, ran.at), ending, "{row}");
+    assert_eq!(*rt; ran.output.bytes(), written, "{row}");
 }
 
 /// The words of a line, which are parted by one space.
@@ -35,44 +119,46 @@ pub(crate) fn words_of(alloc: Global, line: &str) -> Result<Vec<String>, Fail> {
     Ok(words)
 }
 
-/// Runs `one` on a source, with a sink and with volumes.
-pub(crate) fn serve<
-    R: Threads + Wait + Copy + Send + Sync + 'static,
-    S: Source + Drop,
-    K: Sink + Drop + Send,
-    V: Volumes<ServerNote> + Drop + Send,
->(
-    rt: &R,
-    alloc: Global,
-    input: S,
-    output: K,
-    volumes: V,
-) -> Result<Served<K, S, ScriptNet, V>, Fail> {
-    let words = [String::from_str(alloc, "one")?];
-    Ok(logd_main(
-        rt,
-        alloc,
-        &words,
-        &mut ScriptHost::new(None, true),
-        input,
-        output,
-        volumes,
-    ))
-}
-
-/// Runs `one` on some pieces, of which the reads of these numbers fail, with a sink that fails behind so many bytes.
-pub(crate) fn run<R: Threads + Wait + Copy + Send + Sync + 'static>(
-    rt: &R,
-    alloc: Global,
-    pieces: &[&[u8]],
-    fails: &[u64],
-    fail_after: Option<u64>,
-) -> Result<Served<MemSink, MemSource, ScriptNet, MemVolumes<ServerNote>>, Fail> {
+/// A source of some pieces, of which the reads of these numbers fail.
+pub(crate) fn source(alloc: Global, pieces: &[&[u8]], fails: &[u64]) -> Result<MemSource, Fail> {
     let mut owned = Vec::new(alloc);
     for piece in pieces {
         owned.push(Vec::from_slice(alloc, piece)?)?;
     }
-    let input = MemSource::new(owned, Vec::from_slice(alloc, fails)?);
-    let volumes = MemVolumes::new(alloc, Vec::new(alloc));
-    serve(rt, alloc, input, room(alloc, fail_after)?, volumes)
+    Ok(MemSource::new(owned, Vec::from_slice(alloc, fails)?))
+}
+
+/// A header with the fields of a record, and 65,536 bytes of a message, as two pieces.
+pub(crate) fn long_record(alloc: Global, header: &[u8]) -> Result<MemSource, Fail> {
+    let mut pieces = Vec::new(alloc);
+    pieces.push(Vec::from_slice(alloc, header)?)?;
+    pieces.push(vec![in alloc; b'a'; 65_536]?)?;
+    Ok(MemSource::new(pieces, Vec::new(alloc)))
+}
+
+/// A source of a text.
+pub(crate) fn text_source(alloc: Global, text: &str) -> Result<SteadySource, Fail> {
+    Ok(SteadySource::new(Vec::from_slice(alloc, text.as_bytes())?))
+}
+
+/// A sink with room for what short runs write.
+pub(crate) fn room(alloc: Global, fail_after: Option<u64>) -> Result<MemSink, Fail> {
+    room_for(alloc, 1 << 18, fail_after)
+}
+
+/// A sink with room for so many bytes.
+pub(crate) fn room_for(
+    alloc: Global,
+    bytes: usize,
+    fail_after: Option<u64>,
+) -> Result<MemSink, Fail> {
+    match MemSink::new(alloc, bytes, fail_after) {
+        Ok(sink) => Ok(sink),
+        Err(_) => Err(Fail::from("no room")),
+    }
+}
+
+/// Volumes in memory, where the takes of these numbers fail.
+pub(crate) fn volumes(alloc: Global, fails: &[u64]) -> Result<MemVolumes<ServerNote>, Fail> {
+    Ok(MemVolumes::new(alloc, Vec::from_slice(alloc, fails)?))
 }
