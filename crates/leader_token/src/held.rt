@@ -11,6 +11,13 @@ pub struct Held<T> {
 }
 
 impl<T> Held<T> {
+    /// The value, lent for reading.
+    pub fn seen(&self) -> &T
+        ensures { result.now ≡ value_of self.now }
+    {
+        self.value.as_ref()
+    }
+
     /// The value, lent for reading and writing.
     pub fn value(&mut self) -> &mut T
         ensures value { result.now ≡ value_of self.old }

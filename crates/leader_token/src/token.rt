@@ -62,12 +62,24 @@ impl<T: Kept> Token<T> {
         ensures got { IsGot T.stands T.opens T.marks (view_of pass.old) (value_of result) (view_of pass.new) }
     {
         for _ in rt.forever() {
-            if let Some(value) = self.claim(&mut pass.seat) {
-                return Held { value };
+            if let Some(held) = self.try_get(pass) {
+                return held;
             }
             self.wait(rt);
         }
         unreachable!()
+    }
+
+    /// Gets the value where nobody has it, as `get` does, and does not wait. None leaves all as it was.
+    pub fn try_get(&self, pass: &mut Pass<T>) -> Option<Held<T>>
+        requires token { token_of pass.old ≡ id_of self.now }
+        requires free { (view_of pass.old).base ≡ None }
+        ensures token { token_of pass.new ≡ token_of pass.old }
+        ensures got { IfSome result (λ held. IsGot T.stands T.opens T.marks (view_of pass.old) (value_of held) (view_of pass.new)) }
+        ensures none { IfNone result (view_of pass.new ≡ view_of pass.old) }
+    {
+        let value = self.claim(&mut pass.seat)?;
+        Some(Held { value })
     }
 
     // A few looks at the word, and then a sleep while it is 1: a hold takes microseconds, and a sleep with

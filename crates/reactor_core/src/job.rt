@@ -58,6 +58,7 @@ impl<H: EventHandler> Job<H> {
 
     /// Makes the upcall at the moment at which it was started (C++NPv2 chapter 3, `handle_input` and its fellows). Whatever journal
     /// the job fits, what comes back fits it too: the handler has had one turn more, and its act is one that the turn may carry.
+    #[inline(always)]
     pub fn run(self) -> Done<H>
         ensures fits { (t : Terms) (past : List (Entry H.Note)) → JobFits H.means t past self
             → DoneFits H.means t past result }

@@ -1,6 +1,9 @@
 //! The start of an upcall.
 ghost use Rattle.std.specs.Prelude.{◌≡◌, Some, IfOk, OnErr};
+ghost use Rattle.std.specs.Option.{is_some};
 ghost use Rattle.reactor_journal.specs.declared.entry.Entry.{Entry};
+ghost use Rattle.reactor_journal.specs.Past.{past_of};
+ghost use Rattle.reactor_summary.specs.Summary.{pick, summary};
 ghost use Rattle.ev_base.specs.Net.{Reserves};
 ghost use Rattle.reactor_core.specs.Rest.{LeavesRest};
 ghost use Rattle.reactor_core.specs.Refusals.{LeavesStart};
@@ -47,6 +50,7 @@ impl<
     /// Starts the upcall of the event that is to be dispatched next, and gives its job, or None exactly where there is no such
     /// event, and then nothing has changed. The journal has one more entry, `Started`. The net may have more places, and is else as
     /// it was. After `NoMemory` nothing has changed but the room.
+    #[inline(always)]
     pub fn start(&mut self) -> Result<Option<Job<H>>, StartRefused>
         requires stands { IsStanding ⟦<Self as Means>⟧.m self.old }
         ensures ok { IfOk result (λ job. From ⟦<Self as Means>⟧.m self.old
@@ -66,7 +70,15 @@ impl<
         Ok(Some(self.dispatch(pick)))
     }
 
+    /// Whether `start` would find an event to be dispatched. It goes past those events that wait whose handle is busy or suspended.
+    pub fn has_next(&self) -> bool
+        ensures { From ⟦<Self as Means>⟧.m self.now (λ t F h. result ≡ is_some (pick (summary (past_of h)))) }
+    {
+        self.state.find_pick().is_some()
+    }
+
     /// Starts the upcall of the pick, for which there is room.
+    #[inline(always)]
     fn dispatch(&mut self, pick: Pick) -> Job<H>
         requires may { Somewhere (MayDispatch ⟦<Self as Means>⟧.m pick.event) self.old }
         requires placed { IsPlaced self.old.state pick }

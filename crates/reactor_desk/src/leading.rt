@@ -1,7 +1,10 @@
 //! The lead of a desk: what the thread does that holds the token.
 ghost use Rattle.std.specs.Prelude.{◌≡◌, false, IfSome, IfNone};
+ghost use Rattle.std.specs.Option.{is_some};
 ghost use Rattle.ev_base.specs.Net.{Reserves};
 ghost use Rattle.notify_ring.specs.Words.{drainer_ring, id_of};
+ghost use Rattle.reactor_journal.specs.Past.{past_of};
+ghost use Rattle.reactor_summary.specs.Summary.{pick, summary};
 ghost use Rattle.reactor_core.specs.HandingOver.{is_due};
 ghost use Rattle.reactor_core.specs.Polling.{FitsLimit};
 ghost use Rattle.reactor_core.specs.Views.{net_of};
@@ -97,6 +100,13 @@ impl<
             return None;
         }
         Some(self.go_on(ring, most_ms))
+    }
+
+    /// Whether an upcall can be started without a wait (`Core::has_next`).
+    pub fn has_next(&self) -> bool
+        ensures { FromDesk ⟦<Self as Means>⟧.m self.now (λ q F h. result ≡ is_some (pick (summary (past_of h)))) }
+    {
+        self.core.has_next()
     }
 
     /// Takes the postings of the ring, and starts the next upcall, or waits once and looks again.

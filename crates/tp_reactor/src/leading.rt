@@ -58,13 +58,59 @@ impl<
         ensures tells { MarksTell (known_by worker.old) result (known_by worker.new) }
         ensures poster { poster_of worker.new ≡ poster_of worker.old }
     {
+        self.turns.follow();
         let gate = self.gate.lock(rt);
+        self.turns.wait(rt);
+        self.turns.promote();
         self.step_aside(rt);
+        let led = self.lead_now(rt, worker, most_ms);
+        drop(gate);
+        led
+    }
+
+    // Leads as `lead` does once more, as a follower where others are none.
+    pub(crate) fn lead_again<R: Wait>(
+        &self,
+        rt: &R,
+        worker: &mut Worker<H, M, Q, W, V>,
+        most_ms: Option<u64>,
+    ) -> Led<H>
+        requires of { IsOf worker.old self.now }
+        requires free { ((known_by worker.old).base ≡ None) × ((known_by worker.old).mine ≡ None) }
+        requires limit { FitsLimit (known_by worker.old).terms.run most_ms }
+        ensures of { IsOf worker.new self.now }
+        ensures led { IsLed ⟦<Self as Means>⟧.m (known_by worker.old) most_ms result (known_by worker.new) }
+        ensures poster { poster_of worker.new ≡ poster_of worker.old }
+    {
+        if !self.turns.is_alone() {
+            return self.lead(rt, worker, most_ms);
+        }
+        self.step_aside(rt);
+        self.lead_now(rt, worker, most_ms)
+    }
+
+    // Leads as `lead` does, and passes by the gate.
+    pub(crate) fn lead_now<R: Wait>(
+        &self,
+        rt: &R,
+        worker: &mut Worker<H, M, Q, W, V>,
+        most_ms: Option<u64>,
+    ) -> Led<H>
+        requires of { IsOf worker.old self.now }
+        requires free { ((known_by worker.old).base ≡ None) × ((known_by worker.old).mine ≡ None) }
+        requires limit { FitsLimit (known_by worker.old).terms.run most_ms }
+        ensures of { IsOf worker.new self.now }
+        ensures led { IsLed ⟦<Self as Means>⟧.m (known_by worker.old) most_ms result (known_by worker.new) }
+        ensures tells { MarksTell (known_by worker.old) result (known_by worker.new) }
+        ensures poster { poster_of worker.new ≡ poster_of worker.old }
+    {
         let mut held = self.token.get(rt, &mut worker.pass);
+        let counted = self.turns.begin();
         self.heed_callers();
         let led = held.value().lead(&self.ring, most_ms);
+        self.end_turn(counted, matches!(&led, Led::Job(_)), held.seen());
         self.token.put(&mut worker.pass, held);
-        drop(gate);
+        self.turns.rouse();
         led
     }
 
@@ -92,8 +138,8 @@ impl<
         }
     }
 
-    // Gets the token for a call that does not wait at the net, and ends the wait of a leader who does. A leader looks at the count when it has the
-    // token, and waits no longer where there are any; one that looked before this call was counted is woken by it. So neither is missed.
+    // Gets the token for a call that begins with no wait at the net, and ends the wait of a leader who has it. A leader looks at the count when it
+    // has the token, and waits no longer where there are any; one that looked before this call was counted is woken by it. So neither is missed.
     pub(crate) fn take<R: Wait>(
         &self,
         rt: &R,
@@ -105,6 +151,9 @@ impl<
         ensures got { IsGot (λ q first desk h. DeskStands ⟦<Self as Means>⟧.m q first desk h) opens_of (marks_of ⟦<Self as Means>⟧.m) (known_by worker.old) (value_of result) (known_by worker.new) }
         ensures poster { poster_of worker.new ≡ poster_of worker.old }
     {
+        if let Some(held) = self.token.try_get(&mut worker.pass) {
+            return held;
+        }
         self.wanted.fetch_add(1, Ordering::SeqCst);
         self.waker.wake();
         let held = self.token.get(rt, &mut worker.pass);
@@ -163,15 +212,31 @@ impl<
         ensures poster { poster_of worker.new ≡ poster_of worker.old }
     {
         let mut held = self.take(rt, worker);
+        let counted = self.turns.begin();
         let settled = held.value().settle(done);
         if is_reached(pause_at, settled.closed) {
+            self.end_turn(counted, false, held.seen());
             self.token.put(&mut worker.pass, held);
+            self.turns.rouse();
             return (settled, None);
         }
         self.heed_callers();
         let led = held.value().lead_on(&self.ring, most_ms);
+        self.end_turn(counted, matches!(&led, Some(Led::Job(_))), held.seen());
         self.token.put(&mut worker.pass, held);
+        self.turns.rouse();
         (settled, led)
+    }
+
+    // Ends a counted turn of a leader, and says to a follower that asks whether upcalls wait.
+    fn end_turn(&self, counted: bool, started: bool, desk: &Desk<H, M, Q, W, V>) {
+        if !counted {
+            return;
+        }
+        if self.turns.is_asked() {
+            self.turns.tell(started && desk.has_next());
+        }
+        self.turns.end();
     }
 
     // Lets the next wait end at once where calls want the token.

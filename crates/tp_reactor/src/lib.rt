@@ -5,6 +5,7 @@ mod asking;
 mod crew;
 mod leading;
 mod pool;
+mod promoting;
 mod reactor;
 mod start;
 mod working;

@@ -4,6 +4,7 @@ ghost use Rattle.reactor_state.specs.State.{Shows, HasPlaces, IsPlaced};
 ghost use Rattle.reactor_core.specs.Stands.{meaning};
 ghost use Rattle.tp_reactor.specs.Words.{posted_of};
 
+use crate::promoting::Turns;
 use ev_base::{Net, Wake};
 use leader_token::{Kept, Pass, Token};
 use notify_ring::{Poster, Ring};
@@ -35,6 +36,7 @@ where
     // Whether a leader sleeps until these calls had it. Of this and of the gate no contract speaks either.
     pub(crate) aside: AtomicBool,
     pub(crate) gate: Mutex<()>,
+    pub(crate) turns: Turns,
 }
 
 /// Its parts mean what those of the reactor under its token mean.

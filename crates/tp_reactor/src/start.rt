@@ -8,6 +8,7 @@ ghost use Rattle.reactor_desk.specs.Desks.{core_marks};
 ghost use Rattle.tp_reactor.specs.Ends.{IsClosed, IsRoot, MayShare};
 ghost use Rattle.tp_reactor.specs.Words.{known_by, poster_of, IsIdle, IsOf};
 
+use crate::promoting::Turns;
 use crate::{Reactor, Worker};
 use ev_base::{Net, Wake};
 use ev_types::NoMemory;
@@ -57,6 +58,7 @@ impl<
                     wanted: AtomicU64::new(0),
                     aside: AtomicBool::new(false),
                     gate: Mutex::new(()),
+                    turns: Turns::new(),
                 },
                 Worker { pass, poster },
             )),
@@ -82,6 +84,7 @@ impl<
             wanted: _,
             aside: _,
             gate: _,
+            turns: _,
         } = self;
         let (pass, poster) = root.into_parts();
         let (core, drainer) = token.close(pass).into_parts();

@@ -72,11 +72,15 @@ impl<
         ensures room { waits.new ≡ true → length (posted_of worker.new) < 2 ^ 56 }
         ensures once { length (posted_of worker.new) + cond waits.new 1 0 ≤ length (posted_of worker.old) + cond waits.old 1 0 }
     {
+        self.turns.enter();
         let mut led = self.lead(rt, worker, most_ms);
         for _ in rt.forever() {
             match self.round(rt, worker, led, most_ms, until, waits) {
                 Ok(next) => led = next,
-                Err(ran) => return ran,
+                Err(ran) => {
+                    self.turns.leave();
+                    return ran;
+                }
             }
         }
         unreachable!()
@@ -104,7 +108,7 @@ impl<
     {
         match led {
             Led::Job(job) => Ok(self.serve(rt, worker, job, most_ms, until, waits)),
-            Led::Quiet => Ok(self.lead(rt, worker, most_ms)),
+            Led::Quiet => Ok(self.lead_again(rt, worker, most_ms)),
             Led::Over => Err(Ran::Over),
             Led::Stopped => Err(Ran::Stopped),
             Led::Broken => Err(Ran::Broken),
@@ -143,7 +147,7 @@ impl<
         self.tell(worker, until, settled, waits);
         match led {
             Some(led) => led,
-            None => self.lead(rt, worker, most_ms),
+            None => self.lead_now(rt, worker, most_ms),
         }
     }
 

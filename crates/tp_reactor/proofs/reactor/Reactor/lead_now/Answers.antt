@@ -2,7 +2,7 @@ use Rattle.std.proofs.Common.{refl, ap, ◌∙◌}
 use Rattle.tp_reactor.proofs.Belongs.{still_of}
 use Rattle.tp_reactor.proofs.Marked.{marks_tell}
 use Rattle.tp_reactor.proofs.Turns.{may_put, held_lead, is_led}
-use Rattle.tp_reactor.proofs.reactor.Reactor.lead.Goals as goal
+use Rattle.tp_reactor.proofs.reactor.Reactor.lead_now.Goals as goal
 
 pub put-requires-clause-may : goal.put-requires-clause-may
 put-requires-clause-may g c = may_put _ _ _ _ _ c.get-held.ensures.got _ _ (held_lead _ _ _ _ _ _ c.get-held.ensures.got _ _ c.value.ensures.value c.lead-led.ensures.gives c.requires.limit c.requires.free.1 c.lead-led.ensures.marks)
