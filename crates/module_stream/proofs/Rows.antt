@@ -1,9 +1,9 @@
 -- Messages that go through tasks one behind another.
-use Rattle.std.proofs.Common.{◌≡◌, ℕ, zero, suc, ◌<◌, List, [], ◌∷◌, ◌++◌, length, get_or, set, take, drop, refl, sym, ap, ◌∙◌, subst, arith, append_assoc}
-use Rattle.std.proofs.Math.Seq.{take-suc-set, drop-cons, drop-length}
-use Rattle.std.proofs.lemmas.List.{drop-set-lt, take_all, take-append-le}
+use Rattle.std.proofs.Common.{◌≡◌, ℕ, zero, suc, ◌+◌, ◌-◌, ◌<◌, ◌≤◌, List, [], ◌∷◌, ◌++◌, length, get_or, set, take, drop, refl, sym, ap, ◌∙◌, subst, arith, append_assoc}
+use Rattle.std.proofs.Math.Seq.{take-suc, take-suc-set, drop-cons, drop-length}
+use Rattle.std.proofs.lemmas.List.{drop-drop, drop-set-lt, take_all, take-append-le}
 use Rattle.message_block.specs.Messages.{MessageState}
-use Rattle.module_stream.specs.Composition.{Comes, through}
+use Rattle.module_stream.specs.Composition.{Comes, GiveTheSame, IsPassedBy, through}
 
 -- through tasks in two parts
 pub through-append : {T : Type 0} (gives : T → List MessageState → List MessageState) (xs ys : List T) (messages : List MessageState)
@@ -66,6 +66,59 @@ pub passed_more : {T : Type 0} (gives : T → List MessageState → List Message
 passed_more gives before now after place next put messages out x x' stored up h lt is comes =
     subst (λ (k : ℕ). HasPassed gives before after k put out) (sym up)
     (subst (λ row. HasPassed gives before row (suc place) put out) (sym stored) (passed_set gives before now place put messages out x x' h lt is comes))
+
+-- an empty part of a row gives what it gets
+pub none_passed_by : {T : Type 0} (gives : T → List MessageState → List MessageState) (tasks : List T) (from : ℕ) → IsPassedBy gives tasks from from
+none_passed_by gives tasks from = record { order = omega arith; front = λ messages. refl; rest = λ messages. refl }
+
+-- and so does a part with one more task that gives what it gets
+pub more_passed_by : {T : Type 0} (gives : T → List MessageState → List MessageState) (tasks : List T) (from to next : ℕ) (x : T)
+    → next ≡ suc to → IsPassedBy gives tasks from to → to < length tasks → x ≡ get_or tasks to x → GiveTheSame (gives x) (λ given. given)
+    → IsPassedBy gives tasks from next
+more_passed_by gives tasks from to next x up h lt is same =
+    let front : take (suc to) tasks ≡ take to tasks ++ (x ∷ []) = take-suc tasks to x lt ∙ ap (λ y. take to tasks ++ (y ∷ [])) (sym is) in
+    let rest : drop to tasks ≡ x ∷ drop (suc to) tasks = drop-cons tasks to x lt ∙ ap (λ y. y ∷ drop (suc to) tasks) (sym is) in
+    subst (λ (k : ℕ). IsPassedBy gives tasks from k) (sym up) (record {
+      order = omega (arith, h.order);
+      front = λ messages.
+          ap (λ row. through gives row messages) front
+          ∙ (through-append gives (take to tasks) (x ∷ []) messages ∙ (same (through gives (take to tasks) messages) ∙ h.front messages));
+      rest = λ messages.
+          h.rest messages ∙ (ap (λ row. through gives row messages) rest ∙ ap (through gives (drop (suc to) tasks)) (same messages));
+    })
+
+-- all tasks of a row, which was lent as a slice, give what they get: what was put comes out as it was
+pub comes_past : {T : Type 0} (gives : T → List MessageState → List MessageState) (items lent : List T) (to : ℕ) (put : List MessageState)
+    → lent ≡ items → IsPassedBy gives lent 0 to → to ≡ length items → Comes (through gives items) put put (through gives items)
+comes_past gives items lent to put same_row h all = λ more.
+    let none : drop to lent ≡ [] = ap (drop to) same_row ∙ (ap (λ k. drop k items) all ∙ drop-length items) in
+    let same : GiveTheSame (through gives items) (λ given. given) =
+    λ messages. ap (λ row. through gives row messages) (sym same_row) ∙ (h.rest messages ∙ ap (λ row. through gives row messages) none) in
+    same (put ++ more) ∙ ap (λ l. put ++ l) (sym (same more))
+
+later_drop : {T : Type 0} (xs ys : List T) (i j : ℕ) → i ≤ j → drop i xs ≡ drop i ys → drop j xs ≡ drop j ys
+later_drop xs ys i j le e =
+    let there : i + (j - i) ≡ j = omega arith in
+    ap (λ k. drop k xs) (sym there)
+    ∙ (sym (drop-drop (j - i) i xs) ∙ (ap (drop (j - i)) e ∙ (drop-drop (j - i) i ys ∙ ap (λ k. drop k ys) there)))
+
+-- messages come past a part of a row that gives what it gets
+pub passed_by : {T : Type 0} (gives : T → List MessageState → List MessageState) (before now : List T) (place next : ℕ) (put messages : List MessageState)
+    → HasPassed gives before now place put messages → IsPassedBy gives now place next → HasPassed gives before now next put messages
+passed_by gives before now place next put messages h past = record {
+  comes = λ more.
+      h.comes more
+      ∙ (ap (λ row. through gives row (messages ++ through gives (take place now) more)) (sym h.same)
+      ∙ (past.rest (messages ++ through gives (take place now) more)
+      ∙ (ap (λ row. through gives row (messages ++ through gives (take place now) more)) (later_drop now before place next past.order h.same)
+      ∙ ap (λ given. through gives (drop next before) (messages ++ given)) (sym (past.front more)))));
+  same = later_drop now before place next past.order h.same;
+}
+
+-- a message is put behind the first tasks of a row, which give what they get
+pub passed_first : {T : Type 0} (gives : T → List MessageState → List MessageState) (tasks : List T) (place : ℕ) (put : List MessageState)
+    → IsPassedBy gives tasks 0 place → HasPassed gives tasks tasks place put put
+passed_first gives tasks place put past = passed_by gives tasks tasks 0 place put put (record { comes = λ more. refl; same = refl }) past
 
 pub passed_all : {T : Type 0} (gives : T → List MessageState → List MessageState) (before now : List T) (place : ℕ) (put messages : List MessageState)
     → HasPassed gives before now place put messages → place ≡ length now → Comes (through gives before) put messages (through gives now)

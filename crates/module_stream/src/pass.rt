@@ -35,4 +35,8 @@ impl Task for PassTask {
     fn pass(&mut self, m: Message) -> Result<Passed, NoMemory> {
         Ok(Passed::One(m))
     }
+
+    fn is_passing(&self) -> bool {
+        true
+    }
 }

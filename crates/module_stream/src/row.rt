@@ -1,7 +1,7 @@
 //! Tasks that stand one behind another.
-ghost use Rattle.std.specs.Prelude.{◌≡◌, [], ◌∷◌, ◌++◌, IfOk, vec_len};
-ghost use Rattle.module_stream.specs.Composition.{Comes};
-ghost use Rattle.module_stream.specs.Flows.{flow};
+ghost use Rattle.std.specs.Prelude.{◌≡◌, ◌≤◌, true, [], ◌∷◌, ◌++◌, length, IfOk, vec_len};
+ghost use Rattle.module_stream.specs.Composition.{Comes, GiveTheSame};
+ghost use Rattle.module_stream.specs.Flows.{flow, ArePassedBy};
 ghost use Rattle.module_stream.specs.Passing.{passed_on};
 
 use crate::messages::Messages;
@@ -15,6 +15,13 @@ fn pass_into(task: &mut Box<dyn Task>, message: Message) -> Result<Passed, NoMem
     ensures { IfOk result (λ out. Comes (gives task.old) (message ∷ []) (passed_on out) (gives task.new)) }
 {
     task.pass(message)
+}
+
+/// Whether a task gives each message as it was put.
+fn gives_the_same(task: &Box<dyn Task>) -> bool
+    ensures { result ≡ true → GiveTheSame (gives task.now) (λ messages. messages) }
+{
+    task.is_passing()
 }
 
 /// Ends the list of messages of a task.
@@ -51,6 +58,8 @@ fn add(out: Vec<Message>, given: Passed) -> Result<Vec<Message>, NoMemory>
 }
 
 /// Puts messages in order, and gives all that come out now.
+// A call of its own, so that a single message goes through little code.
+#[inline(never)]
 fn put_all(task: &mut Box<dyn Task>, messages: Vec<Message>) -> Result<Vec<Message>, NoMemory>
     ensures { IfOk result (λ out. Comes (gives task.old) messages.items out.items (gives task.new)) }
 {
@@ -84,14 +93,39 @@ fn finish_with(task: &mut Box<dyn Task>, messages: Vec<Message>) -> Result<Vec<M
     joined(out, held)
 }
 
-/// Puts a message into the first task, what comes out of it into the next, and so on, and gives what comes out of the last.
-fn put_through(tasks: &mut [Box<dyn Task>], message: Message) -> Result<Passed, NoMemory>
+/// The place of the first task from a place on that may give other messages than it gets, or the number of tasks.
+fn next_working(tasks: &[Box<dyn Task>], from: usize) -> usize
+    requires { from ≤ length tasks.now }
+    ensures within { result ≤ length tasks.now }
+    ensures passed_by { ArePassedBy ⟦<dyn Task as Task>⟧ tasks.now from result }
+{
+    for place in from..tasks.len() {
+        if !gives_the_same(&tasks[place]) {
+            return place;
+        }
+    }
+    tasks.len()
+}
+
+/// Puts a message into the task of a place, what comes out of it into the next, and so on, and gives what comes out of the last.
+/// The tasks before the place give what they get, and so do those that are passed by.
+// Within its caller, as `pass_one` is.
+#[inline(always)]
+fn put_through(
+    tasks: &mut [Box<dyn Task>],
+    first: usize,
+    message: Message,
+) -> Result<Passed, NoMemory>
+    requires first { first ≤ length tasks.old }
+    requires passed_by { ArePassedBy ⟦<dyn Task as Task>⟧ tasks.old 0 first }
     ensures { IfOk result (λ out. Comes (flow ⟦<dyn Task as Task>⟧ tasks.old) (message ∷ []) (passed_on out)
         (flow ⟦<dyn Task as Task>⟧ tasks.new)) }
 {
     let mut passed = Passed::One(message);
-    for place in 0..tasks.len() {
+    let mut place = first;
+    while place < tasks.len() {
         passed = put_on(&mut tasks[place], passed)?;
+        place = next_working(tasks, place + 1);
     }
     Ok(passed)
 }
@@ -111,11 +145,17 @@ pub(crate) fn finish_through(
 }
 
 /// Passes one message through tasks.
+// Within its callers, since a `Passed` that is returned goes through memory.
+#[inline(always)]
 pub(crate) fn pass_one(tasks: &mut Vec<Box<dyn Task>>, message: Message) -> Result<Passed, NoMemory>
     ensures given { IfOk result (λ out. Comes (flow ⟦<dyn Task as Task>⟧ tasks.old.items) (message ∷ []) (passed_on out)
         (flow ⟦<dyn Task as Task>⟧ tasks.new.items)) }
     ensures count { vec_len tasks.new ≡ vec_len tasks.old }
 {
-    let passed = put_through(tasks, message)?;
+    let first = next_working(tasks, 0);
+    if first == tasks.len() {
+        return Ok(Passed::One(message));
+    }
+    let passed = put_through(tasks, first, message)?;
     Ok(passed)
 }

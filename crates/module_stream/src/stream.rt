@@ -27,7 +27,7 @@ pub struct Module {
 }
 
 /// A stream of at most 16 modules between a head and a tail (ACE's `ACE_Stream`). The tasks of each direction stand in the order
-/// in which messages go through them.
+/// in which messages go through them. Messages go past a task that says that it is passing (`Task::is_passing`).
 #[derive(Drop)]
 pub struct Stream {
     names: Vec<u32>,
@@ -167,6 +167,8 @@ impl Stream {
     }
 
     /// Puts a message at the head as `put` does. Where one message leaves the last task, no list is made for it.
+    // Within its callers, since a `Passed` that a call returns goes through memory.
+    #[inline(always)]
     pub fn pass(&mut self, m: Message) -> Result<Passed, StreamRefused>
         ensures given { IfOk result (λ out. Comes (flow ⟦<dyn Task as Task>⟧ (writers_of self.old)) (m ∷ [])
             (passed_on out) (flow ⟦<dyn Task as Task>⟧ (writers_of self.new))) }
@@ -210,6 +212,8 @@ impl Stream {
     }
 
     /// Puts a message at the tail as `put_up` does. Where one message leaves the last task, no list is made for it.
+    // Within its callers, since a `Passed` that a call returns goes through memory.
+    #[inline(always)]
     pub fn pass_up(&mut self, m: Message) -> Result<Passed, StreamRefused>
         ensures given { IfOk result (λ out. Comes (flow ⟦<dyn Task as Task>⟧ (readers_of self.old)) (m ∷ [])
             (passed_on out) (flow ⟦<dyn Task as Task>⟧ (readers_of self.new))) }

@@ -1,7 +1,7 @@
 //! The trait of tasks.
-ghost use Rattle.std.specs.Prelude.{◌≡◌, List, [], ◌∷◌, IfOk};
+ghost use Rattle.std.specs.Prelude.{◌≡◌, true, List, [], ◌∷◌, IfOk};
 ghost use Rattle.message_block.specs.Messages.{MessageState};
-ghost use Rattle.module_stream.specs.Composition.{Comes};
+ghost use Rattle.module_stream.specs.Composition.{Comes, GiveTheSame};
 ghost use Rattle.module_stream.specs.Passing.{passed_on};
 
 use crate::messages::Messages;
@@ -28,5 +28,13 @@ pub trait Task: Drop {
         ensures comes { IfOk result (λ out. Comes (gives self.old) (m ∷ []) (passed_on out) (gives self.new)) }
     {
         Ok(Passed::Many(self.put(m)?))
+    }
+
+    /// Whether the task gives each message as it was put (as ACE's `ACE_Thru_Task` does). A stream hands no message to a task that
+    /// says so; it asks again for each message, and finishes the task as any other.
+    fn is_passing(&self) -> bool
+        ensures passes { result ≡ true → GiveTheSame (gives self.now) (λ messages. messages) }
+    {
+        false
     }
 }

@@ -139,6 +139,40 @@ fn a_record_becomes_its_line(rt: HostRuntime) -> Result<(), Fail> {
 }
 
 #[test]
+fn passing_tasks_are_passed_by(rt: HostRuntime) -> Result<(), Fail> {
+    let alloc = rt.alloc();
+    let mut stream = Stream::new(alloc);
+    let passing = Module {
+        name: 1,
+        writer: Box::new(alloc, PassTask::new(alloc))?,
+        reader: Box::new(alloc, PassTask::new(alloc))?,
+    };
+    assert_eq!(rt; passing.writer.is_passing(), true);
+    assert_eq!(rt; push(&mut stream, passing), None);
+    let separating = Module {
+        name: 2,
+        writer: Box::new(alloc, SeparateTask::new(alloc))?,
+        reader: Box::new(alloc, PassTask::new(alloc))?,
+    };
+    assert_eq!(rt; separating.writer.is_passing(), false);
+    assert_eq!(rt; push(&mut stream, separating), None);
+    let keeping = Module {
+        name: 3,
+        writer: Box::new(alloc, PassTask::new(alloc))?,
+        reader: Box::new(alloc, KeepTask::new(alloc))?,
+    };
+    assert_eq!(rt; push(&mut stream, keeping), None);
+    let passed = stream.pass(message_of(alloc, b"down", 1)?)?;
+    assert_eq!(rt; sizes(Ok(passed.into_messages(alloc)?)), Ok((1, 2, 5)));
+    assert_eq!(rt;
+        sizes(stream.put_up(message_of(alloc, b"up", 1)?)),
+        Ok((0, 0, 0))
+    );
+    assert_eq!(rt; sizes(stream.finish()), Ok((0, 0, 0)));
+    Ok(())
+}
+
+#[test]
 fn kept_messages_come_at_the_end(rt: HostRuntime) -> Result<(), Fail> {
     let alloc = rt.alloc();
     let mut stream = Stream::new(alloc);
