@@ -107,6 +107,21 @@ earliest_places_more places i first d apart l h =
     subst (λ ts. IsEarliest ts (earlier_of first (get_or places i d).timer)) (sym (ap timers_of (take_more places i d l) ∙ map-append (λ (p : Place). p.timer) (take i places) (get_or places i d ∷ [])))
     (earliest_more (timers_of places) apart (timers_of (take i places)) first (get_or places i d).timer (λ u a. subst (λ ts. Among u ts) (sym (map-append (λ (p : Place). p.timer) (take i places) (drop i places)) ∙ ap timers_of (take-append-drop i places)) (among_left u (timers_of (take i places)) (timers_of (drop i places)) a)) (among_places places i (get_or places i d) (slice_get-get_or places i d l)) h)
 
+-- of one place its timer
+pub earliest_head : (places : List Place) (p : Place) → slice_get places 0 ≡ Some p → IsEarliest (timers_of (take 1 places)) (Some p.timer)
+earliest_head [] p is = absurd (none_some is)
+  where
+    none_some : ◌≡◌ {A = Option Place} None (Some p) → ⊥
+    none_some e = cc
+earliest_head (q ∷ rest) p is = subst (λ r. IsEarliest (q.timer ∷ []) r) (ap (option_map (λ (v : Place). v.timer)) is) (inl refl, λ u a. elim a [ inl e ↦ inl e | inr no_more ↦ absurd no_more ])
+
+-- the earlier of two
+pub later_first : (t f : Timer) → comes_before t f ≡ true → earlier_of (Some f) t ≡ Some t
+later_first t f first = cond-true (comes_before t f) (Some t) (Some f) first
+
+pub same_first : (t f : Timer) → comes_before t f ≡ false → earlier_of (Some f) t ≡ Some f
+same_first t f other = cond-false (comes_before t f) (Some t) (Some f) other
+
 -- ---- by the heads
 
 heads_of-append : (places : List Place) (xs ys : List (Option ℕ)) → heads_of places (xs ++ ys) ≡ heads_of places xs ++ heads_of places ys

@@ -34,11 +34,14 @@ fn first_of_places(places: &[Place]) -> Option<Timer>
     requires { AreApart (timers_of places.now) }
     ensures { IsEarliest places.now result }
 {
-    let mut first = None;
-    for place in places {
-        first = earlier(first, place.timer);
+    let mut first = &places.first()?.timer;
+    for at in 1..places.len() {
+        let timer = &places[at].timer;
+        if timer.comes_before(first) {
+            first = timer;
+        }
     }
-    first
+    Some(*first)
 }
 
 // The one that comes first, where the timer at a head is looked at too.

@@ -16,6 +16,9 @@ use std::marker::Model;
 use timer_index::{Numbered, entry_of};
 use timer_queue::{Timer, TimerQueue};
 
+/// How many entries the index has room for at least, so that with few timers it is seldom made anew.
+const LEAST_ENTRIES: usize = 512;
+
 /// A timer queue that is a wheel of `SPOKES` chains. A timer stands in the spoke of its tick, which is its
 /// deadline by the resolution.
 #[derive(Drop)]
@@ -106,8 +109,8 @@ impl<const SPOKES: usize> TimerQueue for WheelTimers<SPOKES> {
             return Err(NoMemory);
         };
         self.hints.reserve(end.saturating_sub(self.hints.len()))?;
-        self.index
-            .reserve(entries.saturating_sub(self.index.len()))?;
+        let wanted = entries.max(LEAST_ENTRIES);
+        self.index.reserve(wanted.saturating_sub(self.index.len()))?;
         self.places.reserve(n)?;
         self.room = self.places.capacity().min(self.index.capacity() / 2);
         fill_up(&mut self.hints, &self.places, self.resolution);
