@@ -45,31 +45,36 @@ typedef ACE_Timer_Heap_T<Counted *, Upcall, ACE_Null_Mutex> Heap;
 typedef ACE_Timer_List_T<Counted *, Upcall, ACE_Null_Mutex> List;
 typedef ACE_Timer_Wheel_T<Counted *, Upcall, ACE_Null_Mutex> Wheel;
 
-template <class Queue> static void time_queue(const char *name, Queue &queue, uint64_t size)
+// So many timers are scheduled and expire, in one queue so often.
+template <class Queue> static void time_queue(const char *name, Queue &queue, uint64_t size, uint64_t rounds)
 {
     Counted counted;
+    uint64_t timers = size * rounds;
     double start = now_nanos();
-    for (uint64_t timer = 0; timer < size; timer++) {
-        uint64_t deadline = (timer * UINT64_C(0x9e3779b97f4a7c15)) >> 44;
-        queue.schedule(&counted, nullptr, ACE_Time_Value(deadline / 1000, (deadline % 1000) * 1000));
+    for (uint64_t first = 0; first < timers; first += size) {
+        for (uint64_t timer = first; timer < first + size; timer++) {
+            uint64_t deadline = (timer * UINT64_C(0x9e3779b97f4a7c15)) >> 44;
+            queue.schedule(&counted, nullptr, ACE_Time_Value(deadline / 1000, (deadline % 1000) * 1000));
+        }
+        queue.expire(ACE_Time_Value(1 << 20, 0));
     }
-    queue.expire(ACE_Time_Value(1 << 20, 0));
     double spent = now_nanos() - start;
-    std::printf("%llu timers, %s: %.0f\n", (unsigned long long)size, name, counted.expired == size ? spent / size : 0.0);
+    std::printf("%llu timers, %s: %.0f\n", (unsigned long long)size, name, counted.expired == timers ? spent / timers : 0.0);
 }
 
 static void time_timers(uint64_t most)
 {
     for (uint64_t size = 100; size <= most; size *= 10) {
+        uint64_t rounds = most / size;
         Upcall upcall;
         if (size <= 10000) {
             List list(&upcall, nullptr);
-            time_queue("sorted list", list, size);
+            time_queue("sorted list", list, size, rounds);
         }
         Heap heap(size, true, &upcall, nullptr);
-        time_queue("heap", heap, size);
+        time_queue("heap", heap, size, rounds);
         Wheel wheel(256, 100, size, &upcall, nullptr);
-        time_queue("wheel", wheel, size);
+        time_queue("wheel", wheel, size, rounds);
     }
 }
 

@@ -6,10 +6,24 @@ use std::alloc::Global;
 use std::collections::BTreeMap;
 use timer_queue::Timer;
 
-/// Inserts so many timers, and takes them out in order. The answer is how many there were.
-pub fn run(alloc: Global, size: u64) -> Result<u64, NoMemory> {
+/// Inserts so many timers and takes them out in order, in one map so often. The answer is how many there were.
+pub fn run(alloc: Global, size: u64, rounds: u64) -> Result<u64, NoMemory> {
     let mut map = BTreeMap::new(alloc);
-    for timer in 0..size {
+    let mut expired = 0u64;
+    for _ in 0..rounds {
+        insert(&mut map, expired, size)?;
+        for _ in 0..size {
+            if map.pop_first().is_some() {
+                expired = expired.saturating_add(1);
+            }
+        }
+    }
+    Ok(expired)
+}
+
+/// Inserts so many timers, whose numbers rise from `first` on.
+fn insert(map: &mut BTreeMap<(u64, u64), Timer>, first: u64, size: u64) -> Result<(), NoMemory> {
+    for timer in first..first.saturating_add(size) {
         let deadline = deadline_of(timer);
         let scheduled = Timer {
             deadline,
@@ -19,11 +33,5 @@ pub fn run(alloc: Global, size: u64) -> Result<u64, NoMemory> {
         };
         map.insert((deadline, timer), scheduled)?;
     }
-    let mut expired = 0u64;
-    for _ in 0..size {
-        if map.pop_first().is_some() {
-            expired = expired.saturating_add(1);
-        }
-    }
-    Ok(expired)
+    Ok(())
 }

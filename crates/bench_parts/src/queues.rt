@@ -5,27 +5,33 @@ ghost use Rattle.timer_queue.specs.Timers.{is_scheduled};
 use ev_types::{Handle, NoMemory};
 use timer_queue::{Timer, TimerQueue};
 
-/// Schedules so many timers with scattered deadlines, and expires them. The answer is how many expired.
-pub fn run<Q: TimerQueue>(queue: &mut Q, size: u64) -> Result<u64, NoMemory>
-    requires { Q.timers queue.old ≡ [] }
-{
-    queue.reserve(size as usize)?;
-    fill(queue, size);
+/// Schedules so many timers with scattered deadlines and expires them, in one queue so often. The answer is how many expired.
+pub fn run<Q: TimerQueue>(queue: &mut Q, size: u64, rounds: u64) -> Result<u64, NoMemory> {
     let mut expired = 0u64;
-    for _ in 0..size {
-        if queue.pop_due(u64::MAX).is_some() {
-            expired = expired.saturating_add(1);
+    for _ in 0..rounds {
+        if queue.earliest().is_some() {
+            return Ok(expired);
+        }
+        queue.reserve(size as usize)?;
+        fill(queue, expired, size);
+        for _ in 0..size {
+            if queue.pop_due(u64::MAX).is_some() {
+                expired = expired.saturating_add(1);
+            }
         }
     }
     Ok(expired)
 }
 
-/// Schedules timers 0, 1, 2 and so on.
-fn fill<Q: TimerQueue>(queue: &mut Q, size: u64)
+/// Schedules so many timers, whose numbers rise from `first` on as those of a reactor do.
+fn fill<Q: TimerQueue>(queue: &mut Q, first: u64, size: u64)
     requires empty { Q.timers queue.old ≡ [] }
     requires room { size ≤ Q.spare queue.old }
 {
-    for timer in 0..size {
+    let Some(end) = first.checked_add(size) else {
+        return;
+    };
+    for timer in first..end {
         queue.schedule(Timer {
             deadline: deadline_of(timer),
             timer,

@@ -15,6 +15,9 @@ const SPOKES: usize = 256;
 
 const RESOLUTION: u64 = 100;
 
+/// How many timers expire in each queue where it is timed, in rounds of as many as stand in it at once.
+const TIMED: u64 = 100_000;
+
 /// Runs 100 timers, or where it is timed 100 to 100,000.
 pub fn run(rt: &HostRuntime, timed: bool) -> io::Result<()> {
     let sizes: [u64; 4] = [100, 1_000, 10_000, 100_000];
@@ -43,9 +46,14 @@ fn compare(rt: &HostRuntime, timed: bool, size: u64) -> io::Result<()> {
         (QueueKind::Wheel, "wheel"),
         (QueueKind::Map, "BTreeMap"),
     ];
+    let rounds = if timed {
+        TIMED.checked_div(size).unwrap_or(1)
+    } else {
+        1
+    };
     for (kind, name) in kinds {
         let start = Instant::now(rt)?;
-        let done = expire(rt.alloc(), kind, size);
+        let done = expire(rt.alloc(), kind, size, rounds);
         let nanos = start.elapsed(rt)?.as_nanos();
         println!(rt;
             "{size} timers, {name}: {}",
@@ -55,14 +63,15 @@ fn compare(rt: &HostRuntime, timed: bool, size: u64) -> io::Result<()> {
     Ok(())
 }
 
-/// Schedules so many timers, and tells how many expired.
-fn expire(alloc: Global, kind: QueueKind, size: u64) -> Result<u64, NoMemory> {
+/// Schedules so many timers and lets them expire, so often, and tells how many expired.
+fn expire(alloc: Global, kind: QueueKind, size: u64, rounds: u64) -> Result<u64, NoMemory> {
     match kind {
-        QueueKind::Sorted => queues::run(&mut SortedTimers::new(alloc), size),
-        QueueKind::Heap => queues::run(&mut HeapTimers::new(alloc), size),
+        QueueKind::Sorted => queues::run(&mut SortedTimers::new(alloc), size, rounds),
+        QueueKind::Heap => queues::run(&mut HeapTimers::new(alloc), size, rounds),
         QueueKind::Wheel => {
-            queues::run(&mut WheelTimers::<SPOKES>::new(alloc, RESOLUTION)?, size)
+            let mut wheel = WheelTimers::<SPOKES>::new(alloc, RESOLUTION)?;
+            queues::run(&mut wheel, size, rounds)
         }
-        QueueKind::Map => map::run(alloc, size),
+        QueueKind::Map => map::run(alloc, size, rounds),
     }
 }

@@ -5,5 +5,5 @@ use Rattle.bench_parts.proofs.queues.fill.Given as goal
 -- there is room for the others, and no timer has their numbers
 abbrev pub invariant-loop-timer : goal.invariant-loop-timer
 invariant-loop-timer g l =
-    (l.size ≤ g.Q.TimerQueue.spare l.queue + l.timer)
+    (l.first + l.size ≤ g.Q.TimerQueue.spare l.queue + l.timer)
     × ((number : ℕ) → l.timer ≤ number → is_scheduled number (g.Q.TimerQueue.timers l.queue) ≡ false)
