@@ -2,6 +2,7 @@
 use ev_base::{Got, MemSource, Net, PeerEnd, Report, Sent, Source, SteadySource, Waited};
 use ev_types::{Handle, Kind, Mask};
 use one_net::{OneEnd, OneNet};
+use std::alloc::Global;
 use std::process::Abort;
 use std::test::Fail;
 
@@ -20,28 +21,47 @@ fn reads<E: PeerEnd>(rt: &impl Abort, end: &mut E, answers: &[Got]) {
     }
 }
 
-#[test]
-fn ends_give_what_their_limit_lets(rt: HostRuntime) -> Result<(), Fail> {
-    let alloc = rt.alloc();
-    let bytes = b"0123456789abcdefghijklmnopqrstuvwxyz";
-    let whole = [Got::Bytes(8), Got::Bytes(8), Got::Bytes(8), Got::Bytes(6)];
+const LETTERS: &[u8] = b"0123456789abcdefghijklmnopqrstuvwxyz";
 
-    let mut end = OneEnd::new(SteadySource::new(bytes[..31].to_vec(alloc)?), 30);
-    reads(&rt, &mut end, &whole);
+const WHOLE: [Got; 4] = [Got::Bytes(8), Got::Bytes(8), Got::Bytes(8), Got::Bytes(6)];
+
+// An end of at most 30 bytes over so many.
+fn end_of(alloc: Global, bytes: usize) -> Result<OneEnd<SteadySource>, Fail> {
+    let input = LETTERS[..bytes.min(36)].to_vec(alloc)?;
+    Ok(OneEnd::new(SteadySource::new(input), 30))
+}
+
+#[test]
+fn an_end_fails_behind_its_limit(rt: HostRuntime) -> Result<(), Fail> {
+    let mut end = end_of(rt.alloc(), 31)?;
+    reads(&rt, &mut end, &WHOLE);
     assert!(rt; !end.is_too_long());
     reads(&rt, &mut end, &[Got::Failed, Got::Failed]);
     assert!(rt; end.is_too_long() && !end.has_failed());
+    Ok(())
+}
 
-    let mut end = OneEnd::new(SteadySource::new(bytes[..30].to_vec(alloc)?), 30);
-    reads(&rt, &mut end, &whole);
+#[test]
+fn an_end_gives_as_many_bytes_as_its_limit(rt: HostRuntime) -> Result<(), Fail> {
+    let mut end = end_of(rt.alloc(), 30)?;
+    reads(&rt, &mut end, &WHOLE);
     reads(&rt, &mut end, &[Got::Over, Got::Over]);
     assert!(rt; !end.is_too_long());
     assert_eq!(rt; end.write(b"hello"), Sent::Pause);
+    Ok(())
+}
 
+// A source of two pieces whose second read fails.
+fn pieces(alloc: Global) -> Result<MemSource, Fail> {
     let mut pieces = Vec::new(alloc);
     pieces.push(b"abc".to_vec(alloc)?)?;
     pieces.push(b"de".to_vec(alloc)?)?;
-    let mut end = OneEnd::new(MemSource::new(pieces, [1].to_vec(alloc)?), 4);
+    Ok(MemSource::new(pieces, [1].to_vec(alloc)?))
+}
+
+#[test]
+fn an_end_tells_a_failed_read_from_its_limit(rt: HostRuntime) -> Result<(), Fail> {
+    let mut end = OneEnd::new(pieces(rt.alloc())?, 4);
     reads(&rt, &mut end, &[Got::Bytes(3)]);
     assert!(rt; !end.has_failed());
     reads(&rt, &mut end, &[Got::Failed, Got::Bytes(1)]);

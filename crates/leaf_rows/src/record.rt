@@ -224,27 +224,73 @@ fn longest_message_is_read(rt: HostRuntime) -> Result<(), Fail> {
     Ok(())
 }
 
+// In which version a record is written.
+#[derive(Clone, Copy)]
+enum Version {
+    One,
+    Two,
+}
+
+// What is written of a record.
+fn written(
+    alloc: Global,
+    record: &LogRecord,
+    version: Version,
+    order: Order,
+) -> Result<Bytes, EncodeRefused> {
+    match version {
+        Version::One => encode(alloc, record, order),
+        Version::Two => encode_2(alloc, record, order),
+    }
+}
+
+// Whether a record is written as these bytes.
+fn is_written_as(
+    alloc: Global,
+    want: &Want,
+    version: Version,
+    order: Order,
+    bytes: &[u8],
+) -> Result<bool, Fail> {
+    let record = record(alloc, want)?;
+    Ok(written(alloc, &record, version, order)?.as_slice() == bytes)
+}
+
 #[test]
 fn records_are_written(rt: HostRuntime) -> Result<(), Fail> {
-    let hi = record(rt.alloc(), &HI)?;
-    let wide = record(rt.alloc(), &HI_WIDE)?;
-    assert!(rt; encode(rt.alloc(), &hi, Order::Big)?.as_slice() == BASE);
-    let little = encode(rt.alloc(), &hi, Order::Little)?.into_vec();
-    assert!(rt; little.as_slice() == LITTLE_WRITTEN);
-    assert!(rt; encode_2(rt.alloc(), &wide, Order::Big)?.as_slice() == WIDE);
-    assert!(rt; encode_2(rt.alloc(), &wide, Order::Little)?.as_slice() == WIDE_LITTLE);
-    let refused = encode(rt.alloc(), &wide, Order::Big).err();
-    assert_eq!(rt;
-        refused,
-        Some(EncodeRefused::SecondsWide { sec: 4_294_967_297 })
-    );
+    for (want, version, order, bytes) in [
+        (&HI, Version::One, Order::Big, BASE),
+        (&HI, Version::One, Order::Little, LITTLE_WRITTEN),
+        (&HI_WIDE, Version::Two, Order::Big, WIDE),
+        (&HI_WIDE, Version::Two, Order::Little, WIDE_LITTLE),
+    ] {
+        assert!(rt; is_written_as(rt.alloc(), want, version, order, bytes)?);
+    }
+    Ok(())
+}
 
-    let long = LogRecord {
-        text: Bytes::new(vec![in rt.alloc(); b'a'; 65_537]?),
-        ..wide
-    };
+// Why a record is not written.
+fn refusal(
+    alloc: Global,
+    record: &LogRecord,
+    version: Version,
+    order: Order,
+) -> Option<EncodeRefused> {
+    written(alloc, record, version, order).err()
+}
+
+#[test]
+fn records_that_do_not_fit_are_refused(rt: HostRuntime) -> Result<(), Fail> {
+    let alloc = rt.alloc();
+    let mut wide = record(alloc, &HI_WIDE)?;
+    let too_wide = Some(EncodeRefused::SecondsWide { sec: 4_294_967_297 });
+    assert_eq!(rt; refusal(alloc, &wide, Version::One, Order::Big), too_wide);
+    wide.text = Bytes::new(vec![in alloc; b'a'; 65_537]?);
     let too_long = Some(EncodeRefused::TooLong { length: 65_537 });
-    assert_eq!(rt; encode(rt.alloc(), &long, Order::Big).err(), too_long);
-    assert_eq!(rt; encode_2(rt.alloc(), &long, Order::Little).err(), too_long);
+    assert_eq!(rt; refusal(alloc, &wide, Version::One, Order::Big), too_long);
+    assert_eq!(rt;
+        refusal(alloc, &wide, Version::Two, Order::Little),
+        too_long
+    );
     Ok(())
 }

@@ -1,6 +1,7 @@
 //! Sources and sinks: how many bytes a read and a write move, and what the adapters do over readers and writers of std,
 //! and that they may move to another thread.
 use ev_base::{Got, MemSink, MemSource, Sink, Source, StdSink, StdSource, SteadySource, Wrote};
+use std::alloc::Global;
 use std::io;
 use std::io::{Cursor, ErrorKind, Read, Write};
 use std::test::Fail;
@@ -72,18 +73,28 @@ fn reads<S: Source>(
 }
 
 #[test]
-fn sources_give_their_bytes(rt: HostRuntime) -> Result<(), Fail> {
-    let alloc = rt.alloc();
-    let mut given = Vec::new(alloc);
-    let mut steady = SteadySource::new(b"hello".to_vec(alloc)?);
+fn a_steady_source_gives_its_bytes(rt: HostRuntime) -> Result<(), Fail> {
+    let mut given = Vec::new(rt.alloc());
+    let mut steady = SteadySource::new(b"hello".to_vec(rt.alloc())?);
     let answers = [Got::Bytes(3), Got::Bytes(2), Got::Over, Got::Over];
     reads(&rt, &mut steady, &answers, &mut given)?;
+    assert_eq!(rt; given.as_slice(), b"hello".as_slice());
+    Ok(())
+}
 
+// A source of three pieces, of which one is empty, whose reads 1 and 5 fail.
+fn pieces(alloc: Global) -> Result<MemSource, Fail> {
     let mut pieces = Vec::new(alloc);
     pieces.push(b"ab".to_vec(alloc)?)?;
     pieces.push(Vec::new(alloc))?;
     pieces.push(b"cdef".to_vec(alloc)?)?;
-    let mut source = MemSource::new(pieces, [1, 5].to_vec(alloc)?);
+    Ok(MemSource::new(pieces, [1, 5].to_vec(alloc)?))
+}
+
+#[test]
+fn a_source_in_memory_gives_its_bytes(rt: HostRuntime) -> Result<(), Fail> {
+    let mut given = Vec::new(rt.alloc());
+    let mut source = pieces(rt.alloc())?;
     let answers = [
         Got::Bytes(2),
         Got::Failed,
@@ -93,13 +104,19 @@ fn sources_give_their_bytes(rt: HostRuntime) -> Result<(), Fail> {
         Got::Over,
     ];
     reads(&rt, &mut source, &answers, &mut given)?;
+    assert_eq!(rt; given.as_slice(), b"abcdef".as_slice());
+    Ok(())
+}
 
-    let below = Cursor::new(b"there".to_vec(alloc)?);
+#[test]
+fn an_adapter_gives_the_bytes_of_its_reader(rt: HostRuntime) -> Result<(), Fail> {
+    let mut given = Vec::new(rt.alloc());
+    let below = Cursor::new(b"there".to_vec(rt.alloc())?);
     let mut adapter = StdSource::new(Stumbling { below, reads: 0 });
     moves(&adapter);
     let answers = [Got::Failed, Got::Bytes(3), Got::Bytes(2), Got::Over];
     reads(&rt, &mut adapter, &answers, &mut given)?;
-    assert_eq!(rt; given.as_slice(), b"helloabcdefthere".as_slice());
+    assert_eq!(rt; given.as_slice(), b"there".as_slice());
     Ok(())
 }
 
