@@ -1,6 +1,5 @@
 //! Timers scheduled in a timer queue, and all expired.
-ghost use Rattle.std.specs.Prelude.{◌≡◌, ◌≤◌, ◌+◌, ℕ, [], false, OnOk};
-ghost use Rattle.timer_queue.specs.Timers.{is_scheduled};
+ghost use Rattle.std.specs.Prelude.{◌≡◌, ◌≤◌, []};
 
 use ev_types::{Handle, NoMemory};
 use timer_queue::{Timer, TimerQueue};
