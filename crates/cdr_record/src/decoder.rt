@@ -108,12 +108,12 @@ impl Decoder {
     }
 }
 
-/// How many records a piece of so many bytes completes at most: an unfinished one, and those that stand in it whole. A list with room
-/// for so many does not grow.
+/// How many records a piece of so many bytes completes at most, and one more: an unfinished one, those that stand in it whole, and what a
+/// caller may add. A list with room for so many does not grow.
 fn most_records(bytes: usize) -> usize
     ensures { bytes < 28 * result }
 {
-    (bytes / SHORTEST_RECORD).saturating_add(1)
+    (bytes / SHORTEST_RECORD).saturating_add(2)
 }
 
 /// How many bytes a step took for whole records, at most `u64::MAX`, and what stands first behind them.

@@ -1,26 +1,20 @@
 -- The text of the lines of a piece's records.
-use Rattle.std.specs.Prelude.{◌≡◌, ℕ, List, [], ◌++◌, false, Option, Some, None}
-use Rattle.std.specs.Global.{Box}
+use Rattle.std.specs.Prelude.{◌≡◌, ◌-◌, ℕ, ℤ, pos, List, [], ◌∷◌, ◌++◌, length, take, false}
 use Rattle.cdr_record.specs.declared.record.LogRecord.{LogRecord}
 use Rattle.log_lines.specs.Texts.{record_lines}
-use Rattle.log_handler.specs.declared.logged.Lines.{Lines}
-use Rattle.log_handler.specs.declared.logged.Logged.{Logged}
 use Rattle.log_handler.specs.declared.logged.GrowingText.{GrowingText}
 
--- a text, where there is one, is that of the lines of these records for the connection's number beside it
-abbrev pub AreLinesOf : Option Lines → List LogRecord → Type 0
-AreLinesOf None records = Unit {0}
-AreLinesOf (Some lines) records = lines.text.items ≡ record_lines lines.conn records
+-- a text beside a time: where that is the number of a connection, the text is that of the lines of these records for it
+abbrev pub IsTextOf : ℤ → List ℕ → List LogRecord → Type 0
+IsTextOf sec text records = (conn : ℕ) → sec ≡ pos conn → text ≡ record_lines conn records
 
--- the records in the box, and none where there is no box
-abbrev pub records_of : Option (Box Logged) → List LogRecord
-records_of None = []
-records_of (Some logged) = logged.value.records
+-- the records of a list: all its items but the last, which carries their text
+abbrev pub records_in : List LogRecord → List LogRecord
+records_in items = take (length items - 1) items
 
--- a text in the box is that of the lines of the records in it
-abbrev pub HasLines : Option (Box Logged) → Type 0
-HasLines None = Unit {0}
-HasLines (Some logged) = AreLinesOf logged.value.lines logged.value.records
+-- the item behind the records carries the text of their lines
+abbrev pub HasLines : List LogRecord → Type 0
+HasLines items = (carrier : LogRecord) → items ≡ records_in items ++ carrier ∷ [] → IsTextOf carrier.sec carrier.text (records_in items)
 
 -- since it was these bytes, this was put behind them, unless it broke
 abbrev pub Grows : List ℕ → GrowingText → List ℕ → Type 0

@@ -115,7 +115,7 @@ impl<E: PeerEnd> LogConnection<E> {
         ensures turn { IsTurn self.old.conn Close took [] result }
         ensures ends { self.new ≡ record self.old { kept = Some NoMemory } }
     {
-        self.close_with(EndKind::NoMemory, took, LoggedRecords::none())
+        self.close_with(EndKind::NoMemory, took, LoggedRecords::none(self.alloc))
     }
 
     /// Closes where nothing came for too long.
@@ -146,7 +146,7 @@ impl<E: PeerEnd> LogConnection<E> {
     fn keep(&self) -> Turn<LogConnection<E>>
         ensures { IsTurn self.now.conn Keep 0 [] result }
     {
-        self.turn(Answer::Keep, 0, LoggedRecords::none())
+        self.turn(Answer::Keep, 0, LoggedRecords::none(self.alloc))
     }
 
     /// A turn that took nothing and ends the connection so.
@@ -154,7 +154,7 @@ impl<E: PeerEnd> LogConnection<E> {
         ensures turn { IsTurn self.old.conn Close 0 [] result }
         ensures ends { self.new ≡ record self.old { kept = Some end } }
     {
-        self.close_with(end, 0, LoggedRecords::none())
+        self.close_with(end, 0, LoggedRecords::none(self.alloc))
     }
 
     /// A turn that took so many bytes, completed these records, and ends the connection so.

@@ -1,9 +1,9 @@
 //! The records of a piece, with the text of their lines.
 ghost use Rattle.std.specs.Prelude.{◌≡◌, [], ℕ, IfOk, IfSome, List};
 ghost use Rattle.log_lines.specs.Texts.{record_lines};
-ghost use Rattle.log_handler.specs.Logged.{AreLinesOf};
+ghost use Rattle.log_handler.specs.Logged.{IsTextOf};
 
-use cdr_record::{LogRecord, Records};
+use cdr_record::{Bytes, LogRecord, Records};
 use ev_types::NoMemory;
 use log_lines::put_record_lines;
 use sink_buffer::TextOut;
@@ -13,110 +13,95 @@ use std::marker::Model;
 /// How many bytes a line is taken to have beside its message: so many, and more than usual numbers need.
 const BESIDE_MESSAGE: usize = 64;
 
-/// The text of the lines of records.
-#[derive(Debug, Drop)]
-struct Lines {
-    conn: u64,
-    text: Vec<u8>,
-}
-
-/// Records with the text of their lines, where it was made.
-#[derive(Debug, Drop)]
-struct Logged {
-    records: Records,
-    lines: Option<Lines>,
-}
+/// The time of the item behind records of which no text was made: the number of no connection.
+const NO_LINES: i64 = -1;
 
 /// The records of a piece, in order, and where it was made the text of their lines, so that a watch writes it as it is. A contract
-/// sees the list of the records. Both are in a box, and no records need none: so it takes one word of a note, and an entry of a journal,
-/// of which most note no records, is half as long as with the two lists in it.
+/// sees the list of the records. Behind the records the list has one item more, which is none: its text is the text of their lines, and its
+/// time the number of the connection that they are of. So a piece takes two allocations beside the messages' own, its list and the text, and
+/// no records take none.
 #[derive(Debug, Drop)]
 pub struct LoggedRecords {
-    logged: Option<Box<Logged>>,
+    items: Vec<LogRecord>,
 }
 
 impl Model for LoggedRecords {
     ghost use Rattle.std.specs.Prelude.{List};
     ghost use Rattle.cdr_record.specs.declared.record.LogRecord.{LogRecord};
-    ghost use Rattle.log_handler.specs.Logged.{records_of, HasLines};
+    ghost use Rattle.log_handler.specs.Logged.{records_in, HasLines};
 
     ghost Value = { List LogRecord };
 
-    ghost view = { λ r. records_of r.logged };
+    ghost view = { λ r. records_in r.items.items };
 
     // A text that is there is that of the lines of these records, for the connection's number that stands beside it.
-    ghost invariant = { λ r. HasLines r.logged };
+    ghost invariant = { λ r. HasLines r.items.items };
 }
 
 impl LoggedRecords {
     /// No records.
-    pub fn none() -> LoggedRecords
+    pub fn none(alloc: Global) -> LoggedRecords
         ensures { result ≡ [] }
     {
-        LoggedRecords { logged: None }
+        LoggedRecords {
+            items: Vec::new(alloc),
+        }
     }
 
     /// These records, without the text of their lines. On `NoMemory` they are dropped.
     pub fn new(alloc: Global, records: Records) -> Result<LoggedRecords, NoMemory>
         ensures { IfOk result (λ logged. logged ≡ records) }
     {
-        LoggedRecords::in_box(alloc, records, None)
+        if records.as_slice().is_empty() {
+            return Ok(LoggedRecords::none(alloc));
+        }
+        LoggedRecords::carrying(records, NO_LINES, Vec::new(alloc))
     }
 
     /// These records, with the text of their lines for this connection's number. On `NoMemory` they are dropped.
     pub fn with_lines(alloc: Global, conn: u64, records: Records) -> Result<LoggedRecords, NoMemory>
         ensures { IfOk result (λ logged. logged ≡ records) }
     {
-        let text = text_of_lines(alloc, conn, records.as_slice())?;
-        LoggedRecords::in_box(alloc, records, Some(Lines { conn, text }))
+        match i64::try_from(conn) {
+            Ok(number) if !records.as_slice().is_empty() => {
+                let text = text_of_lines(alloc, conn, records.as_slice())?;
+                LoggedRecords::carrying(records, number, text)
+            }
+            _ => LoggedRecords::new(alloc, records),
+        }
     }
 
-    /// These records, with this text of their lines.
-    fn in_box(
-        alloc: Global,
-        records: Records,
-        lines: Option<Lines>,
-    ) -> Result<LoggedRecords, NoMemory>
-        requires { AreLinesOf lines records }
+    /// These records, and behind them an item with this time and this text.
+    fn carrying(records: Records, sec: i64, text: Vec<u8>) -> Result<LoggedRecords, NoMemory>
+        requires { IsTextOf sec text.items records }
         ensures { IfOk result (λ logged. logged ≡ records) }
     {
-        if records.as_slice().is_empty() {
-            return Ok(LoggedRecords::none());
-        }
-        let logged = Box::new(alloc, Logged { records, lines })?;
-        Ok(LoggedRecords {
-            logged: Some(logged),
-        })
+        let mut items = records.into_vec();
+        items.reserve_exact(1)?;
+        items.push_reserved(LogRecord {
+            kind: 0,
+            pid: 0,
+            sec,
+            usec: 0,
+            text: Bytes::new(text),
+        });
+        Ok(LoggedRecords { items })
     }
 
     /// The records.
     pub fn as_slice(&self) -> &[LogRecord]
         ensures { result.now ≡ self.now }
     {
-        match &self.logged {
-            Some(logged) => logged.records.as_slice(),
-            None => &[],
-        }
+        &self.items[..self.items.len().saturating_sub(1)]
     }
 
     /// The text of the lines for this connection's number, where it was made for that.
     pub fn lines_for(&self, conn: u64) -> Option<&[u8]>
         ensures { IfSome result (λ text. text.now ≡ record_lines conn self.now) }
     {
-        match &self.logged {
-            Some(logged) => logged.lines_for(conn),
-            None => None,
-        }
-    }
-}
-
-impl Logged {
-    /// The text of the lines for this connection's number, where it was made for that.
-    fn lines_for(&self, conn: u64) -> Option<&[u8]>
-        ensures { AreLinesOf self.now.lines self.now.records → IfSome result (λ text. text.now ≡ record_lines conn self.now.records) }
-    {
-        match &self.lines {
-            Some(lines) if lines.conn == conn => Some(lines.text.as_slice()),
+        let (carrier, _) = self.items.split_last()?;
+        match u64::try_from(carrier.sec) {
+            Ok(number) if number == conn => Some(carrier.text.as_slice()),
             _ => None,
         }
     }
