@@ -1,3 +1,4 @@
+pub mod Borrowed
 pub mod Decoding
 pub mod Feeding
 pub mod Grammar

@@ -2,12 +2,13 @@
 
 ghost use Rattle.std.specs.Prelude.{◌≡◌, ◌≤◌, ◌<◌, ◌+◌, ℕ, length, take, drop, IfOk};
 ghost use Rattle.std.specs.Int.{cast_signed, w32};
+ghost use Rattle.cdr_record.specs.Borrowed.{owned};
 ghost use Rattle.cdr_record.specs.Grammar as G;
 ghost use Rattle.cdr_record.specs.declared.grammar.First.TheVariants as first;
 
 use crate::bad::BadWhy;
 use crate::bytes::Bytes;
-use crate::record::{LogRecord, Order};
+use crate::record::{LogRecord, Order, RecordRef};
 use byteorder::{BigEndian, ByteOrder, LittleEndian};
 use std::alloc::{AllocError, Global};
 
@@ -149,15 +150,30 @@ fn signed_at(bytes: &[u8], place: usize) -> i32
 }
 
 /// The message of the record at the front.
-fn message_in(alloc: Global, bytes: &[u8]) -> Result<Bytes, AllocError>
+fn message_in(bytes: &[u8]) -> &[u8]
     requires fields { 8 + G.fields_length bytes.now ≤ length bytes.now }
     requires message { 8 + G.fields_length bytes.now + G.message_length bytes.now ≤ length bytes.now }
-    ensures { IfOk result (λ text. text ≡ take (G.message_length bytes.now) (drop (24 + G.seconds_size (G.octet bytes.now)) bytes.now)) }
+    ensures { result.now ≡ take (G.message_length bytes.now) (drop (24 + G.seconds_size (G.octet bytes.now)) bytes.now) }
 {
     let start = 24 + seconds_size(bytes[0]);
     let length = message_length(bytes);
     let behind = &bytes[start..];
-    Ok(Bytes::new(Vec::from_slice(alloc, &behind[..length])?))
+    &behind[..length]
+}
+
+/// The record at the front, with its message borrowed.
+pub(crate) fn record_in(bytes: &[u8]) -> RecordRef<'_>
+    requires fields { 8 + G.fields_length bytes.now ≤ length bytes.now }
+    requires message { 8 + G.fields_length bytes.now + G.message_length bytes.now ≤ length bytes.now }
+    ensures { owned result ≡ G.record_in bytes.now }
+{
+    RecordRef {
+        kind: signed_at(bytes, 8),
+        pid: signed_at(bytes, 12),
+        sec: seconds_in(bytes),
+        usec: signed_at(bytes, 16 + seconds_size(bytes[0])),
+        text: message_in(bytes),
+    }
 }
 
 /// The record at the front.
@@ -166,12 +182,18 @@ pub(crate) fn read_record(alloc: Global, bytes: &[u8]) -> Result<LogRecord, Allo
     requires message { 8 + G.fields_length bytes.now + G.message_length bytes.now ≤ length bytes.now }
     ensures { IfOk result (λ r. r ≡ G.record_in bytes.now) }
 {
-    let text = message_in(alloc, bytes)?;
-    Ok(LogRecord {
-        kind: signed_at(bytes, 8),
-        pid: signed_at(bytes, 12),
-        sec: seconds_in(bytes),
-        usec: signed_at(bytes, 16 + seconds_size(bytes[0])),
+    let RecordRef {
+        kind,
+        pid,
+        sec,
+        usec,
         text,
+    } = record_in(bytes);
+    Ok(LogRecord {
+        kind,
+        pid,
+        sec,
+        usec,
+        text: Bytes::new(Vec::from_slice(alloc, text)?),
     })
 }

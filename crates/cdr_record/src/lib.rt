@@ -25,4 +25,4 @@ pub use decoder::{Decoder, Fed};
 pub use encoding::{EncodeRefused, encode, encode_2};
 pub use grammar::{First, first_in};
 pub use one_record::only_record;
-pub use record::{LogRecord, Order, Records};
+pub use record::{LogRecord, Order, RecordRef, Records};

@@ -1,6 +1,7 @@
 //! A log record, lists of them, and the two byte orders.
 
 ghost use Rattle.std.specs.Prelude.{◌≡◌};
+ghost use Rattle.cdr_record.specs.Borrowed.{owned};
 
 use crate::bytes::Bytes;
 use std::marker::Model;
@@ -27,6 +28,36 @@ pub struct LogRecord {
     pub usec: i32,
     /// The bytes of the message.
     pub text: Bytes,
+}
+
+impl LogRecord {
+    /// The record, with its message borrowed.
+    pub fn borrowed(&self) -> RecordRef<'_>
+        ensures { owned result ≡ self.now }
+    {
+        RecordRef {
+            kind: self.kind,
+            pid: self.pid,
+            sec: self.sec,
+            usec: self.usec,
+            text: self.text.as_slice(),
+        }
+    }
+}
+
+/// A log record whose message is borrowed, as from the bytes that spell it.
+#[derive(Clone, Copy, Debug)]
+pub struct RecordRef<'a> {
+    /// The type: the priority, as 4 for `LM_DEBUG`.
+    pub kind: i32,
+    /// The id of the process that logged it.
+    pub pid: i32,
+    /// The time when it was logged, in seconds.
+    pub sec: i64,
+    /// The microseconds of that time. Any number may stand here.
+    pub usec: i32,
+    /// The bytes of the message.
+    pub text: &'a [u8],
 }
 
 /// Log records in order. A contract sees the list of them.

@@ -1,18 +1,26 @@
 //! The texts and lines of records, and closing lines.
 ghost use Rattle.std.specs.Prelude.{◌≡◌, ℕ, ◌++◌, MatchOption, decimal};
 ghost use Rattle.std.specs.Fmt.{signed_decimal};
+ghost use Rattle.cdr_record.specs.Borrowed.{owned};
 ghost use Rattle.sink_buffer.specs.Texts.{Puts};
 ghost use Rattle.log_lines.specs.Texts.{type_text, record_text, record_line, record_lines, end_word, closing_line};
 
 use crate::EndKind;
 use crate::message::put_message;
 use crate::numbers::{put_signed, put_unsigned};
-use cdr_record::LogRecord;
+use cdr_record::{LogRecord, RecordRef};
 use sink_buffer::TextOut;
 
 /// Puts a record's text: `SEC,USEC PID NAME: MESSAGE`.
 pub fn put_record_text<T: TextOut>(out: &mut T, entry: &LogRecord)
     ensures { Puts T.stands out.old (record_text entry.now) out.new }
+{
+    put_borrowed_text(out, entry.borrowed());
+}
+
+/// Puts the text of a record whose message is borrowed, as `put_record_text` does.
+pub fn put_borrowed_text<T: TextOut>(out: &mut T, entry: RecordRef<'_>)
+    ensures { Puts T.stands out.old (record_text (owned entry.entry)) out.new }
 {
     put_signed(out, entry.sec);
     out.put(b",");
@@ -22,7 +30,7 @@ pub fn put_record_text<T: TextOut>(out: &mut T, entry: &LogRecord)
     out.put(b" ");
     put_type(out, entry.kind);
     out.put(b": ");
-    put_message(out, entry.text.as_slice());
+    put_message(out, entry.text);
 }
 
 /// Puts a record's line: the number of its connection, and its text.

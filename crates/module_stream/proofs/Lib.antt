@@ -3,6 +3,7 @@ pub mod Alone
 pub mod Moves
 pub mod Steps
 pub mod Boxes
+pub mod Formats
 pub mod Giving
 pub mod Passes
 pub mod Settling

@@ -1,14 +1,15 @@
 //! The task that makes the texts of log records.
-ghost use Rattle.std.specs.Prelude.{◌≡◌, IfOk, map};
+ghost use Rattle.std.specs.Prelude.{◌≡◌, [], ◌∷◌, IfOk, map};
+ghost use Rattle.std.specs.Option.{option_map};
 ghost use Rattle.message_block.specs.Messages.{bytes_of, bytes_in};
 ghost use Rattle.cdr_record.specs.Decoding as D;
-ghost use Rattle.module_stream.specs.Tasks.{formatted, text_message};
+ghost use Rattle.module_stream.specs.Tasks.{formatted, text_block};
 
 use crate::messages::Messages;
 use crate::passed::Passed;
 use crate::task::Task;
 use crate::text::text_block;
-use cdr_record::{LogRecord, only_record};
+use cdr_record::only_record;
 use ev_types::NoMemory;
 use message_block::{Block, Message};
 use std::alloc::Global;
@@ -54,37 +55,46 @@ impl FormatTask {
     fn format(&mut self, message: Message) -> Result<Message, NoMemory>
         ensures { IfOk result (λ text. text ≡ formatted message) }
     {
-        match record_of(self.alloc, &message)? {
-            Some(entry) => self.text_as_message(&entry, message),
+        match self.text_of_message(&message)? {
+            Some(block) => Ok(self.replace(message, block)),
             None => Ok(message),
         }
     }
 
-    /// The text of a record, in the message that it was.
-    fn text_as_message(&mut self, entry: &LogRecord, message: Message) -> Result<Message, NoMemory>
-        ensures { IfOk result (λ text. text ≡ text_message message.priority entry.now) }
+    /// The block of the text of the record that a message's bytes spell, if they do.
+    fn text_of_message(&mut self, message: &Message) -> Result<Option<Block>, NoMemory>
+        ensures { IfOk result (λ text. text ≡ option_map text_block (D.only_record (bytes_of message.now))) }
+    {
+        match message.blocks() {
+            [only] => self.text_of(only.bytes()),
+            blocks => {
+                let bytes = joined(self.alloc, blocks)?;
+                self.text_of(&bytes)
+            }
+        }
+    }
+
+    /// The block of the text of the record that bytes spell, if they do. Nothing of the record is copied but into the text.
+    fn text_of(&mut self, bytes: &[u8]) -> Result<Option<Block>, NoMemory>
+        ensures { IfOk result (λ text. text ≡ option_map text_block (D.only_record bytes.now)) }
+    {
+        match only_record(bytes) {
+            Some(entry) => Ok(Some(text_block(self.take_memory(), entry)?)),
+            None => Ok(None),
+        }
+    }
+
+    /// The message with a block in the place of its own, whose memory is kept for the next text.
+    fn replace(&mut self, message: Message, block: Block) -> Message
+        ensures { result ≡ record { priority = message.priority; blocks = block ∷ [] } }
     {
         let mut message = message;
-        let block = text_block(self.take_memory(), entry)?;
         self.memory = message.put_alone(block);
-        Ok(message)
+        message
     }
 
     fn take_memory(&mut self) -> Vec<u8> {
         mem::replace(&mut self.memory, Vec::new(self.alloc))
-    }
-}
-
-/// The record that the bytes of a message spell, if they do.
-fn record_of(alloc: Global, message: &Message) -> Result<Option<LogRecord>, NoMemory>
-    ensures { IfOk result (λ found. found ≡ D.only_record (bytes_of message.now)) }
-{
-    match message.blocks() {
-        [only] => only_record(alloc, only.bytes()),
-        blocks => {
-            let bytes = joined(alloc, blocks)?;
-            only_record(alloc, &bytes)
-        }
     }
 }
 

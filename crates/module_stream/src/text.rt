@@ -1,11 +1,12 @@
 //! Texts of records as messages.
 ghost use Rattle.std.specs.Prelude.{◌≡◌, ◌≤◌, ◌<◌, ◌++◌, ℕ, List, IfOk, length};
-ghost use Rattle.message_block.specs.Messages.{block_of};
+ghost use Rattle.cdr_record.specs.Borrowed.{owned};
+ghost use Rattle.module_stream.specs.Tasks.{text_block};
 ghost use Rattle.log_lines.specs.Texts.{record_text};
 
-use cdr_record::LogRecord;
+use cdr_record::RecordRef;
 use ev_types::NoMemory;
-use log_lines::put_record_text;
+use log_lines::put_borrowed_text;
 use message_block::Block;
 use sink_buffer::TextOut;
 
@@ -49,18 +50,18 @@ fn room_for(message: &[u8]) -> usize {
 }
 
 /// The text of a record, in memory that is used again.
-fn text_of(memory: Vec<u8>, entry: &LogRecord) -> Result<Vec<u8>, NoMemory>
-    ensures text { IfOk result (λ text. text.items ≡ record_text entry.now) }
+fn text_of(memory: Vec<u8>, entry: RecordRef<'_>) -> Result<Vec<u8>, NoMemory>
+    ensures text { IfOk result (λ text. text.items ≡ record_text (owned entry.entry)) }
     ensures within { IfOk result (λ text. length text.items ≤ 1048576) }
 {
     let mut bytes = memory;
     bytes.clear();
-    bytes.reserve(room_for(entry.text.as_slice()))?;
+    bytes.reserve(room_for(entry.text))?;
     let mut text = GrowingText {
         bytes,
         broken: false,
     };
-    put_record_text(&mut text, entry);
+    put_borrowed_text(&mut text, entry);
     if text.broken {
         return Err(NoMemory);
     }
@@ -68,8 +69,8 @@ fn text_of(memory: Vec<u8>, entry: &LogRecord) -> Result<Vec<u8>, NoMemory>
 }
 
 /// A block of the text of a record, without space, in memory that is used again.
-pub(crate) fn text_block(memory: Vec<u8>, entry: &LogRecord) -> Result<Block, NoMemory>
-    ensures { IfOk result (λ block. block ≡ block_of (record_text entry.now)) }
+pub(crate) fn text_block(memory: Vec<u8>, entry: RecordRef<'_>) -> Result<Block, NoMemory>
+    ensures { IfOk result (λ block. block ≡ text_block (owned entry.entry)) }
 {
     Ok(Block::from_vec(text_of(memory, entry)?))
 }

@@ -5,15 +5,15 @@ use Rattle.cdr_record.proofs.Alone.{none_first_none_alone, more_behind_none_alon
 use Rattle.cdr_record.proofs.one_record.only_record.Goals as goal
 use Rattle.cdr_record.proofs.one_record.only_record.Goals.{in_default-via-in-One+else-size-bytes, in_default-via-in_default}
 
-pub read_record-requires-clause-fields : goal.read_record-requires-clause-fields
-read_record-requires-clause-fields c = one_fields _ _ (sym c.in-One.ensures)
+pub record_in-requires-clause-fields : goal.record_in-requires-clause-fields
+record_in-requires-clause-fields c = one_fields _ _ (sym c.in-One.ensures)
 
-pub read_record-requires-clause-message : goal.read_record-requires-clause-message
-read_record-requires-clause-message c = one_message _ _ (sym c.in-One.ensures)
+pub record_in-requires-clause-message : goal.record_in-requires-clause-message
+record_in-requires-clause-message c = one_message _ _ (sym c.in-One.ensures)
 
-pub returns-in_ok-read_record-in-One : goal.returns-in_ok-read_record-in-One
-returns-in_ok-read_record-in-One c =
-    ap Some c.in_ok-read_record-in-One.ensures ∙ one_is_alone c.args.bytes.now c.in-One.size (sym c.in-One.ensures) (omega (arith, c.if-size-bytes.true))
+pub returns-in-One : goal.returns-in-One
+returns-in-One c =
+    ap Some c.record_in.ensures ∙ one_is_alone c.args.bytes.now c.in-One.size (sym c.in-One.ensures) (omega (arith, c.if-size-bytes.true))
 
 pub returns-in_default : goal.returns-in_default
 returns-in_default c =
