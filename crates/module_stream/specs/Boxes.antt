@@ -1,5 +1,5 @@
 -- What came back through a line.
-use Rattle.std.specs.Prelude.{◌≡◌, Bool, true, false, List, [], ◌∷◌, ◌++◌, map, flat_map}
+use Rattle.std.specs.Prelude.{◌≡◌, ◌≤◌, ◌+◌, ◌⊎◌, Bool, true, false, List, [], ◌∷◌, ◌++◌, map, flat_map, vec_len, vec_capacity}
 use Rattle.message_block.specs.Messages.{MessageState}
 use Rattle.module_stream.specs.declared.line.Item.{Item}
 use Rattle.module_stream.specs.declared.line.Item.TheVariants.{One, Many, Stop}
@@ -29,3 +29,7 @@ pub record IsIn (got : List Item) (answered : List MessageState) (inbox : Inbox)
   pub dropped : List MessageState
   pub none : inbox.lost ≡ false → dropped ≡ []
   pub all : got ≡ ones ((answered ++ inbox.messages.items) ++ dropped) ++ stop_if inbox.over
+
+-- whatever item comes next is kept: there are places for as many messages as go together, or nothing is held, and there is a place for one
+abbrev pub HasRoom : Inbox → Type 0
+HasRoom inbox = (vec_len inbox.messages + 256 ≤ vec_capacity inbox.messages) ⊎ ((inbox.messages.items ≡ []) × (1 ≤ vec_capacity inbox.messages))

@@ -1,11 +1,12 @@
 //! What came back.
-ghost use Rattle.std.specs.Prelude.{◌≡◌, ◌<◌, ◌≤◌, ◌+◌, [], ◌∷◌, ◌++◌, List, true, false, vec_len, vec_capacity};
+ghost use Rattle.std.specs.Prelude.{◌≡◌, ◌<◌, [], ◌∷◌, ◌++◌, List, true, false, vec_len, vec_capacity, OnOk};
 ghost use Rattle.message_block.specs.Messages.{MessageState};
 ghost use Rattle.module_stream.specs.declared.line.Item.{Item};
-ghost use Rattle.module_stream.specs.Boxes.{IsIn, each_of, ones};
+ghost use Rattle.module_stream.specs.Boxes.{IsIn, HasRoom, each_of, ones};
 
-use crate::batch::Batch;
+use crate::batch::{Batch, MOST_TOGETHER};
 use crate::line::Item;
+use ev_types::NoMemory;
 use message_block::Message;
 use std::alloc::Global;
 use std::mem;
@@ -34,11 +35,28 @@ impl Inbox {
         }
     }
 
+    /// Makes room for whatever comes next. Where nothing is held that is a place for one message, since many come in a list of their own, which
+    /// is taken over.
+    pub(crate) fn make_room(&mut self) -> Result<(), NoMemory>
+        ensures room { OnOk result (HasRoom self.new) }
+        ensures messages { self.new.messages.items ≡ self.old.messages.items }
+        ensures lost { self.new.lost ≡ self.old.lost }
+        ensures over { self.new.over ≡ self.old.over }
+    {
+        let places = if self.messages.is_empty() {
+            1
+        } else {
+            MOST_TOGETHER
+        };
+        self.messages.reserve(places)?;
+        Ok(())
+    }
+
     /// Accepts what came. Where there is no memory for a message it is lost, and all behind it.
     pub(crate) fn accept(&mut self, item: Item)
         requires { self.old.over ≡ false }
         ensures accepted { (got : List Item) (base : List MessageState) → IsIn got base self.old → IsIn (got ++ each_of item) base self.new }
-        ensures kept { vec_len self.old.messages + 256 ≤ vec_capacity self.old.messages → self.new.lost ≡ self.old.lost }
+        ensures kept { HasRoom self.old → self.new.lost ≡ self.old.lost }
     {
         match item {
             Item::Stop => self.over = true,
@@ -62,16 +80,20 @@ impl Inbox {
         }
     }
 
-    /// Keeps messages behind the others.
+    /// Keeps messages behind the others. Where there are none, their list is taken over.
     fn keep_all(&mut self, batch: Batch)
         requires { self.old.over ≡ false }
         ensures accepted { (got : List Item) (base : List MessageState) → IsIn got base self.old → IsIn (got ++ ones batch.messages.items) base self.new }
-        ensures kept { vec_len self.old.messages + 256 ≤ vec_capacity self.old.messages → self.new.lost ≡ self.old.lost }
+        ensures kept { HasRoom self.old → self.new.lost ≡ self.old.lost }
     {
         if self.lost {
             return;
         }
         let Batch { mut messages } = batch;
+        if self.messages.is_empty() {
+            self.messages = messages;
+            return;
+        }
         match self.messages.append(&mut messages) {
             Ok(()) => return,
             Err(_) => self.lost = true,

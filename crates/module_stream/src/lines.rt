@@ -1,9 +1,9 @@
 //! The two lines between the caller and the thread.
-ghost use Rattle.std.specs.Prelude.{◌≡◌, ◌≤◌, ◌+◌, [], ◌∷◌, ◌++◌, List, true, false, IfOk, OnOk, IfErr, vec_len, vec_capacity};
+ghost use Rattle.std.specs.Prelude.{◌≡◌, [], ◌∷◌, ◌++◌, List, true, false, IfOk, OnOk, IfErr};
 ghost use Rattle.crossbeam_queue.specs.Passes.{view, IsPassOf};
 ghost use Rattle.module_stream.specs.Lines.{log};
+ghost use Rattle.module_stream.specs.Boxes.{HasRoom};
 
-use crate::batch::MOST_TOGETHER;
 use crate::inbox::Inbox;
 use crate::line::{End, Ends, Got, Item, Line, Sent};
 use crate::wait::{Looks, Waits};
@@ -116,9 +116,7 @@ impl Lines {
         ensures same { AreSame self.old self.new }
     {
         for _ in rt.forever() {
-            if self.inbox.messages.reserve(MOST_TOGETHER).is_err() {
-                return Err(NoMemory);
-            }
+            self.inbox.make_room()?;
             if !self.take_one() {
                 return Ok(());
             }
@@ -129,7 +127,7 @@ impl Lines {
     /// Takes in one item, if one has come, and tells whether it did. Where there is no memory for a message it is lost.
     fn take_one(&mut self) -> bool
         ensures came { KeepsWhatCame self.old self.new }
-        ensures kept { vec_len self.old.inbox.messages + 256 ≤ vec_capacity self.old.inbox.messages → self.new.inbox.lost ≡ self.old.inbox.lost }
+        ensures kept { HasRoom self.old.inbox → self.new.inbox.lost ≡ self.old.inbox.lost }
         ensures puts { self.new.puts ≡ self.old.puts }
         ensures same { AreSame self.old self.new }
     {

@@ -14,8 +14,9 @@ const SPINS: u32 = 2;
 const FIRST_SPINS: u32 = 4;
 
 /// How often it looks before it sleeps, from then on letting other threads run in between: where both share a processor, the other
-/// goes on then. A sleep with its wake takes longer than all these looks.
-const LOOKS: u32 = 32;
+/// goes on then. All these looks take some 100 microseconds where nothing else runs. A sleep with its wake takes as long, and on a virtual
+/// machine whose processor stood still many times as long, in which the other thread runs ahead until it has to wait in its turn.
+const LOOKS: u32 = 256;
 
 /// How long a thread dozes at most, in microseconds. Then it sleeps until it is woken.
 const DOZE: u64 = 500;

@@ -98,12 +98,28 @@ impl<T: Task> Worker<T> {
         ensures gave { (first : Gives) (taken sent : List MessageState) → Gave T.gives first taken sent self.old
             → (all : List MessageState) × Gave T.gives first (taken ++ batch.messages.items) all self.new }
     {
-        let Batch { messages } = batch;
+        let Batch { mut messages } = batch;
         let _ = self.gathered.messages.reserve(messages.len());
-        for message in messages {
+        for message in messages.drain(..) {
             self.put(rt, came, waits, message);
         }
         self.send_gathered(rt, came, waits);
+        self.keep_memory(messages);
+    }
+
+    /// Takes the memory of a list of which nothing is left for what is gathered next, where nothing is: so lists that go through the lines need
+    /// no memory anew, and the threads do not wait for each other at the allocator.
+    fn keep_memory(&mut self, list: Vec<Message>)
+        requires list { list.items ≡ [] }
+        requires none { self.old.gathered.messages.items ≡ [] }
+        ensures puts { self.new.puts ≡ self.old.puts }
+        ensures rest { IsSameRest self.old self.new }
+        ensures none { self.new.gathered.messages.items ≡ [] }
+        ensures given { (sent : List MessageState) → HasGiven sent self.old → HasGiven sent self.new }
+    {
+        if self.gathered.messages.capacity() == 0 {
+            self.gathered = Batch::new(list);
+        }
     }
 
     /// Puts a message into the task, and gathers or sends what comes out. Once a message was lost, all that follow are dropped.

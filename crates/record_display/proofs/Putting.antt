@@ -1,5 +1,5 @@
 -- What putting one record more leaves.
-use Rattle.std.proofs.Common.{◌≡◌, false, Result, OnOk, OnErr, List, ◌++◌, ◌∷◌, [], ℕ}
+use Rattle.std.proofs.Common.{Result, OnOk, OnErr, List, ◌++◌}
 use Rattle.std.specs.declared.result.Result.TheVariants.{Ok, Err}
 use Rattle.ev_base.specs.Source.{SourceFacts}
 use Rattle.ev_base.specs.Sink.{SinkFacts}

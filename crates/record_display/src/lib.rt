@@ -5,6 +5,7 @@
 mod pipeline;
 mod second;
 mod showing;
+mod spares;
 mod window;
 
 pub use showing::{DisplayEnd, Displayed, display};

@@ -7,6 +7,7 @@ ghost use Rattle.module_stream.specs.Progress.{Gives, Begins};
 ghost use Rattle.record_display.specs.Pipelines.{Writes, Shows, ShowsFront, ArePut, HasEnded, StaysBroken};
 
 use crate::second::Second;
+use crate::spares::Spares;
 use ev_base::Sink;
 use ev_types::NoMemory;
 use message_block::Message;
@@ -45,7 +46,7 @@ impl<F: Task + Send + 'static, G: Task + Send + 'static, K: Sink> Pipeline<F, G,
                 let second = Second {
                     task,
                     lines,
-                    spares: Vec::new(alloc),
+                    spares: Spares::new(alloc),
                 };
                 Ok(Pipeline { first, second })
             }
@@ -76,7 +77,16 @@ impl<F: Task + Send + 'static, G: Task + Send + 'static, K: Sink> Pipeline<F, G,
         ensures { (first second : Gives) (o : SinkFacts) (put : List MessageState) → Shows F.gives G.gives K.facts first second o put self.old
             → Shows F.gives G.gives K.facts first second o put self.new }
     {
-        self.second.spares.pop()
+        self.second.spares.message()
+    }
+
+    /// A list of no messages, in memory that is used again, where there is some.
+    pub(crate) fn list(&mut self) -> Vec<Message>
+        ensures none { result.items ≡ [] }
+        ensures shows { (first second : Gives) (o : SinkFacts) (put : List MessageState) → Shows F.gives G.gives K.facts first second o put self.old
+            → Shows F.gives G.gives K.facts first second o put self.new }
+    {
+        self.second.spares.list()
     }
 
     /// Writes what the sink gathered.

@@ -6,6 +6,7 @@ ghost use Rattle.message_block.specs.Messages.{MessageState, bytes_of};
 ghost use Rattle.module_stream.specs.Progress.{Gives, Begins};
 ghost use Rattle.record_display.specs.Pipelines.{text_of, Writes, PutsLast, WritesLast, StaysBroken};
 
+use crate::spares::Spares;
 use ev_base::Sink;
 use ev_types::NoMemory;
 use message_block::Message;
@@ -18,8 +19,7 @@ use std::thread::Threads;
 pub(crate) struct Second<G: Task, K> {
     pub(crate) task: ActiveTask<G>,
     pub(crate) lines: SinkBuffer<K>,
-    // Messages that were written, whose memory is used again.
-    pub(crate) spares: Vec<Message>,
+    pub(crate) spares: Spares,
 }
 
 impl<G: Task + Send + 'static, K: Sink> Second<G, K> {
@@ -48,10 +48,11 @@ impl<G: Task + Send + 'static, K: Sink> Second<G, K> {
             → OnErr result ((front : List MessageState) × Begins front messages × Writes G.gives K.facts second o (fed ++ front) self.new) }
         ensures broken { StaysBroken self.old.lines self.new.lines }
     {
-        if messages.as_slice().len() > MOST_TOGETHER {
-            return self.put_each(rt, messages);
+        match messages.as_slice().len() {
+            0 => Ok(()),
+            1..=MOST_TOGETHER => self.put_some(rt, messages),
+            _ => self.put_each(rt, messages),
         }
-        self.put_some(rt, messages)
     }
 
     /// Puts messages into the task together. After `NoMemory` all is as it was, and they are lost.
@@ -131,11 +132,7 @@ impl<G: Task + Send + 'static, K: Sink> Second<G, K> {
 }
 
 /// Puts the bytes of the last messages into a sink, and writes all that it gathered.
-fn write_last<K: Sink>(
-    lines: SinkBuffer<K>,
-    spares: Vec<Message>,
-    messages: Messages,
-) -> SinkBuffer<K>
+fn write_last<K: Sink>(lines: SinkBuffer<K>, spares: Spares, messages: Messages) -> SinkBuffer<K>
     ensures text { (o : SinkFacts) (put : List ℕ) → Gathers K.facts o lines put → Gathers K.facts o result (put ++ text_of messages) }
     ensures nothing_held { is_broken result ≡ false → held_of result ≡ [] }
     ensures broken { StaysBroken lines result }
@@ -150,22 +147,19 @@ fn write_last<K: Sink>(
 }
 
 /// Puts the bytes of messages into a sink, unless a write failed.
-fn write_messages<K: Sink>(lines: &mut SinkBuffer<K>, spares: &mut Vec<Message>, messages: Messages)
+fn write_messages<K: Sink>(lines: &mut SinkBuffer<K>, spares: &mut Spares, messages: Messages)
     ensures broken { StaysBroken lines.old lines.new }
     ensures text { (o : SinkFacts) (put : List ℕ) → Gathers K.facts o lines.old put → Gathers K.facts o lines.new (put ++ text_of messages) }
 {
     if lines.is_broken() {
         return;
     }
-    for message in messages.into_vec() {
+    let mut list = messages.into_vec();
+    for message in list.drain(..) {
         write_message(lines, &message);
-        keep(spares, message);
+        spares.keep(message);
     }
-}
-
-/// Keeps a message for its memory, where there is memory for its place.
-fn keep(spares: &mut Vec<Message>, message: Message) {
-    let _ = spares.push(message);
+    spares.keep_list(list);
 }
 
 /// Puts the bytes of a message into a sink.

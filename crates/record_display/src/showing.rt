@@ -232,7 +232,7 @@ fn cut_records<S: Source, F: Task + Send + 'static, G: Task + Send + 'static, K:
     ensures input { window.new.input ≡ window.old.input }
     ensures shorter { IfNone result.1 (length (rest_of window.new) < length (rest_of window.old)) }
 {
-    let mut messages = Vec::new(alloc);
+    let mut messages = pipeline.list();
     while messages.len() < TOGETHER {
         if messages.reserve(TOGETHER).is_err() {
             return (messages, Some(Cut::NoMemory));

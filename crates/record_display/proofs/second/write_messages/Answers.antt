@@ -1,5 +1,6 @@
-use Rattle.std.proofs.Common.{◌≡◌, List, ℕ, [], ◌∷◌, ◌++◌, sym, ap, ◌∙◌, subst, append_assoc}
+use Rattle.std.proofs.Common.{List, ℕ, [], ◌∷◌, ◌++◌, sym, ap, ◌∙◌, subst, append_assoc}
 use Rattle.std.proofs.lemmas.List.{flat_map_more}
+use Rattle.std.specs.Vec.Iter.{drain_items}
 use Rattle.sink_buffer.specs.Gathers.{Gathers}
 use Rattle.message_block.specs.Messages.{MessageState, bytes_of}
 use Rattle.record_display.proofs.second.write_messages.Goals as goal
@@ -9,5 +10,5 @@ loop-message-preserved g c = (
   λ o put h.
       subst (λ (text : List ℕ). Gathers g.K.Sink.facts o c.write_message.new.lines text) (flat_map_more bytes_of put c.loop-message.yielded c.in-Some.message)
       (c.write_message.ensures o _ (c.loop-message.invariant.0 o put h)),
-  append_assoc c.loop-message.yielded (c.in-Some.message ∷ []) c.next.new.self.rest.items ∙ ap (λ (l : List MessageState). c.loop-message.yielded ++ l) (sym c.in-Some.ensures.steps.0) ∙ c.loop-message.invariant.1,
+  append_assoc c.loop-message.yielded (c.in-Some.message ∷ []) (drain_items c.next.new.self) ∙ ap (λ (l : List MessageState). c.loop-message.yielded ++ l) (sym c.in-Some.ensures.steps.0) ∙ c.loop-message.invariant.1,
 )

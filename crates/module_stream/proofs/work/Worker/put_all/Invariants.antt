@@ -1,4 +1,5 @@
 use Rattle.std.proofs.Common.{◌≡◌, ◌++◌, List, true}
+use Rattle.std.specs.Vec.Iter.{drain_items}
 use Rattle.crossbeam_queue.specs.Passes.{view, IsSamePass}
 use Rattle.message_block.specs.Messages.{MessageState}
 use Rattle.module_stream.specs.Progress.{Gives}
@@ -13,4 +14,4 @@ invariant-loop-message g l =
     × (l.self.takes ≡ l.fn.self.takes)
     × ((first : Gives) (taken sent : List MessageState) → Gave g.T.Task.gives first taken sent l.fn.self
     → (all : List MessageState) × Gave g.T.Task.gives first (taken ++ l.yielded) all l.self)
-    × (l.yielded ++ l.message-iterator.rest.items ≡ l.fn.batch.messages.items)
+    × (l.yielded ++ drain_items l.message-iterator ≡ l.fn.batch.messages.items)
