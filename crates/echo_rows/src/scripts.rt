@@ -12,7 +12,7 @@ use ev_base::Host;
 use ev_types::Handle;
 use reactor_core::Means;
 use reactor_model::{Entry, Journal, check};
-use script_net::{ScriptEnd, ScriptHost, ScriptNet, ScriptWake};
+use script_net::{Script, ScriptEnd, ScriptHost, ScriptNet, ScriptWake};
 use script_text::parse_script;
 use std::alloc::Global;
 use std::process::Abort;
@@ -33,7 +33,7 @@ const IDLE: u64 = 100;
 
 /// A connection that sends two pieces and shuts; two whose pieces come by turns; one that sends nothing between 100 and 200 ms; one that does not
 /// take back all that it sent, and so is left waiting to write; one that fails, behind a failure of the listener; and one that is left open.
-const ROWS: [Row; 6] = [
+const ROWS: &[Row] = &[
     Row {
         script: "open 0\ndata 0 68690a\ndata 0 796f0a\nshut 0\n",
         room: 100,
@@ -67,16 +67,11 @@ const ROWS: [Row; 6] = [
 ];
 
 /// The net and the listener of a script, and what wakes the net.
-fn listen(
-    alloc: Global,
-    script: &str,
-    room: usize,
-) -> Result<(ScriptNet, ScriptEnd, ScriptWake), Fail>
+fn listen(alloc: Global, script: Script) -> Result<(ScriptNet, ScriptEnd, ScriptWake), Fail>
     ensures listener { IfOk result (λ given. GivesListener script_net_facts script_end_facts (given.0, given.1)) }
     ensures net_keeps { IfOk result (λ given. script_net_keeps run_terms given.0) }
     ensures listener_keeps { IfOk result (λ given. ScriptEndKeeps run_terms given.1) }
 {
-    let script = parse_script(alloc, script.as_bytes(), room)?;
     let mut host = ScriptHost::new(Some(script), false);
     match host.listen(alloc, 7000) {
         Ok(given) => Ok(given),
@@ -88,7 +83,8 @@ fn listen(
 fn start(alloc: Global, row: &Row) -> Result<(EchoCore<ScriptEnd, ScriptNet>, ScriptWake), Fail>
     ensures { IfOk result (λ given. IsOpened ⟦<EchoCore<ScriptEnd, ScriptNet> as Means>⟧.m given.0) }
 {
-    let (net, listener, waker) = listen(alloc, row.script, row.room)?;
+    let script = parse_script(alloc, row.script.as_bytes(), row.room)?;
+    let (net, listener, waker) = listen(alloc, script)?;
     match open(alloc, net, listener, IDLE) {
         Ok(core) => Ok((core, waker)),
         Err(_) => Err("no server".into()),
@@ -104,31 +100,56 @@ fn is_closed(journal: &Journal<EchoNote>, handle: Handle, end: Ending) -> bool {
     journal.as_slice().contains(&closed)
 }
 
-/// Compares what a run left with what its script is to come to. Its journal is legal.
-fn compare<R: Abort>(rt: &R, alloc: Global, row: &Row, parts: &EchoParts<ScriptNet>) {
-    assert!(rt; check(alloc, parts.journal.as_slice(), MOST).is_ok());
-    for (handle, bytes, end) in row.echoed {
-        let handle = Handle(*handle);
-        assert!(rt; is_closed(&parts.journal, handle, *end));
-        match parts.net.retired(handle) {
-            Some(peer) => assert_eq!(rt; peer.held(), *bytes),
-            None => panic!(rt; "no end was retired"),
-        }
+/// Sees that a connection's handle was closed with this ending, and that its peer got these bytes back.
+fn see_echoed(
+    rt: &impl Abort,
+    parts: &EchoParts<ScriptNet>,
+    handle: Handle,
+    bytes: &[u8],
+    end: Ending,
+) {
+    assert!(*rt; is_closed(&parts.journal, handle, end));
+    match parts.net.retired(handle) {
+        Some(peer) => assert_eq!(*rt; peer.held(), bytes),
+        None => panic!(*rt; "no end was retired"),
     }
+}
+
+/// Compares what a run left with what its script is to come to. Its journal is legal.
+fn compare(rt: &impl Abort, alloc: Global, row: &Row, parts: &EchoParts<ScriptNet>) {
+    assert!(*rt; check(alloc, parts.journal.as_slice(), MOST).is_ok());
+    for (handle, bytes, end) in row.echoed {
+        see_echoed(rt, parts, Handle(*handle), bytes, *end);
+    }
+}
+
+/// Plays a script on one thread, until nothing can be reported any more.
+fn play_alone<R: Abort + Wait>(
+    rt: &R,
+    alloc: Global,
+    row: &Row,
+) -> Result<EchoParts<ScriptNet>, Fail> {
+    let (mut core, _) = start(alloc, row)?;
+    let end = run(rt, &mut core, None, None);
+    assert_eq!(*rt; end, RunEnd::Over);
+    Ok(finish(core))
+}
+
+fn see_alone<R: Abort + Wait>(rt: &R, alloc: Global, row: &Row) -> Result<(), Fail> {
+    let parts = play_alone(rt, alloc, row)?;
+    compare(rt, alloc, row, &parts);
+    Ok(())
 }
 
 #[test]
 fn scripts_are_echoed_on_one_thread(rt: HostRuntime) -> Result<(), Fail> {
-    for row in &ROWS {
-        let (mut core, _waker) = start(rt.alloc(), row)?;
-        let end = run(&rt, &mut core, None, None);
-        assert_eq!(rt; end, RunEnd::Over);
-        compare(&rt, rt.alloc(), row, &finish(core));
+    for row in ROWS {
+        see_alone(&rt, rt.alloc(), row)?;
     }
     Ok(())
 }
 
-/// Plays a script by four workers.
+/// Plays a script by four workers, until nothing can be reported any more.
 fn play_by_four<R: Abort + Threads + Wait + Sync>(
     rt: &R,
     alloc: Global,
@@ -136,15 +157,24 @@ fn play_by_four<R: Abort + Threads + Wait + Sync>(
 ) -> Result<EchoParts<ScriptNet>, Fail> {
     let (core, waker) = start(alloc, row)?;
     let (ran, core) = run_pool(rt, alloc, core, waker, 4, None);
-    assert_eq!(rt; ran, Ran::Over);
+    assert_eq!(*rt; ran, Ran::Over);
     Ok(finish(core))
+}
+
+fn see_by_four<R: Abort + Threads + Wait + Sync>(
+    rt: &R,
+    alloc: Global,
+    row: &Row,
+) -> Result<(), Fail> {
+    let parts = play_by_four(rt, alloc, row)?;
+    compare(rt, alloc, row, &parts);
+    Ok(())
 }
 
 #[test]
 fn scripts_are_echoed_by_a_pool(rt: HostRuntime) -> Result<(), Fail> {
-    for row in &ROWS {
-        let parts = play_by_four(&rt, rt.alloc(), row)?;
-        compare(&rt, rt.alloc(), row, &parts);
+    for row in ROWS {
+        see_by_four(&rt, rt.alloc(), row)?;
     }
     Ok(())
 }
