@@ -9,6 +9,8 @@ mod rig;
 #[cfg(test)]
 mod stand;
 #[cfg(test)]
+mod steps;
+#[cfg(test)]
 mod streams;
 #[cfg(test)]
 mod two_threads;

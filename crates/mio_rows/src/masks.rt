@@ -1,42 +1,43 @@
 //! Reports that a mask holds back, and what a wait gives at most.
 
 use crate::stand::{BOTH, NONE, READ, Stand, failed};
+use crate::steps::{Step, take, take_alone};
 use ev_base::{Got, Sent};
 use ev_types::{Handle, Kind};
 use std::net::{Net, TcpListener, TcpStream};
+use std::process::Abort;
 use std::test::Fail;
 use std::time::Clock;
 
+const READS_HELD_BACK: &[Step] = &[
+    Step::Join(NONE),
+    Step::Send(0, b"hello"),
+    Step::Quiet(50),
+    Step::SetMask(0, READ),
+    Step::Sees(1, Kind::Read),
+    Step::Read(0, Got::Bytes(2)),
+    // No read paused yet, so it is still ready when the mask has the kind again.
+    Step::SetMask(0, NONE),
+    Step::Quiet(0),
+    Step::SetMask(0, READ),
+    Step::Sees(1, Kind::Read),
+    Step::Quiet(0),
+    Step::Read(0, Got::Bytes(2)),
+    Step::Read(0, Got::Bytes(1)),
+    Step::Read(0, Got::Pause),
+    Step::SetMask(0, NONE),
+    Step::SetMask(0, READ),
+    Step::Quiet(0),
+    Step::SetMask(0, NONE),
+    Step::Send(0, b"more"),
+    Step::Quiet(50),
+    Step::SetMask(0, READ),
+    Step::Sees(1, Kind::Read),
+];
+
 #[test]
 fn reads_are_held_back_and_remembered(rt: HostRuntime) -> Result<(), Fail> {
-    let Some(mut stand) = Stand::open(rt, rt.alloc()) else {
-        return failed("no listener");
-    };
-    assert!(rt; stand.join(NONE));
-    assert!(rt; stand.send(0, b"hello"));
-    assert!(rt; stand.is_quiet(50));
-    assert!(rt; stand.set_mask(0, READ));
-    assert!(rt; stand.sees(1, Kind::Read));
-    let mut buffer = [0; 2];
-    assert_eq!(rt; stand.read(0, &mut buffer), Got::Bytes(2));
-    // No read paused yet, so it is still ready when the mask has the kind again.
-    assert!(rt; stand.set_mask(0, NONE));
-    assert!(rt; stand.is_quiet(0));
-    assert!(rt; stand.set_mask(0, READ));
-    assert!(rt; stand.sees(1, Kind::Read));
-    assert!(rt; stand.is_quiet(0));
-    assert_eq!(rt; stand.read(0, &mut buffer), Got::Bytes(2));
-    assert_eq!(rt; stand.read(0, &mut buffer), Got::Bytes(1));
-    assert_eq!(rt; stand.read(0, &mut buffer), Got::Pause);
-    assert!(rt; stand.set_mask(0, NONE));
-    assert!(rt; stand.set_mask(0, READ));
-    assert!(rt; stand.is_quiet(0));
-    assert!(rt; stand.set_mask(0, NONE));
-    assert!(rt; stand.send(0, b"more"));
-    assert!(rt; stand.is_quiet(50));
-    assert!(rt; stand.set_mask(0, READ));
-    assert!(rt; stand.sees(1, Kind::Read));
-    Ok(())
+    take_alone(rt, rt.alloc(), &mut [0; 2], READS_HELD_BACK)
 }
 
 const PIECE: usize = 16_384;
@@ -88,32 +89,53 @@ fn drain<R: Net<Listener = TcpListener, Stream = TcpStream> + Clock + Copy>(
     false
 }
 
-#[test]
-fn writes_are_held_back_and_remembered(rt: HostRuntime) -> Result<(), Fail> {
-    let Some(mut stand) = Stand::open(rt, rt.alloc()) else {
-        return failed("no listener");
-    };
-    assert!(rt; stand.join(READ));
-    assert!(rt; stand.is_quiet(0));
-    for _ in 0..2 {
-        assert!(rt; stand.set_mask(0, BOTH));
-        assert!(rt; stand.sees(1, Kind::Write));
-        assert!(rt; stand.is_quiet(0));
-        assert_eq!(rt; stand.write(0, b"hello"), Sent::Bytes(5));
-        assert!(rt; stand.set_mask(0, READ));
-    }
-    assert!(rt; stand.set_mask(0, BOTH));
-    assert!(rt; stand.sees(1, Kind::Write));
-    let Some(total) = fill(&mut stand) else {
+const WRITES_HELD_BACK: &[Step] = &[
+    Step::Join(READ),
+    Step::Quiet(0),
+    Step::SetMask(0, BOTH),
+    Step::Sees(1, Kind::Write),
+    Step::Quiet(0),
+    Step::Write(0, b"hello", Sent::Bytes(5)),
+    Step::SetMask(0, READ),
+    Step::SetMask(0, BOTH),
+    Step::Sees(1, Kind::Write),
+    Step::Quiet(0),
+    Step::Write(0, b"hello", Sent::Bytes(5)),
+    Step::SetMask(0, READ),
+    Step::SetMask(0, BOTH),
+    Step::Sees(1, Kind::Write),
+];
+
+/// While no write would go on, a mask that is set again gives no report.
+const FULL: &[Step] = &[
+    Step::SetMask(0, READ),
+    Step::SetMask(0, BOTH),
+    Step::Quiet(0),
+];
+
+const DRAINED: &[Step] = &[
+    Step::Sees(1, Kind::Write),
+    Step::Write(0, b"hello", Sent::Bytes(5)),
+];
+
+fn holds_writes_back<R: Net<Listener = TcpListener, Stream = TcpStream> + Clock + Copy>(
+    rt: &impl Abort,
+    stand: &mut Stand<R>,
+) -> Result<(), Fail> {
+    take(rt, stand, &mut [], WRITES_HELD_BACK);
+    let Some(total) = fill(stand) else {
         return failed("no write paused");
     };
-    assert!(rt; stand.set_mask(0, READ));
-    assert!(rt; stand.set_mask(0, BOTH));
-    assert!(rt; stand.is_quiet(0));
-    assert!(rt; drain(&mut stand, total.saturating_add(10)));
-    assert!(rt; stand.sees(1, Kind::Write));
-    assert_eq!(rt; stand.write(0, b"hello"), Sent::Bytes(5));
+    take(rt, stand, &mut [], FULL);
+    assert!(rt; drain(stand, total.saturating_add(10)));
+    take(rt, stand, &mut [], DRAINED);
     Ok(())
+}
+
+#[test]
+fn writes_are_held_back_and_remembered(rt: HostRuntime) -> Result<(), Fail> {
+    let mut stand = Stand::open(rt, rt.alloc())?;
+    holds_writes_back(&rt, &mut stand)
 }
 
 /// How many connections send at once: their reports do not go into one wait.
@@ -153,29 +175,38 @@ fn gather<R: Net<Listener = TcpListener, Stream = TcpStream> + Clock + Copy>(
     None
 }
 
+/// Many peers send a byte each before they are accepted and attached.
+fn attach_many<R: Net<Listener = TcpListener, Stream = TcpStream> + Clock + Copy>(
+    stand: &mut Stand<R>,
+) -> bool {
+    (0..MANY).all(|number| stand.connect() && stand.send(number, b"x"))
+        && (0..MANY).all(|_| stand.accept_one())
+        && (0..MANY).all(|number| stand.attach(number, BOTH))
+}
+
+/// All masks are taken away and given back.
+fn set_all_masks<R: Net<Listener = TcpListener, Stream = TcpStream> + Clock + Copy>(
+    stand: &mut Stand<R>,
+) -> bool {
+    (0..MANY).all(|number| stand.set_mask(number, NONE) && stand.set_mask(number, BOTH))
+}
+
+/// Every connection is reported to read and to write, once each, and 256 of these in one wait.
+fn gathers_all<R: Net<Listener = TcpListener, Stream = TcpStream> + Clock + Copy>(
+    rt: &impl Abort,
+    stand: &mut Stand<R>,
+) {
+    assert_eq!(rt; gather(stand, 2 * MANY), Some((MANY, MANY, 256)));
+    assert!(rt; stand.is_quiet(0));
+}
+
 #[test]
 fn reports_that_do_not_go_into_one_wait_come_with_the_next(rt: HostRuntime) -> Result<(), Fail> {
-    let Some(mut stand) = Stand::open(rt, rt.alloc()) else {
-        return failed("no listener");
-    };
-    for number in 0..MANY {
-        assert!(rt; stand.connect());
-        assert!(rt; stand.send(number, b"x"));
-    }
-    for _ in 0..MANY {
-        assert!(rt; stand.accept_one());
-    }
-    for number in 0..MANY {
-        assert!(rt; stand.attach(number, BOTH));
-    }
-    assert_eq!(rt; gather(&mut stand, 2 * MANY), Some((MANY, MANY, 256)));
-    assert!(rt; stand.is_quiet(0));
-    // Taken away and given back, all masks at once owe more reports than a wait gives.
-    for number in 0..MANY {
-        assert!(rt; stand.set_mask(number, NONE));
-        assert!(rt; stand.set_mask(number, BOTH));
-    }
-    assert_eq!(rt; gather(&mut stand, 2 * MANY), Some((MANY, MANY, 256)));
-    assert!(rt; stand.is_quiet(0));
+    let mut stand = Stand::open(rt, rt.alloc())?;
+    assert!(rt; attach_many(&mut stand));
+    gathers_all(&rt, &mut stand);
+    // All masks at once owe more reports than a wait gives.
+    assert!(rt; set_all_masks(&mut stand));
+    gathers_all(&rt, &mut stand);
     Ok(())
 }

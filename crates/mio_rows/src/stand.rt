@@ -40,10 +40,14 @@ pub struct Stand<R> {
     alloc: Global,
     rig: Rig<R>,
     listener: Option<MioEnd>,
-    waker: Option<MioWake>,
     port: u16,
     peers: Vec<Option<TcpStream>>,
     ends: Vec<Option<MioEnd>>,
+}
+
+/// The value of this number, where it was not taken away.
+fn held<T>(values: &mut Vec<Option<T>>, number: usize) -> Option<&mut T> {
+    values.get_mut(number)?.as_mut()
 }
 
 fn handle_of(number: usize) -> u64 {
@@ -52,35 +56,51 @@ fn handle_of(number: usize) -> u64 {
 
 impl<R: Net<Listener = TcpListener, Stream = TcpStream> + Clock + Copy> Stand<R> {
     /// A net that watches its listener on a port that was free.
-    pub fn open(rt: R, alloc: Global) -> Option<Stand<R>> {
+    pub fn open(rt: R, alloc: Global) -> Result<Stand<R>, Fail> {
+        let (stand, _) = Stand::open_with_waker(rt, alloc)?;
+        Ok(stand)
+    }
+
+    /// The same, and what wakes the net.
+    pub fn open_with_waker(rt: R, alloc: Global) -> Result<(Stand<R>, MioWake), Fail> {
         let mut host = MioHost::new(rt);
-        let Ok((net, mut listener, waker)) = host.listen(alloc, 0) else {
-            return None;
-        };
-        let port = listener.port()?;
-        let mut rig = Rig::new(alloc, net);
-        if !rig.attach(&mut listener, 0, READ) {
-            return None;
+        match host.listen(alloc, 0) {
+            Ok((net, listener, waker)) => {
+                let stand = Stand::over(rt, alloc, Rig::new(alloc, net), listener)?;
+                Ok((stand, waker))
+            }
+            Err(_) => failed("no listener"),
         }
-        Some(Stand {
+    }
+
+    /// A stand over what was opened, once its listener is watched.
+    fn over(rt: R, alloc: Global, rig: Rig<R>, listener: MioEnd) -> Result<Stand<R>, Fail> {
+        let mut stand = Stand {
             rt,
             alloc,
             rig,
+            port: listener.port().unwrap_or(0),
             listener: Some(listener),
-            waker: Some(waker),
-            port,
             peers: Vec::new(alloc),
             ends: Vec::new(alloc),
-        })
+        };
+        if stand.watch() {
+            Ok(stand)
+        } else {
+            failed("no port that is watched")
+        }
+    }
+
+    /// Attaches the listener, where its port is known.
+    fn watch(&mut self) -> bool {
+        match &mut self.listener {
+            Some(listener) => self.port > 0 && self.rig.attach(listener, 0, READ),
+            None => false,
+        }
     }
 
     pub fn port(&self) -> u16 {
         self.port
-    }
-
-    /// What wakes the net.
-    pub fn take_waker(&mut self) -> Option<MioWake> {
-        self.waker.take()
     }
 
     /// A peer connects.
@@ -121,9 +141,9 @@ impl<R: Net<Listener = TcpListener, Stream = TcpStream> + Clock + Copy> Stand<R>
 
     /// Attaches the end of a connection with this mask.
     pub fn attach(&mut self, number: usize, mask: Mask) -> bool {
-        match self.ends.get_mut(number) {
-            Some(Some(end)) => self.rig.attach(end, handle_of(number), mask),
-            _ => false,
+        match held(&mut self.ends, number) {
+            Some(end) => self.rig.attach(end, handle_of(number), mask),
+            None => false,
         }
     }
 
@@ -195,16 +215,16 @@ impl<R: Net<Listener = TcpListener, Stream = TcpStream> + Clock + Copy> Stand<R>
     }
 
     pub fn read(&mut self, number: usize, buf: &mut [u8]) -> Got {
-        match self.ends.get_mut(number) {
-            Some(Some(end)) => read(end, buf),
-            _ => Got::Failed,
+        match held(&mut self.ends, number) {
+            Some(end) => read(end, buf),
+            None => Got::Failed,
         }
     }
 
     pub fn write(&mut self, number: usize, piece: &[u8]) -> Sent {
-        match self.ends.get_mut(number) {
-            Some(Some(end)) => write(end, piece),
-            _ => Sent::Failed,
+        match held(&mut self.ends, number) {
+            Some(end) => write(end, piece),
+            None => Sent::Failed,
         }
     }
 
@@ -223,17 +243,17 @@ impl<R: Net<Listener = TcpListener, Stream = TcpStream> + Clock + Copy> Stand<R>
 
     /// A peer sends bytes.
     pub fn send(&mut self, number: usize, bytes: &[u8]) -> bool {
-        match self.peers.get_mut(number) {
-            Some(Some(peer)) => peer.write_all(bytes).is_ok(),
-            _ => false,
+        match held(&mut self.peers, number) {
+            Some(peer) => peer.write_all(bytes).is_ok(),
+            None => false,
         }
     }
 
     /// A peer reads once, and tells how many bytes it got.
     pub fn receive(&mut self, number: usize, buf: &mut [u8]) -> Option<usize> {
-        match self.peers.get_mut(number) {
-            Some(Some(peer)) => peer.read(buf).ok(),
-            _ => None,
+        match held(&mut self.peers, number) {
+            Some(peer) => peer.read(buf).ok(),
+            None => None,
         }
     }
 

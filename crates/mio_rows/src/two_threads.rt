@@ -5,12 +5,13 @@ use crate::stand::{NONE, READ, Stand, failed};
 use demux_mio::MioEnd;
 use ev_base::Got;
 use ev_types::Kind;
+use std::alloc::Global;
 use std::net::{Net, TcpListener, TcpStream};
 use std::sync::Arc;
 use std::sync::atomic::{AtomicBool, AtomicU64, Ordering};
 use std::test::Fail;
 use std::thread;
-use std::thread::yield_now;
+use std::thread::{Threads, yield_now};
 use std::time::Clock;
 
 /// How often one thread looks for the other at most.
@@ -119,30 +120,46 @@ fn turn<R: Net<Listener = TcpListener, Stream = TcpStream> + Clock + Copy>(
     }
 }
 
-#[test]
-fn no_report_is_lost_while_another_thread_reads(rt: HostRuntime) -> Result<(), Fail> {
-    let Some(mut stand) = Stand::open(rt, rt.alloc()) else {
-        return failed("no listener");
-    };
-    assert!(rt; stand.join(READ));
-    let Some(end) = stand.take_end(0) else {
-        return failed("no end");
-    };
-    let desk = Arc::new(rt.alloc(), Desk::new())?;
+/// Makes the turns, and tells whether each went well.
+fn turns<R: Net<Listener = TcpListener, Stream = TcpStream> + Clock + Copy>(
+    stand: &mut Stand<R>,
+    desk: &Desk,
+) -> bool {
+    let mut sent = Some(0);
+    for at in 0..TURNS {
+        sent = match sent {
+            Some(sent) => turn(stand, desk, sent, at % 5),
+            None => None,
+        };
+    }
+    sent.is_some()
+}
+
+/// Makes the turns beside a thread that reads.
+fn turns_beside_a_reader<
+    R: Net<Listener = TcpListener, Stream = TcpStream> + Clock + Threads + Copy,
+>(rt: R, alloc: Global, stand: &mut Stand<R>, end: MioEnd) -> Result<bool, Fail> {
+    let desk = Arc::new(alloc, Desk::new())?;
     let theirs = Arc::try_clone(&desk)?;
     let child = thread::spawn(&rt, move || {
         let mut end = end;
         serve(&theirs, &mut end);
     })?;
-    let mut sent = Some(0);
-    for at in 0..TURNS {
-        sent = match sent {
-            Some(sent) => turn(&mut stand, &desk, sent, at % 5),
-            None => None,
-        };
-    }
+    let are_well = turns(stand, &desk);
     desk.over.store(true, Ordering::SeqCst);
     child.join(&rt);
-    assert!(rt; sent.is_some());
+    Ok(are_well)
+}
+
+#[test]
+fn no_report_is_lost_while_another_thread_reads(rt: HostRuntime) -> Result<(), Fail> {
+    let mut stand = Stand::open(rt, rt.alloc())?;
+    assert!(rt; stand.join(READ));
+    let are_well = match stand.take_end(0) {
+        Some(end) => turns_beside_a_reader(rt, rt.alloc(), &mut stand, end),
+        None => failed("no end"),
+    };
+    drop(stand);
+    assert!(rt; are_well?);
     Ok(())
 }
