@@ -26,6 +26,17 @@ fn note(messages: Messages, numbers: &mut Vec<u32>) -> Result<(), NoMemory> {
     Ok(())
 }
 
+/// Adds the priorities of the messages that the end of an active task gave.
+fn note_rest(
+    rest: Result<Messages, (Messages, NoMemory)>,
+    numbers: &mut Vec<u32>,
+) -> Result<(), NoMemory> {
+    match rest {
+        Ok(rest) => note(rest, numbers),
+        Err((_, refused)) => Err(refused),
+    }
+}
+
 /// Puts messages of the priorities from 0 on, and adds those of the messages that are given.
 fn put_numbers<T: Task + Send + 'static, R: Wait>(
     rt: &R,
@@ -59,10 +70,7 @@ fn through<T: Task + Send + 'static, R: Threads + Wait + Copy + Send + 'static>(
     let put = put_numbers(rt, alloc, &mut active, count, &mut numbers);
     let rest = active.finish(rt);
     put?;
-    match rest {
-        Ok(rest) => note(rest, &mut numbers)?,
-        Err((_, refused)) => return Err(refused),
-    }
+    note_rest(rest, &mut numbers)?;
     Ok(numbers)
 }
 
@@ -96,20 +104,27 @@ fn put_together<T: Task + Send + 'static, R: Wait>(
     }
 }
 
+/// Puts messages together into an active task that passes them on, finishes it, and adds their priorities.
+fn through_together<R: Threads + Wait + Copy + Send + 'static>(
+    rt: &R,
+    alloc: Global,
+    numbers: &mut Vec<u32>,
+) -> Result<(), NoMemory> {
+    let mut active = match ActiveTask::begin(rt, alloc, PassTask::new(alloc)) {
+        Ok(active) => active,
+        Err((_, refused)) => return Err(refused),
+    };
+    let put = put_together(rt, alloc, &mut active, numbers);
+    let rest = note_rest(active.finish(rt), numbers);
+    put?;
+    rest
+}
+
 #[test]
 fn messages_that_are_put_together_come_back(rt: HostRuntime) -> Result<(), Fail> {
-    let alloc = rt.alloc();
-    let mut numbers = Vec::new(alloc);
-    let Ok(mut active) = ActiveTask::begin(&rt, alloc, PassTask::new(alloc)) else {
-        return Err("no memory".into());
-    };
-    let put = put_together(&rt, alloc, &mut active, &mut numbers);
-    let rest = active.finish(&rt);
-    put?;
-    match rest {
-        Ok(rest) => note(rest, &mut numbers)?,
-        Err(_) => return Err("a message was lost".into()),
-    }
+    let mut numbers = Vec::new(rt.alloc());
+    let ended = through_together(&rt, rt.alloc(), &mut numbers);
+    ended?;
     assert_eq!(rt; numbers.as_slice(), [0, 1, 2].as_slice());
     Ok(())
 }
@@ -151,33 +166,63 @@ impl Task for FlagTask {
     }
 }
 
+/// Sets a flag behind a put, and adds the priorities of the messages that the put gave.
+fn note_put(
+    put: Result<Messages, (Message, NoMemory)>,
+    flag: &AtomicBool,
+    numbers: &mut Vec<u32>,
+) -> Result<(), NoMemory> {
+    flag.store(true, Ordering::SeqCst);
+    match put {
+        Ok(given) => note(given, numbers),
+        Err((_, refused)) => Err(refused),
+    }
+}
+
+/// A task that waits for the first flag, and sets the second once it has seen it.
+fn flag_task(
+    alloc: Global,
+    flag: &Arc<AtomicBool, Global>,
+    seen: &Arc<AtomicBool, Global>,
+) -> Result<FlagTask, NoMemory> {
+    let flag = Arc::try_clone(flag)?;
+    let seen = Arc::try_clone(seen)?;
+    Ok(FlagTask {
+        pass: PassTask::new(alloc),
+        flag,
+        seen,
+        turns: 100_000_000,
+    })
+}
+
+/// Runs a task beside, puts a message, sets the flag for which the task waits, finishes the task, and adds the priorities of the
+/// messages that are given.
+fn set_while_it_runs<R: Threads + Wait + Copy + Send + 'static>(
+    rt: &R,
+    alloc: Global,
+    task: FlagTask,
+    flag: &AtomicBool,
+    numbers: &mut Vec<u32>,
+) -> Result<(), NoMemory> {
+    let message = message_of(alloc, 7)?;
+    let mut active = match ActiveTask::begin(rt, alloc, task) {
+        Ok(active) => active,
+        Err((_, refused)) => return Err(refused),
+    };
+    let put = note_put(active.put(rt, message), flag, numbers);
+    let rest = note_rest(active.finish(rt), numbers);
+    put?;
+    rest
+}
+
 #[test]
 fn task_runs_beside(rt: HostRuntime) -> Result<(), Fail> {
     let flag = Arc::new(rt.alloc(), AtomicBool::new(false))?;
     let seen = Arc::new(rt.alloc(), AtomicBool::new(false))?;
-    let task = FlagTask {
-        pass: PassTask::new(rt.alloc()),
-        flag: Arc::try_clone(&flag)?,
-        seen: Arc::try_clone(&seen)?,
-        turns: 100_000_000,
-    };
-    let message = message_of(rt.alloc(), 7)?;
-    let mut active = match ActiveTask::begin(&rt, rt.alloc(), task) {
-        Ok(active) => active,
-        Err((_, refused)) => return Err(refused.into()),
-    };
-    let put = active.put(&rt, message);
-    flag.store(true, Ordering::SeqCst);
-    let rest = active.finish(&rt);
+    let task = flag_task(rt.alloc(), &flag, &seen)?;
     let mut numbers = Vec::new(rt.alloc());
-    match put {
-        Ok(given) => note(given, &mut numbers)?,
-        Err((_, refused)) => return Err(refused.into()),
-    }
-    match rest {
-        Ok(given) => note(given, &mut numbers)?,
-        Err((_, refused)) => return Err(refused.into()),
-    }
+    let ended = set_while_it_runs(&rt, rt.alloc(), task, &flag, &mut numbers);
+    ended?;
     assert!(rt; seen.load(Ordering::SeqCst));
     assert_eq!(rt; numbers.as_slice(), [7].as_slice());
     Ok(())

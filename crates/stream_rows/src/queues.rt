@@ -1,10 +1,11 @@
 //! Marks, priorities and blocks: worked examples.
 
-ghost use Rattle.std.specs.Prelude.{◌≡◌, ◌≤◌, length, IfOk};
+ghost use Rattle.std.specs.Prelude.{◌≡◌, ◌≤◌, [], length, IfOk};
 
 use ev_types::NoMemory;
 use message_block::*;
 use std::alloc::Global;
+use std::process::Abort;
 use std::test::Fail;
 
 /// A message of one block with these bytes.
@@ -46,73 +47,150 @@ fn take(queue: &mut MessageQueue) -> Result<(u32, Option<u8>, bool), DequeueRefu
     Ok((taken.message.priority(), first, taken.relieved))
 }
 
+/// Puts a message of these bytes at the tail, and tells the refusal with the length of the message that came back.
+fn put_text(
+    alloc: Global,
+    queue: &mut MessageQueue,
+    bytes: &[u8],
+) -> Result<Option<(u64, EnqueueRefused)>, NoMemory>
+    requires { length bytes.now ≤ 1048576 }
+{
+    let message = message_of(alloc, bytes, 0)?;
+    Ok(put_tail(queue, message))
+}
+
+/// Fills a queue to its high mark, and takes its messages until it is empty.
+fn fill_and_empty(
+    rt: &impl Abort,
+    alloc: Global,
+    queue: &mut MessageQueue,
+) -> Result<(), NoMemory> {
+    for bytes in [b"first.", b"second"] {
+        assert_eq!(rt; put_text(alloc, queue, bytes)?, None);
+    }
+    assert_eq!(rt;
+        put_text(alloc, queue, b"third.")?,
+        Some((6, EnqueueRefused::Full { bytes: 12 }))
+    );
+    for wanted in [
+        Ok((0, Some(b'f'), false)),
+        Ok((0, Some(b's'), true)),
+        Err(DequeueRefused::Empty),
+    ] {
+        assert_eq!(rt; take(queue), wanted);
+    }
+    Ok(())
+}
+
+/// Makes a queue refuse messages, and take them again.
+fn stop_and_go(rt: &impl Abort, alloc: Global, queue: &mut MessageQueue) -> Result<(), NoMemory> {
+    queue.deactivate();
+    assert_eq!(rt;
+        put_text(alloc, queue, b"fourth")?,
+        Some((6, EnqueueRefused::Inactive))
+    );
+    assert_eq!(rt; take(queue), Err(DequeueRefused::Inactive));
+    queue.activate();
+    let message = message_of(alloc, b"fourth", 0)?;
+    assert!(rt; queue.enqueue_head(message).is_ok());
+    Ok(())
+}
+
 #[test]
 fn marks(rt: HostRuntime) -> Result<(), Fail> {
-    let alloc = rt.alloc();
-    let mut queue = MessageQueue::new(alloc, 10, 4);
-    assert_eq!(rt;
-        put_tail(&mut queue, message_of(alloc, b"first.", 0)?),
-        None
-    );
-    assert_eq!(rt;
-        put_tail(&mut queue, message_of(alloc, b"second", 0)?),
-        None
-    );
-    let third = put_tail(&mut queue, message_of(alloc, b"third.", 0)?);
-    assert_eq!(rt; third, Some((6, EnqueueRefused::Full { bytes: 12 })));
-    assert_eq!(rt; take(&mut queue), Ok((0, Some(b'f'), false)));
-    assert_eq!(rt; take(&mut queue), Ok((0, Some(b's'), true)));
-    assert_eq!(rt; take(&mut queue), Err(DequeueRefused::Empty));
-    queue.deactivate();
-    let fourth = put_tail(&mut queue, message_of(alloc, b"fourth", 0)?);
-    assert_eq!(rt; fourth, Some((6, EnqueueRefused::Inactive)));
-    assert_eq!(rt; take(&mut queue), Err(DequeueRefused::Inactive));
-    queue.activate();
-    assert!(rt; queue.enqueue_head(message_of(alloc, b"fourth", 0)?).is_ok());
+    let mut queue = MessageQueue::new(rt.alloc(), 10, 4);
+    let mut ended = fill_and_empty(&rt, rt.alloc(), &mut queue);
+    if ended.is_ok() {
+        ended = stop_and_go(&rt, rt.alloc(), &mut queue);
+    }
+    drop(queue);
+    Ok(ended?)
+}
+
+/// Puts messages by their priorities, and takes them by falling ones.
+fn take_by_priority(
+    rt: &impl Abort,
+    alloc: Global,
+    queue: &mut MessageQueue,
+) -> Result<(), NoMemory> {
+    for (bytes, priority) in [(b"l", 1), (b"o", 5), (b"t", 5), (b"m", 3)] {
+        let message = message_of(alloc, bytes, priority)?;
+        assert!(rt; put_prio(queue, message));
+    }
+    for (byte, priority) in [(b'o', 5), (b't', 5), (b'm', 3), (b'l', 1)] {
+        assert_eq!(rt; take(queue), Ok((priority, Some(byte), false)));
+    }
     Ok(())
 }
 
 #[test]
 fn priorities(rt: HostRuntime) -> Result<(), Fail> {
-    let alloc = rt.alloc();
-    let mut queue = MessageQueue::new(alloc, HIGH, LOW);
-    for (bytes, priority) in [(b"l", 1), (b"o", 5), (b"t", 5), (b"m", 3)] {
-        assert!(rt; put_prio(&mut queue, message_of(alloc, bytes, priority)?));
-    }
-    for (byte, priority) in [(b'o', 5), (b't', 5), (b'm', 3), (b'l', 1)] {
-        assert_eq!(rt; take(&mut queue), Ok((priority, Some(byte), false)));
-    }
-    Ok(())
+    let mut queue = MessageQueue::new(rt.alloc(), HIGH, LOW);
+    let ended = take_by_priority(&rt, rt.alloc(), &mut queue);
+    drop(queue);
+    Ok(ended?)
 }
 
-#[test]
-fn blocks(rt: HostRuntime) -> Result<(), Fail> {
-    let alloc = rt.alloc();
-    let mut block = Block::new(alloc, 4)?;
+/// Writes a block of four bytes, and reads the first.
+fn write_and_read(rt: &impl Abort, block: &mut Block)
+    requires { block.old ≡ record { bytes = []; space = 4 } }
+{
     assert_eq!(rt; block.write(b"hello"), Err(NoSpace { space: 4 }));
     assert_eq!(rt; block.write(b"hey"), Ok(()));
     block.advance(1);
     assert_eq!(rt; block.bytes(), b"ey".as_slice());
     assert_eq!(rt; block.space(), 1);
-    let mut message = message_of(alloc, b"sixsix", 0)?;
+}
+
+/// A block of four bytes that was written and of which the first byte was read.
+fn read_block(rt: &impl Abort, alloc: Global) -> Result<Block, NoMemory> {
+    let mut block = Block::new(alloc, 4)?;
+    write_and_read(rt, &mut block);
+    Ok(block)
+}
+
+#[test]
+fn blocks(rt: HostRuntime) -> Result<(), Fail> {
+    let block = read_block(&rt, rt.alloc())?;
+    let mut message = message_of(rt.alloc(), b"sixsix", 0)?;
     assert!(rt; message.cont(block).is_ok());
     assert_eq!(rt; message.total_length(), 8);
     Ok(())
 }
 
-#[test]
-fn a_message_is_written_anew(rt: HostRuntime) -> Result<(), Fail> {
-    let alloc = rt.alloc();
-    let mut message = message_of(alloc, b"hi", 3)?;
+/// How many blocks and bytes a message has.
+fn sizes_of(message: &Message) -> (usize, u64) {
+    (message.blocks().len(), message.total_length())
+}
+
+/// Adds a block to a message, and puts other bytes in the place of all its blocks.
+fn lengthen_and_rewrite(
+    rt: &impl Abort,
+    alloc: Global,
+    message: &mut Message,
+) -> Result<(), NoMemory> {
     if message.blocks().len() < 1024 {
         message.cont_bytes(alloc, b"\n")?;
     }
-    assert_eq!(rt; (message.blocks().len(), message.total_length()), (2, 3));
+    assert_eq!(rt; sizes_of(message), (2, 3));
     message.rewrite(b"again", 7)?;
-    assert_eq!(rt; (message.blocks().len(), message.total_length()), (1, 5));
+    assert_eq!(rt; sizes_of(message), (1, 5));
     assert_eq!(rt; message.priority(), 7);
-    let memory = message.put_alone(Block::from_vec(Vec::from_slice(alloc, b"now")?));
+    Ok(())
+}
+
+/// Puts a block in the place of those of a message.
+fn put_alone(rt: &impl Abort, message: &mut Message, block: Block) {
+    let memory = message.put_alone(block);
     assert!(rt; memory.is_empty());
     assert_eq!(rt; message.total_length(), 3);
+}
+
+#[test]
+fn a_message_is_written_anew(rt: HostRuntime) -> Result<(), Fail> {
+    let block = Block::from_vec(Vec::from_slice(rt.alloc(), b"now")?);
+    let mut message = message_of(rt.alloc(), b"hi", 3)?;
+    lengthen_and_rewrite(&rt, rt.alloc(), &mut message)?;
+    put_alone(&rt, &mut message, block);
     Ok(())
 }
