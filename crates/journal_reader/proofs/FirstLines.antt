@@ -12,7 +12,8 @@ use Rattle.journal_text.specs.Texts.{most_line, entry_text, entry_line}
 use Rattle.journal_reader.specs.Limits.{IsMost, EntryIsWithin}
 use Rattle.journal_reader.specs.Journals.{first_line, BeginsWithNoMost, BeginsWithNoEntry}
 use Rattle.std.specs.Str.{bytes_eq}
-use Rattle.journal_reader.specs.Reading.{parts, next, at_end, number_of, limited, most_of, entry_of, ◌>>=◌}
+use Rattle.text_parts.specs.Parts.{parts}
+use Rattle.journal_reader.specs.Reading.{next, at_end, number_of, limited, most_of, entry_of, ◌>>=◌}
 use Rattle.journal_reader.proofs.Joins.{Free, AllPlain, parts_joined, all_free, free_joined, plain_number}
 use Rattle.journal_reader.proofs.Spelled.{took, chosen, value_is, any_word, numbers}
 use Rattle.journal_reader.proofs.RecordWords.{ended}

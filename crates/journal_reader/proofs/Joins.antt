@@ -12,7 +12,7 @@ use Rattle.std.proofs.lemmas.Fmt.{decimal_is_IsNumeral}
 use Rattle.std.proofs.lemmas.List.Folds.{list_all-append}
 use Rattle.std.proofs.lemmas.List.Splits.{slice_split-cons_yes, slice_split-cons_no}
 use Rattle.std.proofs.lemmas.Str.Parse.{digit_from_value}
-use Rattle.journal_reader.specs.Reading.{parts}
+use Rattle.text_parts.specs.Parts.{parts}
 
 -- no byte of a part is the separator
 abbrev pub Free : ℕ → List ℕ → Type 0

@@ -1,4 +1,4 @@
-pub mod Cuts
+pub mod PartsLeft
 pub mod Numbers
 pub mod RecordsRead
 pub mod Joins

@@ -1,13 +1,8 @@
 -- The parts of a text that are left to be read.
-use Rattle.std.specs.Prelude.{◌≡◌, ℕ, List, [], Option, Some, None}
-use Rattle.std.specs.Borrow.{Bor}
+use Rattle.std.specs.Prelude.{◌≡◌, ℕ, List, Option, Some, None}
 use Rattle.journal_reader.specs.declared.parts.Parts.{Parts}
-use Rattle.journal_reader.specs.Reading.{parts, next}
-
--- the parts behind a separator, if there is one
-abbrev pub parts_behind : ℕ → Option (Bor (List ℕ)) → List (List ℕ)
-parts_behind separator None = []
-parts_behind separator (Some rest) = parts separator rest.now
+use Rattle.text_parts.specs.Parts.{parts_behind}
+use Rattle.journal_reader.specs.Reading.{next}
 
 abbrev pub left : Parts → List (List ℕ)
 left text = parts_behind text.separator text.rest

@@ -1,8 +1,9 @@
 -- What the lines of a journal's text are read as, word by word. Each function is the inverse of one that puts a text.
 use Rattle.std.specs.Prelude.{ℕ, ◌-◌, ◌^◌, ◌==◌, nat_lt, nat_le, Bool, true, false, ◌&&◌, if◌then◌else◌, List, [], ◌∷◌, length, slice_index, ℤ, pos, negsuc, Option, Some, None, option_map, option_and_then, codes, decimal, Result, Ok, Err}
-use Rattle.std.specs.List.{slice_split, list_all}
+use Rattle.std.specs.List.{list_all}
 use Rattle.std.specs.Str.{bytes_eq}
 use Rattle.std.specs.Str.Parse.{digits_value}
+use Rattle.text_parts.specs.Parts.{parts}
 use Rattle.hex.specs.Hex.{decode_of}
 use Rattle.ev_types.specs.declared.upcall.Mask.{Mask}
 use Rattle.ev_types.specs.declared.upcall.Kind.{Kind}
@@ -23,10 +24,6 @@ use Rattle.log_handler.specs.declared.note.ServerNote.TheVariants as note
 infixl 10 ◌>>=◌
 abbrev pub ◌>>=◌ : {A B : Type 0} → Option A → (A → Option B) → Option B
 o >>= f = option_and_then f o
-
--- the parts of a text, between separators
-abbrev pub parts : ℕ → List ℕ → List (List ℕ)
-parts separator text = slice_split (λ b. b == separator) text
 
 -- what the first part says, and the parts behind it
 abbrev pub next : {V : Type 0} → (List ℕ → Option V) → List (List ℕ) → Option (V × List (List ℕ))

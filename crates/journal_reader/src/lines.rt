@@ -4,12 +4,13 @@ ghost use Rattle.journal_reader.specs.Reading.{most_of, limited};
 ghost use Rattle.journal_reader.specs.Parts.{left};
 ghost use Rattle.journal_reader.specs.FirstLines.{IsFirstLine, ReadsMost, ReadsEntry};
 
-use crate::parts::{Parts, is_word};
+use crate::parts::Parts;
 use crate::read_entries::read_entry;
 use ev_types::NoMemory;
 use log_handler::ServerNote;
 use reactor_journal::Entry;
 use std::alloc::Global;
+use text_parts::is_word;
 
 /// The first line of a text, without its line feed, and the text behind it; None where the text has no line feed.
 fn next_line(text: &[u8]) -> Option<(&[u8], &[u8])>

@@ -1,32 +1,15 @@
 //! The parts of a text between separators, one behind another.
-ghost use Rattle.std.specs.Prelude.{◌≡◌, ◌∷◌, ◌<◌, [], length, IfSome, MatchOption};
-ghost use Rattle.std.specs.Str.{bytes_eq};
-ghost use Rattle.journal_reader.specs.Reading.{parts, no_more, number_of, signed_of, narrow_of, mask_of, kind_of, answer_of, fault_of, end_of};
-ghost use Rattle.journal_reader.specs.Parts.{parts_behind, left, Reads};
+ghost use Rattle.std.specs.Prelude.{◌≡◌, ◌∷◌, [], MatchOption};
+ghost use Rattle.text_parts.specs.Parts.{parts};
+ghost use Rattle.journal_reader.specs.Reading.{no_more, number_of, signed_of, narrow_of, mask_of, kind_of, answer_of, fault_of, end_of};
+ghost use Rattle.journal_reader.specs.Parts.{left, Reads};
 
 use crate::values::{
     read_answer, read_end, read_fault, read_kind, read_mask, read_narrow, read_number, read_signed,
 };
 use ev_types::{Answer, Kind, Mask};
 use log_lines::EndKind;
-
-/// What stands before the first separator, and what stands behind it, if there is one.
-pub(crate) fn cut(bytes: &[u8], separator: u8) -> (&[u8], Option<&[u8]>)
-    ensures are { parts separator bytes.now ≡ result.0.now ∷ parts_behind separator result.1 }
-    ensures shorter { IfSome result.1 (λ rest. length rest.now < length bytes.now) }
-{
-    match bytes.iter().position(|byte| *byte == separator) {
-        Some(at) => (&bytes[..at], Some(&bytes[at + 1..])),
-        None => (bytes, None),
-    }
-}
-
-/// Whether a word is this keyword.
-pub(crate) fn is_word(word: &[u8], keyword: &[u8]) -> bool
-    ensures { result ≡ bytes_eq word.now keyword.now }
-{
-    word == keyword
-}
+use text_parts::cut;
 
 /// The parts of a text that are left to be read.
 #[derive(Drop)]

@@ -3,12 +3,13 @@ ghost use Rattle.std.specs.Prelude.{◌≡◌, IfOk};
 ghost use Rattle.journal_reader.specs.Reading.{opened_of, masked_of, scheduled_of, ready_of, posted_of, stale_of, entry_with, numbered_of, plain_of, returned_of, refused_of, closed_of, whole_of, named_of, entry_of};
 ghost use Rattle.journal_reader.specs.Parts.{left, ReadsAll};
 
-use crate::parts::{Parts, is_word};
+use crate::parts::Parts;
 use crate::read_notes::read_note;
 use ev_types::{Handle, NoMemory};
 use log_handler::ServerNote;
 use reactor_journal::Entry;
 use std::alloc::Global;
+use text_parts::is_word;
 
 #[tactic(auto, unfolding(crate::specs::Reading::opened_of))]
 fn read_opened(parts: &mut Parts) -> Option<Entry<ServerNote>>

@@ -3,12 +3,13 @@ ghost use Rattle.std.specs.Prelude.{◌≡◌, IfOk};
 ghost use Rattle.journal_reader.specs.Reading.{at_end, accepted_of, finished_of, short_note_of, counts_of, piece_of, note_of};
 ghost use Rattle.journal_reader.specs.Parts.{left, ReadsAll};
 
-use crate::parts::{Parts, is_word};
+use crate::parts::Parts;
 use crate::read_records::read_records;
 use cdr_record::Records;
 use ev_types::NoMemory;
 use log_handler::{LoggedRecords, ServerNote};
 use std::alloc::Global;
+use text_parts::is_word;
 
 /// A note, where no part is left.
 fn at_end(parts: &Parts, note: ServerNote) -> Option<ServerNote>

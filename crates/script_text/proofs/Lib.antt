@@ -1,4 +1,4 @@
-pub mod Parts
+pub mod Lines
 pub mod Numbers
 pub mod Steps
 pub mod Groups

@@ -5,11 +5,12 @@ ghost use Rattle.event_script.specs.Grammar.{quiet_line, two_words, fail_line, d
 ghost use Rattle.script_text.specs.Lines.{Says, SaysLine, step_view};
 ghost use Rattle.script_net.specs.Scripts.{step_at};
 
-use crate::words::{cut, is_word, number};
+use crate::words::number;
 use ev_types::NoMemory;
 use hex::FromHexError;
 use script_net::End;
 use std::alloc::Global;
+use text_parts::{cut, is_word};
 
 /// A step of a script.
 #[derive(Drop)]

@@ -1,26 +1,8 @@
 //! The words of a line.
 ghost use Rattle.std.specs.Prelude.{◌≡◌, ◌∷◌, ◌<◌, ◌≤◌, ◌^◌, ℕ, length, IfSome, None, Some};
-ghost use Rattle.std.specs.Str.{bytes_eq};
-ghost use Rattle.event_script.specs.Grammar.{parts, raw_lines, number, digits_from};
-ghost use Rattle.script_text.specs.Words.{parts_behind};
+ghost use Rattle.event_script.specs.Grammar.{raw_lines, number, digits_from};
 
-/// What stands before the first separator, and what stands behind it, if there is one.
-pub(crate) fn cut(bytes: &[u8], separator: u8) -> (&[u8], Option<&[u8]>)
-    ensures are { parts separator bytes.now ≡ result.0.now ∷ parts_behind separator result.1 }
-    ensures shorter { IfSome result.1 (λ rest. length rest.now < length bytes.now) }
-{
-    match bytes.iter().position(|byte| *byte == separator) {
-        Some(at) => (&bytes[..at], Some(&bytes[at + 1..])),
-        None => (bytes, None),
-    }
-}
-
-/// Whether a word is this keyword.
-pub(crate) fn is_word(word: &[u8], keyword: &[u8]) -> bool
-    ensures { result ≡ bytes_eq word.now keyword.now }
-{
-    word == keyword
-}
+use text_parts::cut;
 
 /// The number that a word spells in decimal digits without a leading zero, if it spells one of 64 bits.
 pub(crate) fn number(word: &[u8]) -> Option<u64>

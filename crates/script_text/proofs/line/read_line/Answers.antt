@@ -1,8 +1,8 @@
 use Rattle.std.proofs.Common.{◌≡◌, ◌∙◌, ◌∷◌, sym, ap, subst, List, ℕ, None, true}
 use Rattle.std.specs.Prelude.{is_some}
 use Rattle.event_script.specs.Grammar.{line_of, line_of_words, IsBadBehind}
-use Rattle.script_text.specs.Words.{parts_behind}
-use Rattle.script_text.proofs.Parts.{no_line}
+use Rattle.text_parts.specs.Parts.{parts_behind}
+use Rattle.script_text.proofs.Lines.{no_line}
 use Rattle.script_text.proofs.line.read_line.Goals as goal
 
 pub returns-then-is_some : goal.returns-then-is_some

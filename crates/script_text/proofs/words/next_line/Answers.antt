@@ -1,8 +1,8 @@
 use Rattle.std.proofs.Common.{◌≡◌, ◌∙◌, ◌∷◌, [], ◌-◌, ℕ, List, length, take, drop, sym, ap, arith}
 use Rattle.std.proofs.lemmas.List.{take_rest, drop_all}
 use Rattle.event_script.specs.Grammar.{without_last_empty, raw_lines}
-use Rattle.script_text.specs.Words.{parts_behind}
-use Rattle.script_text.proofs.Parts.{one_line, more_lines}
+use Rattle.text_parts.specs.Parts.{parts_behind}
+use Rattle.script_text.proofs.Lines.{one_line, more_lines}
 use Rattle.script_text.proofs.words.next_line.Goals as goal
 
 pub returns-in-Some-clause-are : goal.returns-in-Some-clause-are

@@ -1,4 +1,4 @@
-use Rattle.journal_reader.proofs.Cuts.{none_left}
+use Rattle.journal_reader.proofs.PartsLeft.{none_left}
 use Rattle.journal_reader.proofs.parts.Parts.is_over.Goals as goal
 
 pub returns : goal.returns

@@ -1,12 +1,9 @@
 -- The parts of a text at its first separator.
-use Rattle.std.proofs.Common.{◌≡◌, ℕ, suc, ◌+◌, ◌<◌, ◌≤◌, Bool, true, false, not, cond, ltb, ◌==◌, List, [], ◌∷◌, length, take, drop, Option, Some, None, refl, sym, ap, arith}
+use Rattle.std.proofs.Common.{◌≡◌, ℕ, suc, ◌+◌, ◌<◌, ◌≤◌, Bool, true, false, not, cond, ltb, ◌==◌, List, [], ◌∷◌, length, take, drop, Option, Some, None, refl, ap, arith}
 use Rattle.std.specs.List.{position_or_len, onto_first}
 use Rattle.std.proofs.lemmas.Bool.Decides.{nat_tests}
 use Rattle.std.proofs.lemmas.List.Splits.{slice_split_first}
-use Rattle.std.specs.Prelude.{is_some}
-use Rattle.std.specs.Borrow.{Bor}
-use Rattle.journal_reader.specs.Reading.{parts, no_more}
-use Rattle.journal_reader.specs.Parts.{parts_behind}
+use Rattle.text_parts.specs.Parts.{parts}
 
 none_step : (b : Bool) (c x : ℕ) (xs : List ℕ) → (length xs ≤ position_or_len (λ b. b == c) xs → parts c xs ≡ xs ∷ []) → suc (length xs) ≤ cond (not b) (1 + position_or_len (λ b. b == c) xs) 0
     → cond b ([] ∷ parts c xs) (onto_first x (parts c xs)) ≡ (x ∷ xs) ∷ []
@@ -30,20 +27,14 @@ pub are_cut : (c : ℕ) (xs : List ℕ) → AreCut c xs (cond (ltb (position_or_
 are_cut c xs = by_test _ c xs refl
 
 -- there is always a part
-joined : (x : ℕ) (ps : List (List ℕ)) → no_more (onto_first x ps) ≡ false
-joined x [] = refl
-joined x (p ∷ ps) = refl
+joined : (x : ℕ) (ps : List (List ℕ)) → (first : List ℕ) × (more : List (List ℕ)) × (onto_first x ps ≡ first ∷ more)
+joined x [] = (x ∷ [], [], refl)
+joined x (p ∷ ps) = (x ∷ p, ps, refl)
 
-one_step : (b : Bool) (c x : ℕ) (xs : List ℕ) → no_more (cond b ([] ∷ parts c xs) (onto_first x (parts c xs))) ≡ false
-one_step true c x xs = refl
+one_step : (b : Bool) (c x : ℕ) (xs : List ℕ) → (first : List ℕ) × (more : List (List ℕ)) × (cond b ([] ∷ parts c xs) (onto_first x (parts c xs)) ≡ first ∷ more)
+one_step true c x xs = ([], parts c xs, refl)
 one_step false c x xs = joined x (parts c xs)
 
-pub one_part : (c : ℕ) (xs : List ℕ) → no_more (parts c xs) ≡ false
-one_part c [] = refl
+pub one_part : (c : ℕ) (xs : List ℕ) → (first : List ℕ) × (more : List (List ℕ)) × (parts c xs ≡ first ∷ more)
+one_part c [] = ([], [], refl)
 one_part c (x ∷ xs) = one_step (x == c) c x xs
-
-pub none_left : (c : ℕ) (rest : Option (Bor (List ℕ))) (over : Bool) → is_some rest ≡ not over → over ≡ no_more (parts_behind c rest)
-none_left c None true is = refl
-none_left c None false is = cc
-none_left c (Some r) true is = cc
-none_left c (Some r) false is = sym (one_part c r.now)

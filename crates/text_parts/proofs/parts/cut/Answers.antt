@@ -2,8 +2,8 @@ use Rattle.std.proofs.Common.{◌==◌, Some, rules, tests, sym, subst, ◌∙�
 use Rattle.std.proofs.lemmas.List.{take_rest}
 use Rattle.std.proofs.lemmas.Iterator.{YieldsList-from_slice}
 use Rattle.std.proofs.lemmas.Iterator.Search.{position_from_yields_List}
-use Rattle.script_text.proofs.Parts.{are_cut, AreCut}
-use Rattle.script_text.proofs.words.cut.Goals as goal
+use Rattle.text_parts.proofs.Cuts.{are_cut, AreCut}
+use Rattle.text_parts.proofs.parts.cut.Goals as goal
 
 pub returns-in-Some-clause-are : goal.returns-in-Some-clause-are
 returns-in-Some-clause-are c =
