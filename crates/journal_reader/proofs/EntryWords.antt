@@ -62,7 +62,7 @@ entry_fields (entry.Removed handle) = decimal handle.0 ∷ []
 entry_fields (entry.Closed handle said) = decimal handle.0 ∷ note_name said ∷ note_fields said
 entry_fields entry.Ended = []
 
-abbrev entry_words : Entry ServerNote → Words
+abbrev pub entry_words : Entry ServerNote → Words
 entry_words e = entry_name e ∷ entry_fields e
 
 with_note : (first number text : List ℕ) → first ++ number ++ codes " " ++ text ≡ first ++ (number ++ 32 ∷ text)
@@ -71,30 +71,30 @@ with_note first number text = simp append_assoc
 with_answer : (first number answer text : List ℕ) → first ++ number ++ codes " " ++ answer ++ codes " " ++ text ≡ first ++ (number ++ 32 ∷ (answer ++ 32 ∷ text))
 with_answer first number answer text = simp append_assoc
 
-joined : (e : Entry ServerNote) → entry_text e ≡ join_with_byte 32 (entry_words e)
+pub entry_joined : (e : Entry ServerNote) → entry_text e ≡ join_with_byte 32 (entry_words e)
 unfolding entry_text
-joined (entry.Opened handle mask) = simp append_assoc
-joined (entry.Scheduled timer handle first every) = simp append_assoc
-joined (entry.Cancelled timer) = refl
-joined (entry.Polled now) = refl
-joined (entry.Due timer) = refl
-joined (entry.Ready handle kind) = simp append_assoc
-joined (entry.Posted handle kind from seq) = simp append_assoc
-joined (entry.Stale handle from seq) = simp append_assoc
-joined (entry.Started event) = refl
-joined (entry.Returned event answer said) =
+entry_joined (entry.Opened handle mask) = simp append_assoc
+entry_joined (entry.Scheduled timer handle first every) = simp append_assoc
+entry_joined (entry.Cancelled timer) = refl
+entry_joined (entry.Polled now) = refl
+entry_joined (entry.Due timer) = refl
+entry_joined (entry.Ready handle kind) = simp append_assoc
+entry_joined (entry.Posted handle kind from seq) = simp append_assoc
+entry_joined (entry.Stale handle from seq) = simp append_assoc
+entry_joined (entry.Started event) = refl
+entry_joined (entry.Returned event answer said) =
     with_answer (codes "returned ") (decimal event) (answer_text answer) (note_text said)
     ∙ ap (λ (text : List ℕ). codes "returned " ++ (decimal event ++ 32 ∷ (answer_text answer ++ 32 ∷ text))) (note_joined said)
-joined (entry.Masked handle mask) = simp append_assoc
-joined (entry.Suspended handle) = refl
-joined (entry.Resumed handle) = refl
-joined (entry.Refused live fault said) =
+entry_joined (entry.Masked handle mask) = simp append_assoc
+entry_joined (entry.Suspended handle) = refl
+entry_joined (entry.Resumed handle) = refl
+entry_joined (entry.Refused live fault said) =
     with_answer (codes "refused ") (decimal live) (fault_text fault) (note_text said)
     ∙ ap (λ (text : List ℕ). codes "refused " ++ (decimal live ++ 32 ∷ (fault_text fault ++ 32 ∷ text))) (note_joined said)
-joined (entry.Removed handle) = refl
-joined (entry.Closed handle said) =
+entry_joined (entry.Removed handle) = refl
+entry_joined (entry.Closed handle said) =
     with_note (codes "closed ") (decimal handle.0) (note_text said) ∙ ap (λ (text : List ℕ). codes "closed " ++ (decimal handle.0 ++ 32 ∷ text)) (note_joined said)
-joined entry.Ended = refl
+entry_joined entry.Ended = refl
 
 -- ---- no word has a space in it
 
@@ -129,28 +129,28 @@ fault_plain false = refl
 number_plain : (n : ℕ) → n < 2 ^ 64 → Plain (decimal n)
 number_plain n small = plain_number n small
 
-plain : (e : Entry ServerNote) → EntryIsWithin e → AllPlain (entry_words e)
-plain (entry.Opened handle mask) w = (refl, (number_plain handle.0 w, (mask_plain mask, tt)))
-plain (entry.Scheduled timer handle first every) w = (refl, (number_plain timer w.0, (number_plain handle.0 w.1, (number_plain first w.2, (number_plain every w.3, tt)))))
-plain (entry.Cancelled timer) w = (refl, (number_plain timer w, tt))
-plain (entry.Polled now) w = (refl, (number_plain now w, tt))
-plain (entry.Due timer) w = (refl, (number_plain timer w, tt))
-plain (entry.Ready handle kind) w = (refl, (number_plain handle.0 w, (kind_plain kind, tt)))
-plain (entry.Posted handle kind from seq) w = (refl, (number_plain handle.0 w.0, (kind_plain kind, (number_plain from w.1, (number_plain seq w.2, tt)))))
-plain (entry.Stale handle from seq) w = (refl, (number_plain handle.0 w.0, (number_plain from w.1, (number_plain seq w.2, tt))))
-plain (entry.Started event) w = (refl, (number_plain event w, tt))
-plain (entry.Returned event answer said) w = (refl, (number_plain event w.0, (answer_plain answer, note_plain said w.1)))
-plain (entry.Masked handle mask) w = (refl, (number_plain handle.0 w, (mask_plain mask, tt)))
-plain (entry.Suspended handle) w = (refl, (number_plain handle.0 w, tt))
-plain (entry.Resumed handle) w = (refl, (number_plain handle.0 w, tt))
-plain (entry.Refused live fault said) w = (refl, (number_plain live w.0, (fault_plain fault, note_plain said w.1)))
-plain (entry.Removed handle) w = (refl, (number_plain handle.0 w, tt))
-plain (entry.Closed handle said) w = (refl, (number_plain handle.0 w.0, note_plain said w.1))
-plain entry.Ended w = (refl, tt)
+pub entry_plain : (e : Entry ServerNote) → EntryIsWithin e → AllPlain (entry_words e)
+entry_plain (entry.Opened handle mask) w = (refl, (number_plain handle.0 w, (mask_plain mask, tt)))
+entry_plain (entry.Scheduled timer handle first every) w = (refl, (number_plain timer w.0, (number_plain handle.0 w.1, (number_plain first w.2, (number_plain every w.3, tt)))))
+entry_plain (entry.Cancelled timer) w = (refl, (number_plain timer w, tt))
+entry_plain (entry.Polled now) w = (refl, (number_plain now w, tt))
+entry_plain (entry.Due timer) w = (refl, (number_plain timer w, tt))
+entry_plain (entry.Ready handle kind) w = (refl, (number_plain handle.0 w, (kind_plain kind, tt)))
+entry_plain (entry.Posted handle kind from seq) w = (refl, (number_plain handle.0 w.0, (kind_plain kind, (number_plain from w.1, (number_plain seq w.2, tt)))))
+entry_plain (entry.Stale handle from seq) w = (refl, (number_plain handle.0 w.0, (number_plain from w.1, (number_plain seq w.2, tt))))
+entry_plain (entry.Started event) w = (refl, (number_plain event w, tt))
+entry_plain (entry.Returned event answer said) w = (refl, (number_plain event w.0, (answer_plain answer, note_plain said w.1)))
+entry_plain (entry.Masked handle mask) w = (refl, (number_plain handle.0 w, (mask_plain mask, tt)))
+entry_plain (entry.Suspended handle) w = (refl, (number_plain handle.0 w, tt))
+entry_plain (entry.Resumed handle) w = (refl, (number_plain handle.0 w, tt))
+entry_plain (entry.Refused live fault said) w = (refl, (number_plain live w.0, (fault_plain fault, note_plain said w.1)))
+entry_plain (entry.Removed handle) w = (refl, (number_plain handle.0 w, tt))
+entry_plain (entry.Closed handle said) w = (refl, (number_plain handle.0 w.0, note_plain said w.1))
+entry_plain entry.Ended w = (refl, tt)
 
 -- nor a line feed
 pub one_line : (e : Entry ServerNote) → EntryIsWithin e → Free 10 (entry_text e)
-one_line e w = subst (Free 10) (sym (joined e)) (free_joined 10 32 (entry_words e) refl (all_free 10 (entry_words e) (omega arith) (plain e w)))
+one_line e w = subst (Free 10) (sym (entry_joined e)) (free_joined 10 32 (entry_words e) refl (all_free 10 (entry_words e) (omega arith) (entry_plain e w)))
 
 -- ---- what is spelt is read
 
@@ -187,7 +187,7 @@ at_words e w = read e w
 
 pub entry_all : (e : Entry ServerNote) → EntryIsWithin e → entry_of (entry_text e) ≡ Some e
 entry_all e w =
-    entry_is (entry_text e) ∙ ap (λ (line : List ℕ). entry_at (parts 32 line)) (joined e) ∙ ap entry_at (parts_joined 32 (entry_name e) (entry_fields e) (all_free 32 (entry_words e) (omega arith) (plain e w))) ∙ at_words e w
+    entry_is (entry_text e) ∙ ap (λ (line : List ℕ). entry_at (parts 32 line)) (entry_joined e) ∙ ap entry_at (parts_joined 32 (entry_name e) (entry_fields e) (all_free 32 (entry_words e) (omega arith) (entry_plain e w))) ∙ at_words e w
 
 -- ---- what is read is spelt so
 
@@ -413,4 +413,4 @@ at_only words e h =
 pub entry_only : (line : List ℕ) (e : Entry ServerNote) → entry_of line ≡ Some e → (entry_text e ≡ line) × EntryIsWithin e
 entry_only line e h =
     let spelt = at_only (parts 32 line) e (sym (entry_is line) ∙ h) in
-    (joined e ∙ ap (join_with_byte 32) (sym spelt.0) ∙ join_with_byte-slice_split 32 line, spelt.1)
+    (entry_joined e ∙ ap (join_with_byte 32) (sym spelt.0) ∙ join_with_byte-slice_split 32 line, spelt.1)

@@ -1,5 +1,5 @@
 -- Texts that are joined of parts which have no separator in them.
-use Rattle.std.proofs.Common.{◌≡◌, ◌∙◌, ℕ, suc, ◌<◌, ◌≤◌, ◌⊎◌, inl, inr, nat_lt, Bool, true, false, not, ◌&&◌, ◌==◌, List, [], ◌∷◌, ◌++◌, decimal, refl, ap, arith}
+use Rattle.std.proofs.Common.{◌≡◌, ◌∙◌, ℕ, suc, ◌<◌, ◌≤◌, ◌⊎◌, inl, inr, nat_le, Bool, true, false, not, ◌&&◌, ◌||◌, ◌==◌, List, [], ◌∷◌, ◌++◌, decimal, refl, ap, arith}
 use Rattle.std.specs.List.{list_all, onto_first, join_with_byte, AllByRecursion}
 use Rattle.std.specs.Fmt.{signed_decimal}
 use Rattle.std.specs.Int.{w64}
@@ -55,20 +55,24 @@ free_both c a b first second = list_all-append (λ b. not (b == c)) a b ∙ ap (
 abbrev pub IsNoDigit : ℕ → Type 0
 IsNoDigit c = (c < 48) ⊎ (57 < c)
 
--- no byte is a space or below it
+-- a small letter, a digit, a colon or a hyphen
+abbrev pub is_plain : ℕ → Bool
+is_plain b = (nat_le 97 b && nat_le b 122) || ((nat_le 48 b && nat_le b 58) || b == 45)
+
+-- a part of such bytes alone
 abbrev pub Plain : List ℕ → Type 0
-Plain part = list_all (λ b. nat_lt 32 b) part ≡ true
+Plain part = list_all is_plain part ≡ true
 
 abbrev pub AllPlain : List (List ℕ) → Type 0
 AllPlain ps = AllByRecursion Plain ps
 
-above : (c b : ℕ) → c ≤ 32 → nat_lt 32 b ≡ true → not (b == c) ≡ true
+above : (c b : ℕ) → c ≤ 32 → is_plain b ≡ true → not (b == c) ≡ true
 above c b low is = grind (arith, nat_tests)
 
 free_plain : (c : ℕ) (part : List ℕ) → c ≤ 32 → Plain part → Free c part
 free_plain c [] low plain = refl
 free_plain c (b ∷ part) low plain =
-    let both = and_parts (nat_lt 32 b) (list_all (λ b. nat_lt 32 b) part) plain in
+    let both = and_parts (is_plain b) (list_all is_plain part) plain in
     ap (λ x. x && list_all (λ b. not (b == c)) part) (above c b low both.0) ∙ free_plain c part low both.1
 
 pub all_free : (c : ℕ) (ps : List (List ℕ)) → c ≤ 32 → AllPlain ps → AllFree c ps
@@ -84,16 +88,16 @@ free_joined c separator (part ∷ next ∷ ps) other free =
     (ap (λ x. x && list_all (λ b. not (b == c)) (join_with_byte separator (next ∷ ps))) other ∙ free_joined c separator (next ∷ ps) other free.1)
 
 pub plain_both : (a b : List ℕ) → Plain a → Plain b → Plain (a ++ b)
-plain_both a b first second = list_all-append (λ b. nat_lt 32 b) a b ∙ ap (λ x. x && list_all (λ b. nat_lt 32 b) b) first ∙ second
+plain_both a b first second = list_all-append is_plain a b ∙ ap (λ x. x && list_all is_plain b) first ∙ second
 
-plain_digit : (b : ℕ) → 48 ≤ b → nat_lt 32 b ≡ true
-plain_digit b low = grind (arith, nat_tests)
+plain_digit : (b : ℕ) → 48 ≤ b → b ≤ 57 → is_plain b ≡ true
+plain_digit b low high = grind (arith, nat_tests)
 
 plain_digits : (ds : List ℕ) → AllDigits 10 ds → Plain ds
 plain_digits [] all = refl
 plain_digits (d ∷ ds) all =
     let is = digit_from_value d all.0 in
-    ap (λ x. x && list_all (λ b. nat_lt 32 b) ds) (plain_digit d is.0) ∙ plain_digits ds all.1
+    ap (λ x. x && list_all is_plain ds) (plain_digit d is.0 is.1) ∙ plain_digits ds all.1
 
 pub plain_number : (n : ℕ) → n < 2 ^ 64 → Plain (decimal n)
 plain_number n small = plain_digits (decimal n) (decimal_is_IsNumeral n small).0.1

@@ -7,7 +7,7 @@ use Rattle.hex.specs.Hex.{IsBytes, decode_of, decode_pairs, digit_or_error, hex_
 use Rattle.hex.specs.declared.error.FromHexError.{FromHexError}
 use Rattle.hex.proofs.HexLemmas.{length-encode_with, decode_of-encode_lower, decode_of-ok, decode_of-even}
 use Rattle.journal_reader.specs.Reading.{is_lower_digit, value_of, message_of}
-use Rattle.journal_reader.proofs.Joins.{Plain}
+use Rattle.journal_reader.proofs.Joins.{is_plain, Plain}
 use Rattle.journal_reader.proofs.Spelled.{Spelled, value_is}
 
 -- ---- the sixteen digits
@@ -132,7 +132,7 @@ free_message (b ∷ bytes) are =
     let low : b % 16 < 16 = omega arith in
     both_true _ _ (free_digit (b / 16) high) (both_true _ _ (free_digit (b % 16) low) (free_message bytes (λ k. are (suc k))))
 
-plain_digit : (d : ℕ) → d < 16 → nat_lt 32 (slice_index lower_digits d) ≡ true
+plain_digit : (d : ℕ) → d < 16 → is_plain (slice_index lower_digits d) ≡ true
 plain_digit d lt = let is = digit_is d lt in rw is (grind (arith, nat_tests))
 
 pub plain_message : (bytes : List ℕ) → IsBytes bytes → Plain (encode_lower bytes)
