@@ -1,6 +1,6 @@
 pub mod Sums
 pub mod Stories
-pub mod Numbers
+pub mod Registered
 pub mod Handlers
 pub mod Totals
 pub mod Grouped

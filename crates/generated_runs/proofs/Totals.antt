@@ -45,6 +45,7 @@ use Rattle.script_runs.proofs.Settling.{each_front, opened_later}
 use Rattle.script_runs.proofs.Standing.{OpenedFor}
 use Rattle.script_runs.proofs.Turns as turns
 use Rattle.script_runs.proofs.Whole as whole
+use Rattle.script_runs.proofs.Numbers as numbers
 use Rattle.script_runs.proofs.Winding as winding
 use Rattle.script_complete.proofs.Taking.{all_accepted}
 use Rattle.run_summary.specs.declared.summary.Summary.{Summary}
@@ -59,7 +60,7 @@ use Rattle.script_generator.proofs.Connections.{has_steps, brings_records, bytes
 use Rattle.generated_runs.specs.Runs.{SumsUp}
 use Rattle.generated_runs.proofs.Sums.{below, same_below, always_below, none_below, first_and_rest, sum_back}
 use Rattle.generated_runs.proofs.Stories.{ReadsAll, reads_all}
-use Rattle.generated_runs.proofs.Numbers as numbers
+use Rattle.generated_runs.proofs.Registered as registered
 use Rattle.generated_runs.proofs.Handlers as handlers
 use Rattle.generated_runs.proofs.Handlers.{of_turn, of_closing, of_item, in_both}
 
@@ -171,19 +172,19 @@ module _ {H E : Type 0} (means : Handling H E ServerNote) (t : Terms) (n seed : 
   all = whole.all means t None (generated n seed) journal r
 
   abbrev legal : is_legal t.most all ≡ true
-  legal = numbers.legal means t None groups journal r none_refused
+  legal = whole.legal means t None groups journal r
 
   legal_run : is_legal t.most run ≡ true
   legal_run = whole.legal_run means t None groups journal r
 
   abbrev begun : EachStep IsBegun all
-  begun = numbers.begun means t None groups journal r none_refused
+  begun = whole.begun means t None groups journal r
 
   abbrev left : AreLeft steps None all
-  left = numbers.left means t None groups journal r none_refused
+  left = whole.left means t None groups journal r
 
   abbrev closed : (x : ℕ) → was_opened all x ≡ true → was_closed all x ≡ true
-  closed = numbers.closed means t None groups journal r none_refused
+  closed = whole.closed means t None groups journal r
 
   are_numbered : turns.AreNumbered t.most steps None all legal begun left closed
   are_numbered = numbers.numbers means t None groups journal r none_refused
@@ -192,10 +193,10 @@ module _ {H E : Type 0} (means : Handling H E ServerNote) (t : Terms) (n seed : 
   come = (has_steps n seed least many).come
 
   has_handler : (c : ℕ) → c < n → was_opened run (suc c) ≡ true
-  has_handler c lt = numbers.has_handler means t None groups journal r none_refused c (omega (arith, come, lt))
+  has_handler c lt = registered.has_handler means t None groups journal r none_refused c (omega (arith, come, lt))
 
   none_else : (x : ℕ) → was_opened all x ≡ true → x < suc n
-  none_else x o = omega (arith, come, numbers.none_else means t None groups journal r none_refused x o)
+  none_else x o = omega (arith, come, registered.none_else means t None groups journal r none_refused x o)
 
   opened_all : (x : ℕ) → was_opened run x ≡ true → was_opened all x ≡ true
   opened_all x o = opened_later (whole.wound means t None groups journal r) (Ended ∷ run) x o

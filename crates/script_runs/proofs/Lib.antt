@@ -13,4 +13,5 @@ pub mod Offering
 pub mod Whole
 pub mod Living
 pub mod Refusing
+pub mod Numbers
 pub mod Second

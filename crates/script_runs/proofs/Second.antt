@@ -1,25 +1,22 @@
 -- The second law: the grouped text of a script, for every run over it.
 use Rattle.std.proofs.Common.{ℕ, zero, suc, ◌≡◌, ◌≢◌, ◌==◌, ◌+◌, ◌≤◌, ◌<◌, ◌⊎◌, inl, inr, Bool, true, false, not, cond, ◌&&◌, ◌||◌, List, [], ◌∷◌, ◌++◌, length, reverse, refl, sym, ap, ◌∙◌, subst, arith, Option, Some, None, ⊎_elim, append-nil, append_assoc, length-append}
-use Rattle.std.specs.Prelude.{flat_map}
 use Rattle.std.specs.List.{list_any}
 use Rattle.std.proofs.lemmas.Grind.{flat_map-append}
-use Rattle.std.proofs.lemmas.Bool.{false≢true, and_parts, or_parts, both_ways, eq-eqb}
+use Rattle.std.proofs.lemmas.Bool.{false≢true, and_parts, both_ways, eq-eqb}
 use Rattle.std.proofs.lemmas.List.{reverse-append, reverse-reverse}
 use Rattle.ev_types.specs.declared.upcall.Answer.TheVariants.{Close}
 use Rattle.ev_types.specs.declared.upcall.Handle.{Handle}
 use Rattle.ev_types.specs.declared.upcall.Why.TheVariants.{Own, Removed as ByRemoval}
 use Rattle.ev_base.specs.Terms.{Terms}
-use Rattle.reactor_journal.specs.Event.{Item, Origin}
+use Rattle.reactor_journal.specs.Event.{Item}
 use Rattle.reactor_journal.specs.declared.entry.Entry.{Entry}
-use Rattle.reactor_journal.specs.declared.entry.Entry.TheVariants.{Opened, Closed, Ended}
-use Rattle.reactor_journal.specs.Past.{past_of, count, had, origin_of, reason_of, ended_itself, is_alive, was_opened, was_closed, was_removed, opened, offered_here, all_below}
-use Rattle.reactor_journal.specs.Follow.{may_follow, is_legal, follows_ready}
+use Rattle.reactor_journal.specs.declared.entry.Entry.TheVariants.{Closed, Ended}
+use Rattle.reactor_journal.specs.Past.{past_of, had, origin_of, reason_of, ended_itself, is_alive, was_opened, was_closed}
+use Rattle.reactor_journal.specs.Follow.{may_follow, is_legal}
 use Rattle.reactor_journal.proofs.Turning.{is_legal-front}
 use Rattle.reactor_turns.proofs.Turns.{Last, ended_last, own_reason}
 use Rattle.reactor_model.specs.Handling.{Handling, EndsInClose, IsClose}
 use Rattle.acceptor.specs.Accepting as accepting
-use Rattle.acceptor.specs.Laws.{number_in}
-use Rattle.acceptor.specs.Servers.{ServerMay, is_accepted as says_accepted}
 use Rattle.log_lines.specs.declared.end_kind.EndKind.{EndKind}
 use Rattle.log_lines.specs.declared.end_kind.EndKind.TheVariants as end
 use Rattle.log_handler.specs.declared.note.ServerNote.{ServerNote}
@@ -33,19 +30,18 @@ use Rattle.log_handler.proofs.Accounts.{accounts}
 use Rattle.event_script.specs.Script.{ScriptStep, ScriptGroup, groups_told, steps_of}
 use Rattle.script_turns.specs.Grouped.{grouped}
 use Rattle.script_runs.specs.Connections.{lines_in, lines_of, lines_by_connection, accepted, AreLeft, HadMemory, entry_lacks, ListensThrough}
-use Rattle.script_runs.specs.Runs.{is_refusal, note_settled}
-use Rattle.script_runs.proofs.ByTurns.{TurnsBefore}
+use Rattle.script_runs.specs.Runs.{is_refusal}
 use Rattle.script_runs.specs.Steps.{EachStep}
 use Rattle.script_runs.specs.Laws.{RunsOver}
 use Rattle.script_runs.proofs.Handles.{IsBegun, Offered, offered}
-use Rattle.script_runs.proofs.Numbering.{IsNumbered, balanced, accepted_number, settled_number, owed, nothing_owed, refusals}
-use Rattle.script_runs.proofs.Standing.{opened_is}
+use Rattle.script_runs.proofs.Numbering.{IsNumbered}
 use Rattle.script_runs.proofs.Turns as turns
-use Rattle.script_runs.proofs.Settling.{each_front, origin_still, opened_later, offered_note}
+use Rattle.script_runs.proofs.Settling.{opened_later}
 use Rattle.script_runs.proofs.Winding as winding
 use Rattle.script_runs.proofs.Winding.{Begins}
 use Rattle.script_runs.proofs.Living as living
 use Rattle.script_runs.proofs.Whole as whole
+use Rattle.script_runs.proofs.Numbers as the_numbers
 use Rattle.script_runs.proofs.Glue.{Ends, groups_lines}
 use Rattle.script_runs.proofs.Scripts.{few}
 
@@ -55,13 +51,6 @@ ends_close : (xs : List (Item ServerNote)) (item : Item ServerNote) → item.ans
 ends_close [] item h = subst IsClose (sym h) tt
 ends_close (x ∷ []) item h = subst IsClose (sym h) tt
 ends_close (x ∷ (y ∷ xs)) item h = ends_close (y ∷ xs) item h
-
--- none of which there is none
-none_counted : (past : List (Entry ServerNote)) → list_any is_refusal past ≡ false → refusals past ≡ 0
-none_counted [] h = refl
-none_counted (e ∷ past) h =
-    let parts = or_parts (is_refusal e) (list_any is_refusal past) h in
-    ap (λ (b : Bool). cond b (suc (refusals past)) (refusals past)) parts.0 ∙ none_counted past parts.1
 
 -- lines read backwards
 back : (c : ℕ) → List (Entry ServerNote) → List ℕ
@@ -118,90 +107,35 @@ module _ {H E : Type 0} (means : Handling H E ServerNote) (t : Terms) (groups : 
   all_is : past_of journal ≡ all
   all_is = whole.all_is means t None groups journal r
 
-  legal : is_legal most all ≡ true
+  abbrev legal : is_legal most all ≡ true
   legal = whole.legal means t None groups journal r
-
-  legal_end : is_legal most (Ended ∷ run) ≡ true
-  legal_end = whole.legal_end means t None groups journal r
 
   legal_run : is_legal most run ≡ true
   legal_run = whole.legal_run means t None groups journal r
 
-  turned_run : TurnsBefore (ServerMay t) says_accepted 1 run None
-  turned_run = whole.turned_run means t None groups journal r
-
-  going : Rattle.reactor_journal.specs.Past.ended run ≡ false
-  going = whole.going means t None groups journal r
-
-  begins : Begins run
-  begins = whole.begins means t None groups journal r
-
-  begun_run : EachStep IsBegun run
-  begun_run = whole.begun_run means t None groups journal r
-
-  begun : EachStep IsBegun all
+  abbrev begun : EachStep IsBegun all
   begun = whole.begun means t None groups journal r
 
-  left : AreLeft steps None all
+  abbrev left : AreLeft steps None all
   left = whole.left means t None groups journal r
 
-  closed : (x : ℕ) → was_opened all x ≡ true → was_closed all x ≡ true
+  abbrev closed : (x : ℕ) → was_opened all x ≡ true → was_closed all x ≡ true
   closed = whole.closed means t None groups journal r
-
-  whole_run : all ≡ (wound ++ Ended ∷ []) ++ run
-  whole_run = whole.whole_run means t None groups journal r
-
-  first_run : was_opened run 0 ≡ true
-  first_run = whole.first_run means t None groups journal r
 
   first : was_opened all 0 ≡ true
   first = whole.first means t None groups journal r
 
-  none_open : (i : ℕ) → Rattle.reactor_journal.specs.Past.is_open (Ended ∷ run) i ≡ false
-  none_open = whole.none_open means t None groups journal r
-
   had_is : (x : ℕ) → had all x ≡ had run x
   had_is = whole.had_is means t None groups journal r
 
-  keeps : list_any winding.removes run ≡ false
-  keeps = whole.keeps means t None groups journal r
-
   refused_all : list_any is_refusal all ≡ false
-  refused_all = sym (ap (list_any is_refusal) all_is) ∙ winding.any_reverse is_refusal journal none_refused
-
-  refused_run : list_any is_refusal run ≡ false
-  refused_run = (or_parts (is_refusal {N = ServerNote} Ended) (list_any is_refusal run) (winding.any_right is_refusal wound (Ended ∷ run) refused_all)).1
+  refused_all = the_numbers.refused_all means t None groups journal r none_refused
 
   numbered : EachStep IsNumbered run
   numbered = whole.numbered means t None groups journal r
 
-  -- ---- the number of each connection
-
-  is_number : (c k : ℕ) (past : List (Entry ServerNote)) (o : Origin ServerNote) → note_settled past ≡ Some (note.Accepted k) → note_settled past ≡ Some o.note → k ≡ c → (number moment : ℕ)
-      → Some (record { note = note.Accepted number; moment = moment }) ≡ Some o → number ≡ c
-  is_number c k past o s n e number moment same =
-      let a : o.note ≡ note.Accepted k = cc in
-      let b : note.Accepted number ≡ o.note = ap (λ (x : Option (Origin ServerNote)). elim x [ None ↦ note.Accepted number | Some y ↦ y.note ]) same in
-      let d : number ≡ k = cc in
-      d ∙ e
-
   numbers : turns.AreNumbered most steps None all legal begun left closed
-  numbers c o =
-      let o_run : was_opened run (suc c) ≡ true = sym (winding.opened_back most wound (Ended ∷ run) (suc c) legal refl) ∙ o in
-      let by = offered run c begun_run o_run in
-      let n : EachStep IsNumbered (Opened by.handle by.mask ∷ (by.first ∷ by.before)) = each_front IsNumbered by.later (Opened by.handle by.mask ∷ (by.first ∷ by.before)) (subst (EachStep IsNumbered) by.is numbered) in
-      let turned = winding.turns_front t by.later (Opened by.handle by.mask ∷ (by.first ∷ by.before)) None (subst (λ (p : List (Entry ServerNote)). TurnsBefore (ServerMay t) says_accepted 1 p None) by.is turned_run) in
-      let b = balanced (ServerMay t) by.first by.before (Some (Opened by.handle by.mask)) n.1 turned.1.2 in
-      let k = accepted_number (by.first ∷ by.before) n.0.0 (settled_number (by.first ∷ by.before) n.1) b (none_counted (by.first ∷ by.before) (winding.any_right is_refusal (by.later ++ Opened by.handle by.mask ∷ []) (by.first ∷ by.before) (sym (ap (list_any is_refusal) (by.is ∙ sym (append_assoc by.later (Opened by.handle by.mask ∷ []) (by.first ∷ by.before)))) ∙ refused_run))) in
-      let here : is_legal most (Opened by.handle by.mask ∷ (by.first ∷ by.before)) ≡ true = is_legal-front most by.later (Opened by.handle by.mask ∷ (by.first ∷ by.before)) (sym (ap (is_legal most) by.is) ∙ legal_run) in
-      let is : by.handle.0 ≡ opened (by.first ∷ by.before) = opened_is most (by.first ∷ by.before) by.handle by.mask here in
-      let talks = turns.connection most steps None all legal begun left closed c o in
-      let origin : origin_of all (suc c) ≡ origin_of run (suc c) = ap (λ (p : List (Entry ServerNote)). origin_of p (suc c)) whole_run ∙ origin_still most (wound ++ Ended ∷ []) run (suc c) (sym (ap (is_legal most) whole_run) ∙ legal) o_run in
-      is_number c k.0 (by.first ∷ by.before) by.origin k.1 (offered_note (by.first ∷ by.before) by.origin by.here)
-      (same_number c k.0 (sym by.mine ∙ is ∙ k.2)) talks.number talks.moment (sym talks.origin ∙ origin ∙ by.of_it)
-    where
-      same_number : (c k : ℕ) → suc c ≡ k + 1 → k ≡ c
-      same_number c k e = omega arith
+  numbers = the_numbers.numbers means t None groups journal r none_refused
 
   -- ---- the acceptor
 
@@ -220,23 +154,6 @@ module _ {H E : Type 0} (means : Handling H E ServerNote) (t : Terms) (groups : 
   accepted_journal : accepted journal ≡ accepted all
   accepted_journal = living.accepted_journal means t None groups journal r
 
-  accepted_run : accepted run ≡ accepted all
-  accepted_run =
-      turns.counts most steps None all legal begun left closed (wound ++ Ended ∷ []) run whole_run
-      ∙ ap (λ (h : List (Item ServerNote)). length (flat_map number_in h)) (sym (had_is 0)) ∙ sym (turns.counts most steps None all legal begun left closed [] all refl)
-
-  opened_run : opened run ≡ accepted run + 1
-  opened_run = by_run run refl
-    where
-      by_run : (past : List (Entry ServerNote)) → run ≡ past → opened run ≡ accepted run + 1
-      by_run [] e = absurd (false≢true (sym (ap follows_ready e) ∙ r.ends.at_over.behind))
-      by_run (d ∷ past) e =
-          let b = balanced (ServerMay t) d past None (subst (EachStep IsNumbered) e numbered) (subst (λ (p : List (Entry ServerNote)). TurnsBefore (ServerMay t) says_accepted 1 p None) e turned_run) in
-          let total : opened run + refusals run + owed run ≡ accepted run + 1 = subst (λ (p : List (Entry ServerNote)). opened p + refusals p + owed p ≡ accepted p + 1) (sym e) b.total in
-          let refused : refusals run ≡ 0 = none_counted run refused_run in
-          let none : owed run ≡ 0 = nothing_owed run r.ends.at_over.behind in
-          omega (arith, total, none, refused)
-
   -- ---- each connection
 
   back_is : (c : ℕ) (past : List (Entry ServerNote)) → back c past ≡ turns.back_lines most steps None all legal begun left closed c past
@@ -251,10 +168,7 @@ module _ {H E : Type 0} (means : Handling H E ServerNote) (t : Terms) (groups : 
   memory_all = sym (ap (list_any entry_lacks) all_is) ∙ winding.any_reverse entry_lacks journal memory
 
   opened_conn : (c : ℕ) → c < accepted journal → was_opened run (suc c) ≡ true
-  opened_conn c l = winding.below_opened most run (suc c) legal_run (above c (accepted journal) (accepted run) (opened run) l (accepted_journal ∙ sym accepted_run) opened_run)
-    where
-      above : (c j a o : ℕ) → c < j → j ≡ a → o ≡ a + 1 → suc c < o
-      above c j a o l e f = omega arith
+  opened_conn c l = let opened_run = the_numbers.opened_run means t None groups journal r none_refused in winding.below_opened most run (suc c) legal_run (omega (arith, l, opened_run))
 
   follows_run : Rattle.script_told.specs.Told.FollowsBefore (groups_told groups) run []
   follows_run = whole.follows_run means t None groups journal r

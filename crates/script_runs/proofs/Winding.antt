@@ -94,14 +94,14 @@ may_mask t Except mask timer h = absurd h
 may_mask t (Timeout timer') mask timer h = absurd h
 may_mask t (Notice kind) mask timer h = absurd h
 
-no_masking : (t : Terms) (u : Upcall) → ServerMay t u Masking → ⊥
+pub no_masking : (t : Terms) (u : Upcall) → ServerMay t u Masking → ⊥
 no_masking t Input h = h
 no_masking t Output h = h
 no_masking t Except h = h
 no_masking t (Timeout timer) h = h
 no_masking t (Notice kind) h = h
 
-no_cancelling : (t : Terms) (u : Upcall) → ServerMay t u Cancelling → ⊥
+pub no_cancelling : (t : Terms) (u : Upcall) → ServerMay t u Cancelling → ⊥
 no_cancelling t Input h = h
 no_cancelling t Output h = h
 no_cancelling t Except h = h

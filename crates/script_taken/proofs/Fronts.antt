@@ -1,25 +1,21 @@
 -- What a connection took of the story that a script has of it: a front of its bytes, and all of them where it came to the end or to a failure.
-use Rattle.std.proofs.Common.{◌≡◌, ◌≢◌, ◌==◌, ◌∙◌, ◌+◌, ◌-◌, ◌≤◌, ◌||◌, inl, ℕ, min, arith, Bool, true, false, cond, List, [], ◌∷◌, ◌++◌, length, take, drop, Option, Some, None, refl, sym, subst, ap, append-nil, append_assoc, length-append, take-append-drop}
-use Rattle.std.specs.List.{list_any}
+use Rattle.std.proofs.Common.{◌≡◌, ◌∙◌, ◌+◌, ◌-◌, ◌≤◌, ℕ, min, arith, Bool, true, false, List, [], ◌∷◌, ◌++◌, length, take, drop, Option, Some, None, refl, sym, subst, ap, append-nil, append_assoc, length-append, take-append-drop}
 use Rattle.std.proofs.Math.Seq.{take-add, take-append_seam}
 use Rattle.std.proofs.lemmas.Bool.{false≢true}
-use Rattle.std.proofs.lemmas.List.Folds.{list_any-append}
 use Rattle.ev_types.specs.declared.upcall.Upcall.{Upcall}
 use Rattle.ev_types.specs.declared.upcall.Upcall.TheVariants.{Input, Output, Except, Timeout, Notice}
 use Rattle.ev_base.specs.Story.{Part, Piece, Pausing, Ending, Failing, Telling, TellsNext, read_answer, read_bytes}
 use Rattle.ev_base.specs.declared.source.Got.{Got}
-use Rattle.cdr_record.specs.Decoding.{Clean, Malformed, decode, left_of}
-use Rattle.cdr_record.specs.Grammar.{first_of}
 use Rattle.reactor_journal.specs.Event.{Item}
 use Rattle.log_handler.specs.declared.note.ServerNote.{ServerNote}
 use Rattle.log_handler.specs.Connection.{Progress, Course, ServesUpcall, ServesRead, AnswersTimeout, at_start, is_idle, piece_room}
-use Rattle.event_script.specs.Script.{ScriptStep, Opens, Brings, Shuts, Fails, ListenerFails, shuts, fails}
-use Rattle.event_script.specs.Stories.{story, parts_of, bytes_of, bytes_brought, was_shut, has_failed}
+use Rattle.event_script.specs.Script.{ScriptStep}
+use Rattle.event_script.specs.Stories.{story, bytes_of}
 use Rattle.script_turns.specs.Laws.{is_orderly, pauses_had, untold}
 use Rattle.script_turns.proofs.Parts.{bytes_in, paired, bytes_in-append}
 use Rattle.script_turns.proofs.Shapes.{Tail, OpenTail, ShutTail, FailTail, tail_parts, shape}
-use Rattle.script_turns.proofs.Reading.{Reads, HasRead, IsSound, StopsAt, front, course_reads}
-use Rattle.script_taken.proofs.Places.{holds_at}
+use Rattle.script_turns.proofs.Reading.{Reads, HasRead, IsSound, StopsAt, front, course_reads, start_sound, begins}
+use Rattle.script_turns.proofs.Stories.{story_bytes}
 
 -- ---- a front of the story's bytes
 
@@ -109,48 +105,7 @@ course_front parts quiet conn idle start p (item ∷ next ∷ had) none r sound 
     subst (HasRead parts (quiet + pauses_had (item ∷ [])) course.0) goes (course_reads parts quiet conn idle start course.0 (item ∷ []) none r sound (course.0, course.1, refl)) in
     course_front parts (quiet + pauses_had (item ∷ [])) conn idle course.0 p (next ∷ had) goes one.0 one.1 course.2
 
-no_front : (left : List Part) → [] ≡ front 0 left
-no_front [] = refl
-no_front (Piece bytes ∷ left) = refl
-no_front (Pausing ∷ left) = refl
-no_front (Ending ∷ left) = refl
-no_front (Failing ∷ left) = refl
-
-start_sound : (at : ℕ) → (decode []).stop ≢ Malformed at
-unfolding left_of first_of
-start_sound at e = absurd (clean e)
-  where
-    clean : Clean ≡ Malformed at → ⊥
-    clean h = cc
-
-begins : (parts : List Part) (moment : ℕ) → Reads parts 0 (at_start moment (Some (untold parts)))
-begins parts moment = record { given = []; at = 0; left = parts; is = refl; whole = refl; taken = no_front parts; plain = refl; quiets = inl refl }
-
 -- ---- the bytes of a script
-
-bytes_one : (c : ℕ) (step : ScriptStep) → bytes_in (parts_of c step) ≡ bytes_brought c step
-bytes_one c (Opens conn) = refl
-bytes_one c (Brings conn bytes) = by (conn == c)
-  where
-    by : (b : Bool) → bytes_in (cond b (Piece bytes ∷ Pausing ∷ []) []) ≡ cond b bytes []
-    by true = append-nil bytes
-    by false = refl
-bytes_one c (Shuts conn) = by (conn == c)
-  where
-    by : (b : Bool) → bytes_in (cond b (Ending ∷ []) []) ≡ []
-    by true = refl
-    by false = refl
-bytes_one c (Fails conn) = by (conn == c)
-  where
-    by : (b : Bool) → bytes_in (cond b (Failing ∷ []) []) ≡ []
-    by true = refl
-    by false = refl
-bytes_one c ListenerFails = refl
-
-story_bytes : (c : ℕ) (steps : List ScriptStep) → bytes_in (story c steps) ≡ bytes_of c steps
-story_bytes c [] = refl
-story_bytes c (step ∷ steps) =
-    bytes_in-append (parts_of c step) (story c steps) ∙ ap (λ (t : List ℕ). t ++ bytes_in (story c steps)) (bytes_one c step) ∙ ap (λ (t : List ℕ). bytes_brought c step ++ t) (story_bytes c steps)
 
 -- it took a front of the bytes that the script brings it
 pub record IsFront (c : ℕ) (steps : List ScriptStep) (bytes : List ℕ) : Type 0 where
@@ -164,10 +119,6 @@ course_takes c idle steps moment had p course =
     let long : length (p.taken ++ r.rest) ≡ length (bytes_of c steps) = ap length whole in
     let parts : length (p.taken ++ r.rest) ≡ length p.taken + length r.rest = length-append p.taken r.rest in
     record { within = omega (arith, long, parts); is = ap (take (length p.taken)) (sym whole) ∙ take-append_seam p.taken r.rest }
-
-pub has_read : (c : ℕ) (idle : Option ℕ) (steps : List ScriptStep) (moment : ℕ) (had : List (Item ServerNote)) (p : Progress) → Course c idle (at_start moment (Some (untold (story c steps)))) had p
-    → HasRead (story c steps) (0 + pauses_had had) p p.kept
-has_read c idle steps moment had p course = course_reads (story c steps) 0 c idle (at_start moment (Some (untold (story c steps)))) p had refl (begins (story c steps) moment) start_sound course
 
 -- ---- where it came to the end, or to a failure
 
@@ -213,65 +164,3 @@ pub took_all : (part : Part) (c : ℕ) (steps : List ScriptStep) (p : Progress) 
 took_all part c steps p orderly s stops =
     let sh = shape c steps orderly in
     stops.taken ∙ bytes_before sh.pieces sh.tail stops.given part stops.rest s (stops.whole ∙ sh.is) ∙ sym sh.brought
-
--- ---- the steps that shut it and fail it
-
-abbrev is_ending : Part → Bool
-is_ending Ending = true
-is_ending _ = false
-
-abbrev is_failing : Part → Bool
-is_failing Failing = true
-is_failing _ = false
-
-shut_one : (c : ℕ) (step : ScriptStep) → list_any is_ending (parts_of c step) ≡ shuts c step
-shut_one c (Opens conn) = refl
-shut_one c (Brings conn bytes) = by (conn == c)
-  where
-    by : (b : Bool) → list_any is_ending (cond b (Piece bytes ∷ Pausing ∷ []) []) ≡ false
-    by true = refl
-    by false = refl
-shut_one c (Shuts conn) = by (conn == c)
-  where
-    by : (b : Bool) → list_any is_ending (cond b (Ending ∷ []) []) ≡ b
-    by true = refl
-    by false = refl
-shut_one c (Fails conn) = by (conn == c)
-  where
-    by : (b : Bool) → list_any is_ending (cond b (Failing ∷ []) []) ≡ false
-    by true = refl
-    by false = refl
-shut_one c ListenerFails = refl
-
-fail_one : (c : ℕ) (step : ScriptStep) → list_any is_failing (parts_of c step) ≡ fails c step
-fail_one c (Opens conn) = refl
-fail_one c (Brings conn bytes) = by (conn == c)
-  where
-    by : (b : Bool) → list_any is_failing (cond b (Piece bytes ∷ Pausing ∷ []) []) ≡ false
-    by true = refl
-    by false = refl
-fail_one c (Shuts conn) = by (conn == c)
-  where
-    by : (b : Bool) → list_any is_failing (cond b (Ending ∷ []) []) ≡ false
-    by true = refl
-    by false = refl
-fail_one c (Fails conn) = by (conn == c)
-  where
-    by : (b : Bool) → list_any is_failing (cond b (Failing ∷ []) []) ≡ b
-    by true = refl
-    by false = refl
-fail_one c ListenerFails = refl
-
-story_any : (p : Part → Bool) (q : ScriptStep → Bool) (c : ℕ) → ((step : ScriptStep) → list_any p (parts_of c step) ≡ q step) → (steps : List ScriptStep) → list_any p (story c steps) ≡ list_any q steps
-story_any p q c one [] = refl
-story_any p q c one (step ∷ steps) =
-    list_any-append p (parts_of c step) (story c steps) ∙ ap (λ (b : Bool). b || list_any p (story c steps)) (one step) ∙ ap (λ (b : Bool). q step || b) (story_any p q c one steps)
-
-stands_in : (p : Part → Bool) (given : List Part) (part : Part) (rest : List Part) → p part ≡ true → list_any p (given ++ part ∷ rest) ≡ true
-stands_in p given part rest h = holds_at p given part rest h
-
-pub shut_there : (c : ℕ) (steps : List ScriptStep) (p : Progress) → StopsAt Ending (story c steps) p → was_shut c steps ≡ true
-shut_there c steps p stops = sym (story_any is_ending (shuts c) c (shut_one c) steps) ∙ ap (list_any is_ending) (sym stops.whole) ∙ stands_in is_ending stops.given Ending stops.rest refl
-
-pub failed_there : (c : ℕ) (steps : List ScriptStep) (p : Progress) → StopsAt Failing (story c steps) p → has_failed c steps ≡ true
-failed_there c steps p stops = sym (story_any is_failing (fails c) c (fail_one c) steps) ∙ ap (list_any is_failing) (sym stops.whole) ∙ stands_in is_failing stops.given Failing stops.rest refl

@@ -39,7 +39,9 @@ use Rattle.script_runs.proofs.Turns as turns
 use Rattle.script_runs.proofs.Winding as winding
 use Rattle.script_taken.specs.Taken.{accepts_connection, is_turn_of, is_closing_of, last_heard, took, noted, taken, records_taken, stop_taken, GoesOn, ReachedEnd, CameToFail, LostItsLast, WasQuiet, IsClosedAs, IsTaken}
 use Rattle.script_taken.proofs.Places.{any_round, found, Cuts, same_cut, first_cut, second_cut, cuts, same_rest, turned_round}
-use Rattle.script_taken.proofs.Fronts.{course_takes, has_read, took_all, shut_there, failed_there}
+use Rattle.script_turns.proofs.Reading.{has_read}
+use Rattle.script_turns.proofs.Stories.{shut_there, failed_there}
+use Rattle.script_taken.proofs.Fronts.{course_takes, took_all}
 use Rattle.script_taken.proofs.Hearing.{heard, course_heard, hears}
 use Rattle.script_taken.proofs.Notes as noting
 use Rattle.script_taken.proofs.Notes.{notes, back, notes_back, took_notes, noted_notes, notes_of, took_items, noted_items, some_notes, LastNote, last_note, had_of, more_had, notes_had}
@@ -194,7 +196,7 @@ module _ {H E : Type 0} (means : Handling H E ServerNote) (t : Terms) (idle : Op
   stop = stop_is journal [] nothing_behind e.now e.course
 
   read : HasRead (story c steps) (0 + pauses_had (had_of e.owner all)) e.now e.now.kept
-  read = has_read c idle steps e.moment (had_of e.owner all) e.now e.course
+  read = has_read (story c steps) c idle e.moment (had_of e.owner all) e.now e.course
 
   ended_so : EndedSo idle (last_turn (had_of e.owner all)) e.now e.now.kept
   ended_so = (accounts c idle e.moment _ (had_of e.owner all) e.now e.course).ended

@@ -42,6 +42,7 @@ use Rattle.script_runs.proofs.Settling.{each_front}
 use Rattle.script_runs.proofs.Turns as turns
 use Rattle.serial_rounds.proofs.Ends as ends
 use Rattle.script_runs.proofs.Winding as winding
+use Rattle.script_runs.proofs.Winding.{no_masking, no_cancelling}
 use Rattle.script_serial.specs.Serial.{IsSettledAtOnce, OnlyClosesUp, InstallsOnly, IsInstalled, IsTimedBy, is_installing, is_foreign, has_room}
 use Rattle.script_serial.proofs.Quiet.{EndsLast, ends_last}
 use Rattle.serial_rounds.proofs.Pushing.{each_place}
@@ -82,20 +83,6 @@ may_install t Output mask timer idle is h = absurd h
 may_install t Except mask timer idle is h = absurd h
 may_install t (Timeout timer') mask timer idle is h = absurd h
 may_install t (Notice kind) mask timer idle is h = absurd h
-
-no_masking : (t : Terms) (u : Upcall) → ServerMay t u Masking → ⊥
-no_masking t Input h = h
-no_masking t Output h = h
-no_masking t Except h = h
-no_masking t (Timeout timer) h = h
-no_masking t (Notice kind) h = h
-
-no_cancelling : (t : Terms) (u : Upcall) → ServerMay t u Cancelling → ⊥
-no_cancelling t Input h = h
-no_cancelling t Output h = h
-no_cancelling t Except h = h
-no_cancelling t (Timeout timer) h = h
-no_cancelling t (Notice kind) h = h
 
 -- ---- timers
 

