@@ -1,15 +1,11 @@
 -- The text of a script, line by line (this project's own). Numbers are decimal digits, bytes are pairs of hexadecimal digits.
 use Rattle.std.specs.Prelude.{◌≡◌, ℕ, ◌+◌, ◌-◌, ◌*◌, ◌==◌, nat_lt, nat_le, Bool, true, false, ◌&&◌, if◌then◌else◌, List, [], ◌∷◌, ◌++◌, length, reverse, Option, Some, None, option_map, option_and_then, codes, Result, Ok, Err}
-use Rattle.std.specs.List.{slice_split}
 use Rattle.std.specs.Str.{bytes_eq}
+use Rattle.text_parts.specs.Parts.{parts}
 use Rattle.hex.specs.Hex.{decode_of}
 use Rattle.event_script.specs.Script.{ScriptStep, Opens, Brings, Shuts, Fails, ListenerFails, ScriptGroup, most_steps, may_follow as step_may_follow}
 
 -- ---- lines and words
-
--- the parts of a list between separators: one more than there are separators
-abbrev pub parts : ℕ → List ℕ → List (List ℕ)
-parts separator bytes = slice_split (λ b. b == separator) bytes
 
 -- the lines of a text, whose last line feed may be missing: an empty part behind the last line feed is no line
 abbrev pub without_last_empty : List (List ℕ) → List (List ℕ)

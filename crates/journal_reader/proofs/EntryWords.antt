@@ -15,7 +15,8 @@ use Rattle.journal_text.specs.Texts.{mask_text, kind_text, answer_text, fault_te
 use Rattle.journal_reader.specs.Limits.{EntryIsWithin}
 use Rattle.text_parts.specs.Parts.{parts}
 use Rattle.journal_reader.specs.Reading.{next, note_of, opened_of, masked_of, scheduled_of, ready_of, posted_of, stale_of, entry_with, numbered_of, plain_of, returned_of, refused_of, closed_of, whole_of, named_of, entry_of, ◌>>=◌}
-use Rattle.journal_reader.proofs.Joins.{Free, Plain, AllPlain, parts_joined, all_free, free_joined, plain_number}
+use Rattle.text_parts.proofs.Cuts.{Free}
+use Rattle.journal_reader.proofs.Joins.{Plain, AllPlain, parts_joined, all_free, free_joined, plain_number}
 use Rattle.journal_reader.proofs.Spelled.{took, went, chosen, value_is, any_word, numbers, masks, kinds, answers, faults}
 use Rattle.journal_reader.proofs.RecordWords.{ended}
 use Rattle.journal_reader.proofs.NoteWords.{note_name, note_fields, note_joined, note_plain, note_all, note_only}

@@ -14,7 +14,8 @@ use Rattle.journal_reader.specs.Journals.{first_line, BeginsWithNoMost, BeginsWi
 use Rattle.std.specs.Str.{bytes_eq}
 use Rattle.text_parts.specs.Parts.{parts}
 use Rattle.journal_reader.specs.Reading.{next, at_end, number_of, limited, most_of, entry_of, ◌>>=◌}
-use Rattle.journal_reader.proofs.Joins.{Free, AllPlain, parts_joined, all_free, free_joined, plain_number}
+use Rattle.text_parts.proofs.Cuts.{Free}
+use Rattle.journal_reader.proofs.Joins.{AllPlain, parts_joined, all_free, free_joined, plain_number}
 use Rattle.journal_reader.proofs.Spelled.{took, chosen, value_is, any_word, numbers}
 use Rattle.journal_reader.proofs.RecordWords.{ended}
 use Rattle.journal_reader.proofs.EntryWords.{entry_all, entry_only, one_line}

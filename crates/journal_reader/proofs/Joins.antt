@@ -1,6 +1,6 @@
 -- Texts that are joined of parts which have no separator in them.
-use Rattle.std.proofs.Common.{◌≡◌, ◌∙◌, ℕ, suc, ◌<◌, ◌≤◌, ◌⊎◌, inl, inr, nat_le, Bool, true, false, not, ◌&&◌, ◌||◌, ◌==◌, List, [], ◌∷◌, ◌++◌, decimal, refl, ap, arith}
-use Rattle.std.specs.List.{list_all, onto_first, join_with_byte, AllByRecursion}
+use Rattle.std.proofs.Common.{◌≡◌, ◌∙◌, ℕ, suc, ◌<◌, ◌≤◌, ◌⊎◌, inl, inr, nat_le, Bool, true, not, ◌&&◌, ◌||◌, ◌==◌, List, [], ◌∷◌, ◌++◌, decimal, refl, ap, arith}
+use Rattle.std.specs.List.{list_all, join_with_byte, AllByRecursion}
 use Rattle.std.specs.Fmt.{signed_decimal}
 use Rattle.std.specs.Int.{w64}
 use Rattle.std.specs.Int.RustNames.{FitsSigned}
@@ -10,41 +10,18 @@ use Rattle.std.proofs.lemmas.Bool.{and_parts}
 use Rattle.std.proofs.lemmas.Bool.Decides.{nat_tests}
 use Rattle.std.proofs.lemmas.Fmt.{decimal_is_IsNumeral}
 use Rattle.std.proofs.lemmas.List.Folds.{list_all-append}
-use Rattle.std.proofs.lemmas.List.Splits.{slice_split-cons_yes, slice_split-cons_no}
 use Rattle.std.proofs.lemmas.Str.Parse.{digit_from_value}
 use Rattle.text_parts.specs.Parts.{parts}
-
--- no byte of a part is the separator
-abbrev pub Free : ℕ → List ℕ → Type 0
-Free c part = list_all (λ b. not (b == c)) part ≡ true
+use Rattle.text_parts.proofs.Cuts.{Free, first_one, last_one}
 
 abbrev pub AllFree : ℕ → List (List ℕ) → Type 0
 AllFree c ps = AllByRecursion (Free c) ps
-
-other : (b : Bool) → not b ≡ true → b ≡ false
-other true is = cc
-other false is = refl
-
-same : (c : ℕ) → (c == c) ≡ true
-same c = grind (arith, nat_tests)
-
-one_more : (c : ℕ) (part rest : List ℕ) → Free c part → parts c (part ++ c ∷ rest) ≡ part ∷ parts c rest
-one_more c [] rest free = slice_split-cons_yes (λ b. b == c) c rest (same c)
-one_more c (b ∷ part) rest free =
-    let both = and_parts (not (b == c)) (list_all (λ b. not (b == c)) part) free in
-    slice_split-cons_no (λ b. b == c) b (part ++ c ∷ rest) (other (b == c) both.0) ∙ ap (onto_first b) (one_more c part rest both.1)
-
-pub last_one : (c : ℕ) (part : List ℕ) → Free c part → parts c part ≡ part ∷ []
-last_one c [] free = refl
-last_one c (b ∷ part) free =
-    let both = and_parts (not (b == c)) (list_all (λ b. not (b == c)) part) free in
-    slice_split-cons_no (λ b. b == c) b part (other (b == c) both.0) ∙ ap (onto_first b) (last_one c part both.1)
 
 -- what is joined is cut into its parts again
 pub parts_joined : (c : ℕ) (part : List ℕ) (more : List (List ℕ)) → AllFree c (part ∷ more) → parts c (join_with_byte c (part ∷ more)) ≡ part ∷ more
 parts_joined c part [] free = last_one c part free.0
 parts_joined c part (next ∷ more) free =
-    one_more c part (join_with_byte c (next ∷ more)) free.0 ∙ ap (λ (ps : List (List ℕ)). part ∷ ps) (parts_joined c next more free.1)
+    first_one c part (join_with_byte c (next ∷ more)) free.0 ∙ ap (λ (ps : List (List ℕ)). part ∷ ps) (parts_joined c next more free.1)
 
 -- ---- parts without a separator
 

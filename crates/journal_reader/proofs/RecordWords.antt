@@ -14,7 +14,8 @@ use Rattle.journal_text.specs.Texts.{end_text, record_word, record_words}
 use Rattle.journal_reader.specs.Limits.{RecordIsWithin, EndIsWithin}
 use Rattle.text_parts.specs.Parts.{parts}
 use Rattle.journal_reader.specs.Reading.{at_end, message_of, Numbers, numbers_of, with_message, record_of, records_of, end_with, counted_end_of, end_of, next, ◌>>=◌}
-use Rattle.journal_reader.proofs.Joins.{AllFree, IsNoDigit, Plain, AllPlain, parts_joined, last_one, free_number, free_signed, plain_both, plain_number, plain_signed}
+use Rattle.text_parts.proofs.Cuts.{last_one}
+use Rattle.journal_reader.proofs.Joins.{AllFree, IsNoDigit, Plain, AllPlain, parts_joined, free_number, free_signed, plain_both, plain_number, plain_signed}
 use Rattle.journal_reader.proofs.Spelled.{Spelled, took, went, chosen, value_is, any_word, numbers, signed_numbers, narrow_numbers, widened}
 use Rattle.journal_reader.proofs.Messages.{messages, free_message, plain_message}
 

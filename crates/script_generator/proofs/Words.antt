@@ -1,13 +1,15 @@
 -- The words of lines: which bytes they have, and how they are cut and read.
-use Rattle.std.proofs.Common.{◌≡◌, ◌∙◌, ℕ, zero, suc, ◌+◌, ◌-◌, ◌*◌, ◌/◌, ◌%◌, ◌^◌, ◌<◌, ◌≤◌, ◌==◌, nat_le, Bool, true, false, cond, List, [], ◌∷◌, ◌++◌, length, get_or, decimal, Option, Some, None, refl, sym, ap, arith}
+use Rattle.std.proofs.Common.{◌≡◌, ◌∙◌, ℕ, zero, suc, ◌+◌, ◌-◌, ◌*◌, ◌/◌, ◌%◌, ◌^◌, ◌<◌, ◌≤◌, ◌==◌, nat_le, true, false, List, [], ◌∷◌, ◌++◌, length, get_or, decimal, Option, Some, None, refl, ap, arith}
 use Rattle.std.specs.Prelude.{option_and_then}
-use Rattle.std.specs.List.{AllByRecursion, onto_first}
+use Rattle.std.specs.List.{AllByRecursion}
 use Rattle.std.proofs.lemmas.Bool.Decides.{nat_tests}
 use Rattle.std.proofs.lemmas.Fmt.{decimal_by_steps, decimal_digit, decimal_nonempty, first_decimal}
 use Rattle.hex.specs.Hex.{IsBytes, encode_lower, encode_with, lower_digits, hex_digit_value}
 use Rattle.hex.proofs.HexLemmas.{IsDigits-lower_digits, decode_of-encode_lower}
 use Rattle.std.specs.Prelude.{slice_index}
-use Rattle.event_script.specs.Grammar.{parts, digit, digits_from, number, hex_bytes, value_of, raw_lines, without_last_empty}
+use Rattle.text_parts.proofs.Cuts.{Free, first_one}
+use Rattle.event_script.specs.Grammar.{digit, digits_from, number, hex_bytes, value_of, raw_lines, without_last_empty}
+use Rattle.event_script.proofs.Lines.{more_lines}
 
 -- ---- bytes
 
@@ -37,19 +39,12 @@ is_bytes (x ∷ xs) a (suc i) = is_bytes xs a.1 i
 
 -- ---- parts
 
-pub parts_alone : (k sep : ℕ) (xs : List ℕ) → sep ≤ k → Above k xs → parts sep xs ≡ xs ∷ []
-parts_alone k sep [] le a = refl
-parts_alone k sep (x ∷ xs) le a =
+pub free_above : (k sep : ℕ) (xs : List ℕ) → sep ≤ k → Above k xs → Free sep xs
+free_above k sep [] le a = refl
+free_above k sep (x ∷ xs) le a =
     let above : k < x = a.0 in
     let other : (x == sep) ≡ false = grind (arith, nat_tests) in
-    rw other (ap (onto_first x) (parts_alone k sep xs le a.1))
-
-pub parts_first : (k sep : ℕ) (xs rest : List ℕ) → sep ≤ k → Above k xs → parts sep (xs ++ sep ∷ rest) ≡ xs ∷ parts sep rest
-parts_first k sep [] rest le a = let same : (sep == sep) ≡ true = grind (arith, nat_tests) in rw same refl
-parts_first k sep (x ∷ xs) rest le a =
-    let above : k < x = a.0 in
-    let other : (x == sep) ≡ false = grind (arith, nat_tests) in
-    rw other (ap (onto_first x) (parts_first k sep xs rest le a.1))
+    rw other (free_above k sep xs le a.1)
 
 -- ---- numbers
 
@@ -117,26 +112,6 @@ hex_of_bytes bytes a = ap value_of (decode_of-encode_lower bytes (is_bytes bytes
 
 -- ---- lines of a text
 
--- there is always a part
-joined : (x : ℕ) (ps : List (List ℕ)) → (first : List ℕ) × (more : List (List ℕ)) × (onto_first x ps ≡ first ∷ more)
-joined x [] = (x ∷ [], [], refl)
-joined x (p ∷ ps) = (x ∷ p, ps, refl)
-
-one_step : (b : Bool) (c x : ℕ) (xs : List ℕ) → (first : List ℕ) × (more : List (List ℕ)) × (cond b ([] ∷ parts c xs) (onto_first x (parts c xs)) ≡ first ∷ more)
-one_step true c x xs = ([], parts c xs, refl)
-one_step false c x xs = joined x (parts c xs)
-
-one_part : (c : ℕ) (xs : List ℕ) → (first : List ℕ) × (more : List (List ℕ)) × (parts c xs ≡ first ∷ more)
-one_part c [] = ([], [], refl)
-one_part c (x ∷ xs) = one_step (x == c) c x xs
-
-not_last : (line first : List ℕ) (more : List (List ℕ)) → without_last_empty (line ∷ first ∷ more) ≡ line ∷ without_last_empty (first ∷ more)
-not_last [] first more = refl
-not_last (x ∷ line) first more = refl
-
 -- a line with its line feed before a text
 pub line_before : (line rest : List ℕ) → Above 10 line → raw_lines (line ++ 10 ∷ rest) ≡ line ∷ raw_lines rest
-line_before line rest above =
-    let p = one_part 10 rest in
-    ap without_last_empty (parts_first 10 10 line rest (omega arith) above)
-    ∙ ap (λ (ps : List (List ℕ)). without_last_empty (line ∷ ps)) p.2 ∙ not_last line p.0 p.1 ∙ ap (λ (ps : List (List ℕ)). line ∷ without_last_empty ps) (sym p.2)
+line_before line rest above = ap without_last_empty (first_one 10 line rest (free_above 10 10 line (omega arith) above)) ∙ more_lines line rest

@@ -4,9 +4,11 @@ use Rattle.std.specs.Prelude.{option_and_then, option_map, map}
 use Rattle.std.specs.List.{AllByRecursion, onto_first}
 use Rattle.hex.specs.Hex.{encode_lower}
 use Rattle.event_script.specs.Script.{Opens, Brings, Shuts}
-use Rattle.event_script.specs.Grammar.{Line, At, Stepping, parts, line_of, line_of_words, hex_bytes, raw_lines}
+use Rattle.text_parts.specs.Parts.{parts}
+use Rattle.text_parts.proofs.Cuts.{first_one, last_one}
+use Rattle.event_script.specs.Grammar.{Line, At, Stepping, line_of, line_of_words, hex_bytes, raw_lines}
 use Rattle.script_generator.specs.Texts.{line_words, text_of}
-use Rattle.script_generator.proofs.Words.{Above, AreBytes, above_lower, above_append, parts_alone, parts_first, number_of_decimal, decimal_above, hex_above, hex_of_bytes, line_before}
+use Rattle.script_generator.proofs.Words.{Above, AreBytes, above_lower, above_append, free_above, number_of_decimal, decimal_above, hex_above, hex_of_bytes, line_before}
 
 -- a line is read back, and has no line feed in it
 pub record IsWritten (line : Line) : Type 0 where
@@ -14,7 +16,7 @@ pub record IsWritten (line : Line) : Type 0 where
   pub above : Above 10 (line_words line)
 
 number_alone : (n : ℕ) → n < 2 ^ 64 → parts 32 (decimal n) ≡ decimal n ∷ []
-number_alone n small = parts_alone 32 32 (decimal n) (omega arith) (decimal_above n small)
+number_alone n small = last_one 32 (decimal n) (free_above 32 32 (decimal n) (omega arith) (decimal_above n small))
 
 number_above : (n : ℕ) → n < 2 ^ 64 → Above 10 (decimal n)
 number_above n small = above_lower 10 32 (decimal n) (omega arith) (decimal_above n small)
@@ -44,8 +46,8 @@ data_written conn bytes small are =
     let digits = encode_lower bytes in
     let grouped : decimal conn ++ 32 ∷ [] ++ digits ≡ decimal conn ++ 32 ∷ digits = append_assoc (decimal conn) (32 ∷ []) digits in
     let cut : parts 32 (decimal conn ++ 32 ∷ [] ++ digits) ≡ decimal conn ∷ digits ∷ [] =
-    ap (parts 32) grouped ∙ parts_first 32 32 (decimal conn) digits (omega arith) (decimal_above conn small)
-    ∙ ap (λ (ps : List (List ℕ)). decimal conn ∷ ps) (parts_alone 32 32 digits (omega arith) (hex_above bytes are)) in
+    ap (parts 32) grouped ∙ first_one 32 (decimal conn) digits (free_above 32 32 (decimal conn) (omega arith) (decimal_above conn small))
+    ∙ ap (λ (ps : List (List ℕ)). decimal conn ∷ ps) (last_one 32 digits (free_above 32 32 digits (omega arith) (hex_above bytes are))) in
     record {
       reads = ap (λ (ps : List (List ℕ)). line_of_words (onto_first 100 (onto_first 97 (onto_first 116 (onto_first 97 ([] ∷ ps)))))) cut
           ∙ ap (option_and_then (λ c. option_map (λ bs. Stepping (Brings c bs)) (hex_bytes digits))) (number_of_decimal conn small)

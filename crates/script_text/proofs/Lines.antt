@@ -4,7 +4,7 @@ use Rattle.std.specs.List.{join_with_byte}
 use Rattle.std.proofs.lemmas.List.Splits.{join_with_byte-slice_split}
 use Rattle.std.specs.Prelude.{is_some}
 use Rattle.std.specs.Borrow.{Bor}
-use Rattle.event_script.specs.Grammar.{line_of_words, raw_lines, without_last_empty}
+use Rattle.event_script.specs.Grammar.{line_of_words, without_last_empty}
 use Rattle.text_parts.specs.Parts.{parts, parts_behind}
 use Rattle.text_parts.proofs.Cuts.{one_part}
 
@@ -17,13 +17,3 @@ no_line a b d (Some r) is = let p = one_part 32 r.now in ap (λ (ws : List (List
 pub one_line : (text line : List ℕ) → parts 10 text ≡ line ∷ [] → 0 < length text → without_last_empty (line ∷ []) ≡ line ∷ []
 one_line text [] are some = absurd (omega (arith, ap length (sym (join_with_byte-slice_split 10 text) ∙ ap (join_with_byte 10) are)))
 one_line text (x ∷ line) are some = refl
-
-not_last : (line first : List ℕ) (more : List (List ℕ)) → without_last_empty (line ∷ first ∷ more) ≡ line ∷ without_last_empty (first ∷ more)
-not_last [] first more = refl
-not_last (x ∷ line) first more = refl
-
--- behind a line feed the rest of the text has its lines
-pub more_lines : (line rest : List ℕ) → without_last_empty (line ∷ parts 10 rest) ≡ line ∷ raw_lines rest
-more_lines line rest =
-    let p = one_part 10 rest in
-    ap (λ (ps : List (List ℕ)). without_last_empty (line ∷ ps)) p.2 ∙ not_last line p.0 p.1 ∙ ap (λ (ps : List (List ℕ)). line ∷ without_last_empty ps) (sym p.2)

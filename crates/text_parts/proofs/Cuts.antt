@@ -1,8 +1,9 @@
 -- The parts of a text at its first separator.
-use Rattle.std.proofs.Common.{◌≡◌, ℕ, suc, ◌+◌, ◌<◌, ◌≤◌, Bool, true, false, not, cond, ltb, ◌==◌, List, [], ◌∷◌, length, take, drop, Option, Some, None, refl, ap, arith}
-use Rattle.std.specs.List.{position_or_len, onto_first}
+use Rattle.std.proofs.Common.{◌≡◌, ℕ, suc, ◌+◌, ◌<◌, ◌≤◌, Bool, true, false, not, cond, ltb, ◌==◌, List, [], ◌∷◌, length, take, drop, Option, Some, None, refl, ◌∙◌, ◌++◌, ap, arith}
+use Rattle.std.specs.List.{position_or_len, onto_first, list_all}
+use Rattle.std.proofs.lemmas.Bool.{and_parts}
 use Rattle.std.proofs.lemmas.Bool.Decides.{nat_tests}
-use Rattle.std.proofs.lemmas.List.Splits.{slice_split_first}
+use Rattle.std.proofs.lemmas.List.Splits.{slice_split_first, slice_split-cons_yes, slice_split-cons_no}
 use Rattle.text_parts.specs.Parts.{parts}
 
 none_step : (b : Bool) (c x : ℕ) (xs : List ℕ) → (length xs ≤ position_or_len (λ b. b == c) xs → parts c xs ≡ xs ∷ []) → suc (length xs) ≤ cond (not b) (1 + position_or_len (λ b. b == c) xs) 0
@@ -38,3 +39,28 @@ one_step false c x xs = joined x (parts c xs)
 pub one_part : (c : ℕ) (xs : List ℕ) → (first : List ℕ) × (more : List (List ℕ)) × (parts c xs ≡ first ∷ more)
 one_part c [] = ([], [], refl)
 one_part c (x ∷ xs) = one_step (x == c) c x xs
+
+-- ---- a part without a separator
+
+-- no byte of a part is the separator
+abbrev pub Free : ℕ → List ℕ → Type 0
+Free c part = list_all (λ b. not (b == c)) part ≡ true
+
+other : (b : Bool) → not b ≡ true → b ≡ false
+other true is = cc
+other false is = refl
+
+same : (c : ℕ) → (c == c) ≡ true
+same c = grind (arith, nat_tests)
+
+pub first_one : (c : ℕ) (part rest : List ℕ) → Free c part → parts c (part ++ c ∷ rest) ≡ part ∷ parts c rest
+first_one c [] rest free = slice_split-cons_yes (λ b. b == c) c rest (same c)
+first_one c (b ∷ part) rest free =
+    let both = and_parts (not (b == c)) (list_all (λ b. not (b == c)) part) free in
+    slice_split-cons_no (λ b. b == c) b (part ++ c ∷ rest) (other (b == c) both.0) ∙ ap (onto_first b) (first_one c part rest both.1)
+
+pub last_one : (c : ℕ) (part : List ℕ) → Free c part → parts c part ≡ part ∷ []
+last_one c [] free = refl
+last_one c (b ∷ part) free =
+    let both = and_parts (not (b == c)) (list_all (λ b. not (b == c)) part) free in
+    slice_split-cons_no (λ b. b == c) b part (other (b == c) both.0) ∙ ap (onto_first b) (last_one c part both.1)

@@ -2,7 +2,8 @@ use Rattle.std.proofs.Common.{◌≡◌, ◌∙◌, ◌∷◌, [], ◌-◌, ℕ,
 use Rattle.std.proofs.lemmas.List.{take_rest, drop_all}
 use Rattle.event_script.specs.Grammar.{without_last_empty, raw_lines}
 use Rattle.text_parts.specs.Parts.{parts_behind}
-use Rattle.script_text.proofs.Lines.{one_line, more_lines}
+use Rattle.event_script.proofs.Lines.{more_lines}
+use Rattle.script_text.proofs.Lines.{one_line}
 use Rattle.script_text.proofs.words.next_line.Goals as goal
 
 pub returns-in-Some-clause-are : goal.returns-in-Some-clause-are
