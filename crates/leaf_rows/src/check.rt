@@ -1,331 +1,350 @@
+//! Journals that are checked, each with its first entry that is illegal.
 use ev_types::{Answer, Handle, Kind, Mask};
 use journal_check::*;
 use reactor_journal::Entry;
+use std::alloc::Global;
 use std::test::Fail;
 
-type Step = Entry<u64>;
+/// An entry of these rows. All that is opened wants to read, all that is ready can be read, and all that is posted comes of one poster.
+#[derive(Clone, Copy)]
+enum Step {
+    Opened(u64),
+    /// A timer with its handle, its first deadline and its period.
+    Scheduled(u64, u64, u64, u64),
+    Cancelled(u64),
+    Polled(u64),
+    Due(u64),
+    Ready(u64),
+    Posted(u64),
+    Started(u64),
+    Returned(u64, Answer),
+    Refused(u64),
+    Removed(u64),
+    Closed(u64),
+    Ended,
+}
 
-const READS: Mask = Mask {
-    read: true,
-    write: false,
-    except: false,
-};
+use self::Step::*;
 
-fn opened(handle: u64) -> Step {
-    Entry::Opened {
-        handle: Handle(handle),
-        mask: READS,
+impl Step {
+    fn entry(self) -> Entry<u64> {
+        match self {
+            Opened(handle) => {
+                let mask = Mask {
+                    read: true,
+                    write: false,
+                    except: false,
+                };
+                Entry::Opened {
+                    handle: Handle(handle),
+                    mask,
+                }
+            }
+            Scheduled(timer, handle, first, every) => Entry::Scheduled {
+                timer,
+                handle: Handle(handle),
+                first,
+                every,
+            },
+            Cancelled(timer) => Entry::Cancelled { timer },
+            Polled(now) => Entry::Polled { now },
+            Due(timer) => Entry::Due { timer },
+            Ready(handle) => Entry::Ready {
+                handle: Handle(handle),
+                kind: Kind::Read,
+            },
+            Posted(handle) => Entry::Posted {
+                handle: Handle(handle),
+                kind: Kind::Except,
+                from: 0,
+                seq: 0,
+            },
+            Started(event) => Entry::Started { event },
+            Returned(event, answer) => Entry::Returned {
+                event,
+                answer,
+                note: event,
+            },
+            Refused(live) => Entry::Refused {
+                live,
+                fault: false,
+                note: 0,
+            },
+            Removed(handle) => Entry::Removed {
+                handle: Handle(handle),
+            },
+            Closed(handle) => Entry::Closed {
+                handle: Handle(handle),
+                note: handle,
+            },
+            Ended => Entry::Ended,
+        }
     }
 }
 
-fn scheduled(timer: u64, handle: u64, first: u64, every: u64) -> Step {
-    Entry::Scheduled {
-        timer,
-        handle: Handle(handle),
-        first,
-        every,
+/// One connection that sends one record and ends.
+const ONE_CONNECTION: &[Step] = &[
+    Opened(0),
+    Polled(0),
+    Ready(0),
+    Started(2),
+    Returned(2, Answer::Again),
+    Started(4),
+    Returned(4, Answer::Close),
+    Closed(0),
+    Polled(0),
+    Ended,
+];
+
+/// A listener, and a connection that it accepts.
+const ONE_ACCEPTED: &[Step] = &[
+    Opened(0),
+    Polled(0),
+    Ready(0),
+    Started(2),
+    Returned(2, Answer::Again),
+    Opened(1),
+    Started(4),
+    Returned(4, Answer::Keep),
+    Polled(0),
+    Ready(1),
+    Ready(1),
+    Started(9),
+    Returned(9, Answer::Again),
+    Started(10),
+    Returned(10, Answer::Keep),
+    Started(12),
+    Returned(12, Answer::Close),
+    Closed(1),
+    Polled(0),
+    Ended,
+    Removed(0),
+    Closed(0),
+];
+
+/// A connection that is refused, since two handles are live.
+const ONE_REFUSED: &[Step] = &[
+    Opened(0),
+    Polled(0),
+    Ready(0),
+    Ready(0),
+    Started(2),
+    Returned(2, Answer::Again),
+    Opened(1),
+    Started(3),
+    Returned(3, Answer::Keep),
+    Started(5),
+    Returned(5, Answer::Again),
+    Refused(2),
+    Started(10),
+    Returned(10, Answer::Keep),
+    Polled(0),
+    Ready(1),
+    Started(15),
+    Returned(15, Answer::Close),
+    Closed(1),
+    Polled(0),
+    Ended,
+    Removed(0),
+    Closed(0),
+];
+
+/// A run that a notification ends.
+const ONE_NOTIFIED: &[Step] = &[
+    Opened(0),
+    Polled(0),
+    Ready(0),
+    Started(2),
+    Returned(2, Answer::Again),
+    Opened(1),
+    Started(4),
+    Returned(4, Answer::Keep),
+    Polled(0),
+    Ready(1),
+    Started(9),
+    Returned(9, Answer::Close),
+    Closed(1),
+    Posted(0),
+    Started(13),
+    Returned(13, Answer::Keep),
+    Ended,
+    Removed(0),
+    Closed(0),
+];
+
+/// A connection that is closed when it was idle too long.
+const ONE_IDLE: &[Step] = &[
+    Opened(0),
+    Polled(0),
+    Ready(0),
+    Started(2),
+    Returned(2, Answer::Again),
+    Opened(1),
+    Scheduled(0, 1, 100, 100),
+    Started(4),
+    Returned(4, Answer::Keep),
+    Polled(100),
+    Due(0),
+    Ready(1),
+    Started(10),
+    Returned(10, Answer::Close),
+    Closed(1),
+    Polled(100),
+    Ended,
+    Removed(0),
+    Closed(0),
+];
+
+/// An upcall is started twice.
+const STARTED_TWICE: &[Step] = &[
+    Opened(0),
+    Polled(0),
+    Ready(0),
+    Started(2),
+    Returned(2, Answer::Again),
+    Opened(1),
+    Started(4),
+    Returned(4, Answer::Keep),
+    Polled(0),
+    Ready(1),
+    Ready(1),
+    Started(9),
+    Started(9),
+    Returned(9, Answer::Again),
+];
+
+/// Two handlers are called at once.
+const AT_ONCE: &[Step] = &[
+    Opened(0),
+    Opened(1),
+    Polled(0),
+    Ready(0),
+    Ready(1),
+    Started(3),
+    Started(4),
+    Returned(4, Answer::Keep),
+    Returned(3, Answer::Keep),
+];
+
+/// A deadline beyond 64 bits stays armed and never comes due.
+const LATE: &[Step] = &[
+    Opened(0),
+    Scheduled(0, 0, u64::MAX, u64::MAX),
+    Polled(u64::MAX),
+    Due(0),
+    Started(3),
+    Returned(3, Answer::Keep),
+    Polled(u64::MAX),
+    Cancelled(0),
+    Cancelled(0),
+];
+
+/// A timer is armed again at the least deadline above now.
+const CATCHES_UP: &[Step] = &[
+    Opened(0),
+    Scheduled(0, 0, 10, 10),
+    Polled(35),
+    Due(0),
+    Started(3),
+    Returned(3, Answer::Keep),
+    Polled(39),
+    Polled(40),
+    Due(0),
+];
+
+/// Journals with at most so many handles, and the place of the first entry that is illegal, if one is.
+const JOURNALS: &[(&[Step], u64, Option<u64>)] = &[
+    (ONE_CONNECTION, 1, None),
+    (ONE_ACCEPTED, 1001, None),
+    (ONE_REFUSED, 2, None),
+    (ONE_NOTIFIED, 1001, None),
+    (ONE_IDLE, 1001, None),
+    (&[], 1, None),
+    (ONE_ACCEPTED, 1, Some(5)),
+    (STARTED_TWICE, 1001, Some(12)),
+    (AT_ONCE, 2, None),
+    (LATE, 1, Some(8)),
+    (CATCHES_UP, 1, None),
+];
+
+/// Journals of which the entry at a place is changed, and the place of the first entry that is illegal then.
+const CHANGED: &[(&[Step], u64, usize, Step, u64)] = &[
+    (ONE_CONNECTION, 1, 0, Opened(1), 0),
+    (ONE_CONNECTION, 1, 2, Ready(1), 2),
+    (ONE_CONNECTION, 1, 3, Started(1), 3),
+    (ONE_CONNECTION, 1, 4, Returned(3, Answer::Again), 4),
+    (ONE_CONNECTION, 1, 4, Returned(2, Answer::Keep), 5),
+    (ONE_CONNECTION, 1, 4, Returned(2, Answer::Close), 5),
+    (ONE_CONNECTION, 1, 5, Posted(1), 5),
+    (ONE_CONNECTION, 1, 6, Returned(4, Answer::Keep), 7),
+    (ONE_CONNECTION, 1, 7, Closed(1), 7),
+    (ONE_CONNECTION, 1, 7, Polled(0), 7),
+    (ONE_CONNECTION, 1, 8, Posted(0), 8),
+    (ONE_CONNECTION, 1, 8, Closed(0), 8),
+    // behind the end
+    (ONE_ACCEPTED, 1001, 20, Polled(0), 20),
+    // before the timer's deadline
+    (ONE_IDLE, 1001, 9, Polled(99), 10),
+    // before what the timer is due
+    (ONE_IDLE, 1001, 10, Ready(1), 10),
+    // input before the timeout
+    (ONE_IDLE, 1001, 12, Started(11), 12),
+];
+
+/// The entries of a journal.
+fn entries(alloc: Global, journal: &[Step]) -> Result<Vec<Entry<u64>>, Fail> {
+    let mut entries = Vec::with_capacity(alloc, journal.len())?;
+    for step in journal {
+        entries.push(step.entry())?;
+    }
+    Ok(entries)
+}
+
+/// The place of the first entry that is illegal, if one is.
+fn illegal_at(alloc: Global, journal: &[Entry<u64>], most: u64) -> Result<Option<u64>, Fail> {
+    match check(alloc, journal, most) {
+        Ok(()) => Ok(None),
+        Err(CheckRefused::Illegal { at }) => Ok(Some(at)),
+        Err(CheckRefused::NoMemory) => Err(Fail::from("memory")),
     }
 }
 
-fn polled(now: u64) -> Step {
-    Entry::Polled { now }
-}
-
-fn ready(handle: u64) -> Step {
-    Entry::Ready {
-        handle: Handle(handle),
-        kind: Kind::Read,
+/// That place, where the entry at a place is changed.
+fn place(
+    alloc: Global,
+    journal: &[Step],
+    most: u64,
+    change: Option<(usize, Step)>,
+) -> Result<Option<u64>, Fail> {
+    let mut entries = entries(alloc, journal)?;
+    if let Some((at, step)) = change {
+        if at < entries.len() {
+            entries[at] = step.entry();
+        }
     }
-}
-
-fn posted(handle: u64) -> Step {
-    Entry::Posted {
-        handle: Handle(handle),
-        kind: Kind::Except,
-        from: 0,
-        seq: 0,
-    }
-}
-
-fn started(event: u64) -> Step {
-    Entry::Started { event }
-}
-
-fn returned(event: u64, answer: Answer) -> Step {
-    Entry::Returned {
-        event,
-        answer,
-        note: event,
-    }
-}
-
-fn removed(handle: u64) -> Step {
-    Entry::Removed {
-        handle: Handle(handle),
-    }
-}
-
-fn closed(handle: u64) -> Step {
-    Entry::Closed {
-        handle: Handle(handle),
-        note: handle,
-    }
-}
-
-fn refused(live: u64) -> Step {
-    Entry::Refused {
-        live,
-        fault: false,
-        note: 0,
-    }
-}
-
-// one connection that sends one record and ends
-fn one_connection() -> [Step; 10] {
-    [
-        opened(0),
-        polled(0),
-        ready(0),
-        started(2),
-        returned(2, Answer::Again),
-        started(4),
-        returned(4, Answer::Close),
-        closed(0),
-        polled(0),
-        Entry::Ended,
-    ]
-}
-
-// a listener, and a connection that it accepts
-fn one_accepted() -> [Step; 22] {
-    [
-        opened(0),
-        polled(0),
-        ready(0),
-        started(2),
-        returned(2, Answer::Again),
-        opened(1),
-        started(4),
-        returned(4, Answer::Keep),
-        polled(0),
-        ready(1),
-        ready(1),
-        started(9),
-        returned(9, Answer::Again),
-        started(10),
-        returned(10, Answer::Keep),
-        started(12),
-        returned(12, Answer::Close),
-        closed(1),
-        polled(0),
-        Entry::Ended,
-        removed(0),
-        closed(0),
-    ]
-}
-
-// a connection that is refused, since two handles are live
-fn one_refused() -> [Step; 23] {
-    [
-        opened(0),
-        polled(0),
-        ready(0),
-        ready(0),
-        started(2),
-        returned(2, Answer::Again),
-        opened(1),
-        started(3),
-        returned(3, Answer::Keep),
-        started(5),
-        returned(5, Answer::Again),
-        refused(2),
-        started(10),
-        returned(10, Answer::Keep),
-        polled(0),
-        ready(1),
-        started(15),
-        returned(15, Answer::Close),
-        closed(1),
-        polled(0),
-        Entry::Ended,
-        removed(0),
-        closed(0),
-    ]
-}
-
-// a run that a notification ends
-fn one_notified() -> [Step; 19] {
-    [
-        opened(0),
-        polled(0),
-        ready(0),
-        started(2),
-        returned(2, Answer::Again),
-        opened(1),
-        started(4),
-        returned(4, Answer::Keep),
-        polled(0),
-        ready(1),
-        started(9),
-        returned(9, Answer::Close),
-        closed(1),
-        posted(0),
-        started(13),
-        returned(13, Answer::Keep),
-        Entry::Ended,
-        removed(0),
-        closed(0),
-    ]
-}
-
-// a connection that is closed when it was idle too long
-fn one_idle() -> [Step; 19] {
-    [
-        opened(0),
-        polled(0),
-        ready(0),
-        started(2),
-        returned(2, Answer::Again),
-        opened(1),
-        scheduled(0, 1, 100, 100),
-        started(4),
-        returned(4, Answer::Keep),
-        polled(100),
-        Entry::Due { timer: 0 },
-        ready(1),
-        started(10),
-        returned(10, Answer::Close),
-        closed(1),
-        polled(100),
-        Entry::Ended,
-        removed(0),
-        closed(0),
-    ]
-}
-
-fn illegal(at: u64) -> Result<(), CheckRefused> {
-    Err(CheckRefused::Illegal { at })
+    illegal_at(alloc, &entries, most)
 }
 
 #[test]
-fn worked_journals_are_legal(rt: HostRuntime) -> Result<(), Fail> {
-    let alloc = rt.alloc();
-    assert_eq!(rt; check(alloc, &one_connection(), 1), Ok(()));
-    assert_eq!(rt; check(alloc, &one_accepted(), 1001), Ok(()));
-    assert_eq!(rt; check(alloc, &one_refused(), 2), Ok(()));
-    assert_eq!(rt; check(alloc, &one_notified(), 1001), Ok(()));
-    assert_eq!(rt; check(alloc, &one_idle(), 1001), Ok(()));
-    let none: [Step; 0] = [];
-    assert_eq!(rt; check(alloc, &none, 1), Ok(()));
+fn journals_are_legal_up_to_a_place(rt: HostRuntime) -> Result<(), Fail> {
+    for (row, (journal, most, at)) in JOURNALS.iter().enumerate() {
+        assert!(rt;
+            place(rt.alloc(), journal, *most, None)? == *at,
+            "row {row}"
+        );
+    }
     laws::refused_at_the_least::<u64>();
     Ok(())
 }
 
 #[test]
 fn one_changed_entry_is_found(rt: HostRuntime) -> Result<(), Fail> {
-    let changes = [
-        (0, opened(1), 0),
-        (2, ready(1), 2),
-        (3, started(1), 3),
-        (4, returned(3, Answer::Again), 4),
-        (4, returned(2, Answer::Keep), 5),
-        (4, returned(2, Answer::Close), 5),
-        (5, posted(1), 5),
-        (6, returned(4, Answer::Keep), 7),
-        (7, closed(1), 7),
-        (7, polled(0), 7),
-        (8, posted(0), 8),
-        (8, closed(0), 8),
-    ];
-    for (place, entry, at) in changes {
-        let mut journal = one_connection();
-        if place < journal.len() {
-            journal[place] = entry;
-        }
-        assert_eq!(rt; check(rt.alloc(), &journal, 1), illegal(at));
+    for (row, (journal, most, changed, step, at)) in CHANGED.iter().enumerate() {
+        let change = Some((*changed, *step));
+        assert!(rt;
+            place(rt.alloc(), journal, *most, change)? == Some(*at),
+            "row {row}"
+        );
     }
-    let mut behind_the_end = one_accepted();
-    behind_the_end[20] = polled(0);
-    assert_eq!(rt; check(rt.alloc(), &behind_the_end, 1001), illegal(20));
-    let mut too_early = one_idle();
-    too_early[9] = polled(99);
-    assert_eq!(rt; check(rt.alloc(), &too_early, 1001), illegal(10));
-    let mut before_the_timer = one_idle();
-    before_the_timer[10] = ready(1);
-    assert_eq!(rt; check(rt.alloc(), &before_the_timer, 1001), illegal(10));
-    let mut input_first = one_idle();
-    input_first[12] = started(11);
-    assert_eq!(rt; check(rt.alloc(), &input_first, 1001), illegal(12));
-    Ok(())
-}
-
-#[test]
-fn too_many_handles_and_a_second_start(rt: HostRuntime) -> Result<(), Fail> {
-    assert_eq!(rt; check(rt.alloc(), &one_accepted(), 1), illegal(5));
-    let twice = [
-        opened(0),
-        polled(0),
-        ready(0),
-        started(2),
-        returned(2, Answer::Again),
-        opened(1),
-        started(4),
-        returned(4, Answer::Keep),
-        polled(0),
-        ready(1),
-        ready(1),
-        started(9),
-        started(9),
-        returned(9, Answer::Again),
-    ];
-    assert_eq!(rt; check(rt.alloc(), &twice, 1001), illegal(12));
-    Ok(())
-}
-
-#[test]
-fn two_handlers_at_once(rt: HostRuntime) -> Result<(), Fail> {
-    let journal = [
-        opened(0),
-        opened(1),
-        polled(0),
-        ready(0),
-        ready(1),
-        started(3),
-        started(4),
-        returned(4, Answer::Keep),
-        returned(3, Answer::Keep),
-    ];
-    assert_eq!(rt; check(rt.alloc(), &journal, 2), Ok(()));
-    Ok(())
-}
-
-// a deadline beyond 64 bits stays armed and never comes due; a timer is armed again at the least deadline above now
-#[test]
-fn timers_beyond_a_word(rt: HostRuntime) -> Result<(), Fail> {
-    let most = u64::MAX;
-    let late = [
-        opened(0),
-        scheduled(0, 0, most, most),
-        polled(most),
-        Entry::Due { timer: 0 },
-        started(3),
-        returned(3, Answer::Keep),
-        polled(most),
-        Entry::Cancelled { timer: 0 },
-        Entry::Cancelled { timer: 0 },
-    ];
-    assert_eq!(rt; check(rt.alloc(), &late, 1), illegal(8));
-    let catches_up = [
-        opened(0),
-        scheduled(0, 0, 10, 10),
-        polled(35),
-        Entry::Due { timer: 0 },
-        started(3),
-        returned(3, Answer::Keep),
-        polled(39),
-        polled(40),
-        Entry::Due { timer: 0 },
-    ];
-    assert_eq!(rt; check(rt.alloc(), &catches_up, 1), Ok(()));
     Ok(())
 }
