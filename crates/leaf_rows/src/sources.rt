@@ -53,47 +53,45 @@ impl<W: Write> Write for Short<W> {
 
 fn moves<T: Send>(_value: &T) {}
 
-fn reads<S: Source>(
-    rt: &impl std::process::Abort,
-    source: &mut S,
-    answers: &[Got],
-    into: &mut Vec<u8>,
-) -> Result<(), Fail> {
+/// Whether a source that is read into room for three bytes answers this, and gives these bytes.
+fn gives<S: Source>(source: &mut S, answers: &[Got], bytes: &[u8]) -> bool {
     let mut buf = [0u8; 3];
+    let mut rest = bytes;
+    let mut are_well = true;
     for want in answers {
         let got = source.read(&mut buf);
-        assert_eq!(rt; got, *want);
+        are_well &= got == *want;
         if let Got::Bytes(count) = got {
-            if count <= 3 {
-                into.extend_from_slice(&buf[..count])?;
+            match rest.strip_prefix(&buf[..count.min(3)]) {
+                Some(behind) => rest = behind,
+                None => are_well = false,
             }
         }
     }
-    Ok(())
+    are_well && rest.is_empty()
 }
 
 #[test]
 fn a_steady_source_gives_its_bytes(rt: HostRuntime) -> Result<(), Fail> {
-    let mut given = Vec::new(rt.alloc());
     let mut steady = SteadySource::new(b"hello".to_vec(rt.alloc())?);
     let answers = [Got::Bytes(3), Got::Bytes(2), Got::Over, Got::Over];
-    reads(&rt, &mut steady, &answers, &mut given)?;
-    assert_eq!(rt; given.as_slice(), b"hello".as_slice());
+    let is_well = gives(&mut steady, &answers, b"hello");
+    assert!(rt; is_well);
     Ok(())
 }
 
 // A source of three pieces, of which one is empty, whose reads 1 and 5 fail.
 fn pieces(alloc: Global) -> Result<MemSource, Fail> {
+    let fails = [1, 5].to_vec(alloc)?;
     let mut pieces = Vec::new(alloc);
-    pieces.push(b"ab".to_vec(alloc)?)?;
-    pieces.push(Vec::new(alloc))?;
-    pieces.push(b"cdef".to_vec(alloc)?)?;
-    Ok(MemSource::new(pieces, [1, 5].to_vec(alloc)?))
+    for piece in [b"ab".as_slice(), b"", b"cdef"] {
+        pieces.push(piece.to_vec(alloc)?)?;
+    }
+    Ok(MemSource::new(pieces, fails))
 }
 
 #[test]
 fn a_source_in_memory_gives_its_bytes(rt: HostRuntime) -> Result<(), Fail> {
-    let mut given = Vec::new(rt.alloc());
     let mut source = pieces(rt.alloc())?;
     let answers = [
         Got::Bytes(2),
@@ -103,53 +101,71 @@ fn a_source_in_memory_gives_its_bytes(rt: HostRuntime) -> Result<(), Fail> {
         Got::Over,
         Got::Over,
     ];
-    reads(&rt, &mut source, &answers, &mut given)?;
-    assert_eq!(rt; given.as_slice(), b"abcdef".as_slice());
+    let is_well = gives(&mut source, &answers, b"abcdef");
+    assert!(rt; is_well);
     Ok(())
 }
 
 #[test]
 fn an_adapter_gives_the_bytes_of_its_reader(rt: HostRuntime) -> Result<(), Fail> {
-    let mut given = Vec::new(rt.alloc());
     let below = Cursor::new(b"there".to_vec(rt.alloc())?);
     let mut adapter = StdSource::new(Stumbling { below, reads: 0 });
     moves(&adapter);
     let answers = [Got::Failed, Got::Bytes(3), Got::Bytes(2), Got::Over];
-    reads(&rt, &mut adapter, &answers, &mut given)?;
-    assert_eq!(rt; given.as_slice(), b"there".as_slice());
+    let is_well = gives(&mut adapter, &answers, b"there");
+    assert!(rt; is_well);
     Ok(())
+}
+
+const HELLO: &[u8] = b"hello";
+
+/// Writes five bytes, in five writes at most.
+fn say_hello<S: Sink>(sink: &mut S) {
+    let mut at = 0;
+    for _ in 0..5 {
+        if at < 5 {
+            if let Wrote::Bytes(count) = sink.write(&HELLO[at..]) {
+                at += count.min(5 - at);
+            }
+        }
+    }
+}
+
+/// Whether a sink in memory takes so many of five bytes.
+fn takes(alloc: Global, room: usize, fail_after: Option<u64>, taken: usize) -> Result<bool, Fail> {
+    let mut sink = MemSink::new(alloc, room, fail_after).map_err(|_| Fail::from("memory"))?;
+    say_hello(&mut sink);
+    Ok(sink.bytes() == &HELLO[..taken.min(5)])
+}
+
+/// Whether the writes of five bytes answer this.
+fn answers<S: Sink>(sink: &mut S, wanted: &[Wrote]) -> bool {
+    let mut are_well = true;
+    for want in wanted {
+        are_well &= sink.write(HELLO) == *want;
+    }
+    are_well
 }
 
 #[test]
 fn sinks_take_what_they_have_room_for(rt: HostRuntime) -> Result<(), Fail> {
-    let alloc = rt.alloc();
-    let hello = b"hello".as_slice();
     for (room, fail_after, taken) in [
         (8, None, 5),
         (8, Some(3), 3),
         (2, Some(3), 2),
         (0, None, 0),
     ] {
-        let mut sink = MemSink::new(alloc, room, fail_after).map_err(|_| Fail::from("memory"))?;
-        let mut at = 0;
-        for _ in 0..5 {
-            if at < 5 {
-                if let Wrote::Bytes(count) = sink.write(&hello[at..]) {
-                    at += count.min(5 - at);
-                }
-            }
-        }
-        assert_eq!(rt; sink.bytes(), &hello[..taken]);
+        assert!(rt; takes(rt.alloc(), room, fail_after, taken)?);
     }
-    let below = Vec::new(alloc);
+    let below = Vec::new(rt.alloc());
     let mut adapter = StdSink::new(Short { below, writes: 0 });
-    for want in [
+    let wanted = [
         Wrote::Bytes(2),
         Wrote::Bytes(2),
         Wrote::Failed,
         Wrote::Bytes(2),
-    ] {
-        assert_eq!(rt; adapter.write(hello), want);
-    }
+    ];
+    let is_well = answers(&mut adapter, &wanted);
+    assert!(rt; is_well);
     Ok(())
 }
