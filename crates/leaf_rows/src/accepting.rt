@@ -123,6 +123,41 @@ fn closes(act: Option<Act<ServerHandler<WaitingEnd>>>) -> bool {
     }
 }
 
+/// Whether a connection keeps on at an input that it has none of, offers nothing, and notes its own number when it is closed.
+fn keeps_on(connection: ServerHandler<WaitingEnd>, number: u64) -> bool {
+    let mut connection = connection;
+    let Turn {
+        answer,
+        note: _,
+        act,
+    } = connection.upcall(Upcall::Input, 6);
+    let offers = closes(act);
+    let (_, note) = connection.handle_close(Why::Removed);
+    let is_finished =
+        matches!(note, ServerNote::Finished { conn, end: EndKind::Stopped } if conn == number);
+    answer == Answer::Keep && !offers && is_finished
+}
+
+/// Whether the handler takes the connection of this number, and offers it for reading and with an idle time of 30.
+fn takes(handler: &mut ServerHandler<WaitingEnd>, number: u64) -> bool {
+    let Turn { answer, note, act } = handler.upcall(Upcall::Input, 5);
+    let is_accepted = matches!(note, ServerNote::Accepted { conn } if conn == number);
+    match offer_of(act) {
+        Some(
+            Offered {
+                connection,
+                mask,
+                timer,
+            },
+        ) => {
+            let reads = mask.read && !mask.write && !mask.except;
+            let is_kept = keeps_on(connection, number);
+            answer == Answer::Again && is_accepted && reads && timer == Some((30, 30)) && is_kept
+        }
+        None => false,
+    }
+}
+
 #[test]
 fn connections_are_taken_one_by_one(rt: HostRuntime) -> Result<(), Fail> {
     let listener = WaitingEnd {
@@ -134,36 +169,10 @@ fn connections_are_taken_one_by_one(rt: HostRuntime) -> Result<(), Fail> {
         took: None,
     };
     let mut handler = ServerHandler::Listen(Acceptor::new(rt.alloc(), listener, Some(30)));
-    for number in 0..2u64 {
-        let Turn { answer, note, act } = handler.upcall(Upcall::Input, 5);
-        assert_eq!(rt; answer, Answer::Again);
-        assert!(rt; matches!(note, ServerNote::Accepted { conn } if conn == number));
-        match offer_of(act) {
-            Some(
-                Offered {
-                    mut connection,
-                    mask,
-                    timer,
-                },
-            ) => {
-                assert!(rt; mask.read && !mask.write && !mask.except);
-                assert_eq!(rt; timer, Some((30, 30)));
-                let Turn {
-                    answer,
-                    note: _,
-                    act,
-                } = connection.upcall(Upcall::Input, 6);
-                assert_eq!(rt; answer, Answer::Keep);
-                assert!(rt; !closes(act));
-                let (_, note) = connection.handle_close(Why::Removed);
-                assert!(rt;
-                    matches!(note, ServerNote::Finished { conn, end: EndKind::Stopped } if conn == number)
-                );
-            }
-            None => assert!(rt; false, "no connection is offered"),
-        }
-    }
+    let is_first_taken = takes(&mut handler, 0);
+    let is_second_taken = takes(&mut handler, 1);
     let (_, note) = handler.handle_close(Why::Removed);
+    assert!(rt; is_first_taken && is_second_taken);
     assert!(rt; matches!(note, ServerNote::ListenerShut));
     Ok(())
 }

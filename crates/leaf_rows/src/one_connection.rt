@@ -3,7 +3,6 @@ use ev_base::{Got, MemSource, Net, PeerEnd, Report, Sent, Source, SteadySource, 
 use ev_types::{Handle, Kind, Mask};
 use one_net::{OneEnd, OneNet};
 use std::alloc::Global;
-use std::process::Abort;
 use std::test::Fail;
 
 const READ: Mask = Mask {
@@ -12,20 +11,80 @@ const READ: Mask = Mask {
     except: false,
 };
 
-// What the reads of an end answer, with room for 8 bytes.
-fn reads<E: PeerEnd>(rt: &impl Abort, end: &mut E, answers: &[Got]) {
+/// What reads of an end with room for 8 bytes answer, and whether it met a byte behind its limit and a failed read of its source then.
+struct Reads {
+    answers: &'static [Got],
+    is_too_long: bool,
+    has_failed: bool,
+}
+
+/// Whether the reads of an end answer this.
+fn gives<E: PeerEnd>(end: &mut E, answers: &[Got]) -> bool {
+    let mut are_well = true;
     for want in answers {
-        if !end.is_listener() {
-            assert_eq!(rt; end.read(&mut [0; 8]), *want);
-        }
+        are_well &= !end.is_listener() && end.read(&mut [0; 8]) == *want;
     }
+    are_well
+}
+
+/// Whether an end comes to this.
+fn comes_to<S: Source>(end: &mut OneEnd<S>, rows: &[Reads]) -> bool {
+    let mut are_well = true;
+    for row in rows {
+        are_well &= gives(end, row.answers);
+        are_well &= end.is_too_long() == row.is_too_long;
+        are_well &= end.has_failed() == row.has_failed;
+    }
+    are_well
 }
 
 const LETTERS: &[u8] = b"0123456789abcdefghijklmnopqrstuvwxyz";
 
-const WHOLE: [Got; 4] = [Got::Bytes(8), Got::Bytes(8), Got::Bytes(8), Got::Bytes(6)];
+/// The reads of 30 bytes.
+const WHOLE: Reads = Reads {
+    answers: &[Got::Bytes(8), Got::Bytes(8), Got::Bytes(8), Got::Bytes(6)],
+    is_too_long: false,
+    has_failed: false,
+};
 
-// An end of at most 30 bytes over so many.
+const ONE_MORE: &[Reads] = &[
+    WHOLE,
+    Reads {
+        answers: &[Got::Failed, Got::Failed],
+        is_too_long: true,
+        has_failed: false,
+    },
+];
+
+const NO_MORE: &[Reads] = &[
+    WHOLE,
+    Reads {
+        answers: &[Got::Over, Got::Over],
+        is_too_long: false,
+        has_failed: false,
+    },
+];
+
+/// The reads of an end of at most 4 bytes over a source of two pieces whose second read fails.
+const IN_PIECES: &[Reads] = &[
+    Reads {
+        answers: &[Got::Bytes(3)],
+        is_too_long: false,
+        has_failed: false,
+    },
+    Reads {
+        answers: &[Got::Failed, Got::Bytes(1)],
+        is_too_long: false,
+        has_failed: true,
+    },
+    Reads {
+        answers: &[Got::Failed],
+        is_too_long: true,
+        has_failed: true,
+    },
+];
+
+/// An end of at most 30 bytes over so many.
 fn end_of(alloc: Global, bytes: usize) -> Result<OneEnd<SteadySource>, Fail> {
     let input = LETTERS[..bytes.min(36)].to_vec(alloc)?;
     Ok(OneEnd::new(SteadySource::new(input), 30))
@@ -34,40 +93,39 @@ fn end_of(alloc: Global, bytes: usize) -> Result<OneEnd<SteadySource>, Fail> {
 #[test]
 fn an_end_fails_behind_its_limit(rt: HostRuntime) -> Result<(), Fail> {
     let mut end = end_of(rt.alloc(), 31)?;
-    reads(&rt, &mut end, &WHOLE);
-    assert!(rt; !end.is_too_long());
-    reads(&rt, &mut end, &[Got::Failed, Got::Failed]);
-    assert!(rt; end.is_too_long() && !end.has_failed());
+    let is_well = comes_to(&mut end, ONE_MORE);
+    assert!(rt; is_well);
     Ok(())
+}
+
+/// Whether an end that is no listener takes nothing.
+fn takes_none<E: PeerEnd>(end: &mut E) -> bool {
+    !end.is_listener() && end.write(b"hello") == Sent::Pause
 }
 
 #[test]
 fn an_end_gives_as_many_bytes_as_its_limit(rt: HostRuntime) -> Result<(), Fail> {
     let mut end = end_of(rt.alloc(), 30)?;
-    reads(&rt, &mut end, &WHOLE);
-    reads(&rt, &mut end, &[Got::Over, Got::Over]);
-    assert!(rt; !end.is_too_long());
-    assert_eq!(rt; end.write(b"hello"), Sent::Pause);
+    let is_well = comes_to(&mut end, NO_MORE) && takes_none(&mut end);
+    assert!(rt; is_well);
     Ok(())
 }
 
-// A source of two pieces whose second read fails.
+/// A source of two pieces whose second read fails.
 fn pieces(alloc: Global) -> Result<MemSource, Fail> {
+    let fails = [1].to_vec(alloc)?;
     let mut pieces = Vec::new(alloc);
-    pieces.push(b"abc".to_vec(alloc)?)?;
-    pieces.push(b"de".to_vec(alloc)?)?;
-    Ok(MemSource::new(pieces, [1].to_vec(alloc)?))
+    for piece in [b"abc".as_slice(), b"de".as_slice()] {
+        pieces.push(piece.to_vec(alloc)?)?;
+    }
+    Ok(MemSource::new(pieces, fails))
 }
 
 #[test]
 fn an_end_tells_a_failed_read_from_its_limit(rt: HostRuntime) -> Result<(), Fail> {
     let mut end = OneEnd::new(pieces(rt.alloc())?, 4);
-    reads(&rt, &mut end, &[Got::Bytes(3)]);
-    assert!(rt; !end.has_failed());
-    reads(&rt, &mut end, &[Got::Failed, Got::Bytes(1)]);
-    assert!(rt; end.has_failed() && !end.is_too_long());
-    reads(&rt, &mut end, &[Got::Failed]);
-    assert!(rt; end.is_too_long());
+    let is_well = comes_to(&mut end, IN_PIECES);
+    assert!(rt; is_well);
     Ok(())
 }
 
@@ -84,15 +142,18 @@ fn the_end_is_reported_until_it_is_retired(rt: HostRuntime) -> Result<(), Fail> 
         Ok(()) => {}
         Err(_) => unreachable!(),
     }
-    assert_eq!(rt; net.wait(Some(0)), Waited::Reports { now: 0, count: 1 });
+    let waited = net.wait(Some(0));
+    let is_reported = waited == Waited::Reports { now: 0, count: 1 };
     let report = Report {
         handle: Handle(0),
         kind: Kind::Read,
     };
-    assert_eq!(rt; net.report(0), report);
+    assert!(rt; is_reported);
+    let is_read = net.report(0) == report;
     net.retire(Handle(0), end);
-    assert_eq!(rt; net.wait(None), Waited::Over { now: 0 });
+    let is_over = net.wait(None) == Waited::Over { now: 0 };
     let mut source = net.into_retired().into_input();
-    assert_eq!(rt; source.read(&mut [0; 8]), Got::Bytes(5));
+    let is_given = source.read(&mut [0; 8]) == Got::Bytes(5);
+    assert!(rt; is_read && is_over && is_given);
     Ok(())
 }
