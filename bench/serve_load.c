@@ -73,15 +73,9 @@ static void send_all(int s, const unsigned char *bytes, size_t n) {
     }
 }
 
-static void send_records(int s, unsigned client, unsigned long records) {
-    unsigned char *bytes = malloc(AT_ONCE * RECORD);
-    if (!bytes) stop("out of memory");
-    for (unsigned long at = 0; at < records;) {
-        size_t n = 0;
-        for (; n < AT_ONCE && at < records; n++, at++) record(bytes + n * RECORD, client, at);
-        send_all(s, bytes, n * RECORD);
-    }
-    free(bytes);
+/* Sends in pieces of so many records, as a client that collects some. */
+static void send_records(int s, const unsigned char *bytes, size_t n) {
+    for (size_t at = 0; at < n; at += AT_ONCE * RECORD) send_all(s, bytes + at, n - at < AT_ONCE * RECORD ? n - at : AT_ONCE * RECORD);
 }
 
 /* Ends a connection, behind the server's own end. */
@@ -92,16 +86,28 @@ static void hang_up(int s) {
     close(s);
 }
 
+/* What one thread sends: the bytes of the records of each of its connections. */
 struct task {
     unsigned first, many;
     unsigned long records;
+    unsigned char *bytes;
 };
+
+/* Makes the bytes, before the clock starts, so that the load takes little of the processors that the server runs on. */
+static void prepare(struct task *t) {
+    unsigned char *end = t->bytes = malloc(t->many * t->records * RECORD + 1);
+    if (!end) stop("out of memory");
+    for (unsigned client = t->first; client < t->first + t->many; client++)
+        for (unsigned long at = 0; at < t->records; at++, end += RECORD) record(end, client, at);
+}
 
 static void *talk(void *of) {
     struct task *t = of;
-    for (unsigned client = t->first; client < t->first + t->many; client++) {
+    const unsigned char *bytes = t->bytes;
+    size_t each = t->records * RECORD;
+    for (unsigned i = 0; i < t->many; i++, bytes += each) {
         int s = dial();
-        send_records(s, client, t->records);
+        send_records(s, bytes, each);
         hang_up(s);
     }
     return 0;
@@ -113,26 +119,43 @@ static double now(void) {
     return (double)t.tv_sec + (double)t.tv_nsec / 1e9;
 }
 
-/* Connections from `first` on, dealt out to so many threads. */
-static void talk_in_threads(unsigned threads, unsigned first, unsigned many, unsigned long records) {
-    pthread_t *started = calloc(threads, sizeof *started);
+/* The tasks of so many threads, to which connections from `first` on are dealt out. */
+static struct task *dealt(unsigned threads, unsigned first, unsigned many, unsigned long records) {
     struct task *tasks = calloc(threads, sizeof *tasks);
-    if (!started || !tasks) stop("out of memory");
+    if (!tasks) stop("out of memory");
     for (unsigned i = 0; i < threads; i++) {
         unsigned from = first + (unsigned)((uint64_t)many * i / threads), to = first + (unsigned)((uint64_t)many * (i + 1) / threads);
         tasks[i] = (struct task){.first = from, .many = to - from, .records = records};
-        if (pthread_create(&started[i], 0, talk, &tasks[i])) stop("no thread");
+        prepare(&tasks[i]);
     }
+    return tasks;
+}
+
+static void talk_in_threads(unsigned threads, struct task *tasks) {
+    pthread_t *started = calloc(threads, sizeof *started);
+    if (!started) stop("out of memory");
+    for (unsigned i = 0; i < threads; i++)
+        if (pthread_create(&started[i], 0, talk, &tasks[i])) stop("no thread");
     for (unsigned i = 0; i < threads; i++) pthread_join(started[i], 0);
     free(started);
-    free(tasks);
+}
+
+/* When the first connection of the load was made. */
+static double begun;
+
+static void together(unsigned threads, unsigned many, unsigned long records) {
+    struct task *tasks = dealt(threads, 0, many, records);
+    begun = now();
+    talk_in_threads(threads, tasks);
 }
 
 static void silent(unsigned many, unsigned long records) {
     int *sockets = calloc(many + 1, sizeof *sockets);
+    struct task *busy = dealt(1, many, 1, records);
     if (!sockets) stop("out of memory");
+    begun = now();
     for (unsigned i = 0; i < many; i++) sockets[i] = dial();
-    talk_in_threads(1, many, 1, records);
+    talk_in_threads(1, busy);
     for (unsigned i = 0; i < many; i++) hang_up(sockets[i]);
     free(sockets);
 }
@@ -141,9 +164,11 @@ static void silent(unsigned many, unsigned long records) {
 static void slow(unsigned many, unsigned long records, unsigned bytes) {
     unsigned char r[RECORD];
     int *sockets = calloc(many, sizeof *sockets);
+    struct task *busy = dealt(1, many, 1, records);
     if (!sockets) stop("out of memory");
+    begun = now();
     for (unsigned i = 0; i < many; i++) sockets[i] = dial();
-    talk_in_threads(1, many, 1, records);
+    talk_in_threads(1, busy);
     for (unsigned at = 0; at < bytes; at++, sleep(1)) {
         for (unsigned i = 0; i < many; i++) record(r, i, 0), send_all(sockets[i], r + at, 1);
     }
@@ -178,6 +203,8 @@ static void hostile(unsigned streams, unsigned long records, uint64_t seed) {
     pthread_t honest;
     struct task one = {.first = 1, .many = 1, .records = records};
     drawn = seed ? seed : 1;
+    prepare(&one);
+    begun = now();
     if (pthread_create(&honest, 0, talk, &one)) stop("no thread");
     for (unsigned i = 0; i < streams; i++) talk_garbage();
     pthread_join(honest, 0);
@@ -359,15 +386,14 @@ int main(int argc, char **argv) {
     port = (uint16_t)atoi(argv[1]);
     unsigned many = (unsigned)atoi(argv[3]);
     unsigned long records = argc > 4 ? strtoul(argv[4], 0, 10) : 1;
-    double start = now();
     if (argc == 6 && !strcmp(argv[2], "latency")) return probe(0, many, records, 2000, argv[5]), 0;
     if (argc == 6 && !strcmp(argv[2], "beside")) return probe(many, 0, records, 5000, argv[5]), 0;
-    if (!strcmp(argv[2], "bulk")) talk_in_threads(many, 0, many, records);
-    else if (!strcmp(argv[2], "short")) talk_in_threads(SHORT_THREADS, 0, many, 1);
+    if (!strcmp(argv[2], "bulk")) together(many, many, records);
+    else if (!strcmp(argv[2], "short")) together(SHORT_THREADS, many, 1);
     else if (!strcmp(argv[2], "silent")) silent(many, records);
     else if (!strcmp(argv[2], "slow")) slow(many, records, argc > 5 ? (unsigned)atoi(argv[5]) % RECORD : 10);
     else if (!strcmp(argv[2], "hostile")) hostile(many, records, argc > 5 ? strtoull(argv[5], 0, 10) : 1);
     else stop("bulk, short, silent, slow, hostile, latency or beside");
-    printf("%.3f\n", now() - start);
+    printf("%.3f\n", now() - begun);
     return 0;
 }
