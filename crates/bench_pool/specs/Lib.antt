@@ -1,1 +1,2 @@
+pub mod CoreRuns
 pub mod SlowNet

@@ -1,33 +1,28 @@
-//! The one-thread reactor over the same net, for comparison.
+//! The one-thread reactor of the same handlers over the same net, for comparison.
 ghost use Rattle.std.specs.Prelude.{◌≤◌, IfOk};
 ghost use Rattle.core_loop.specs.Idle.{IsIdle};
-ghost use Rattle.core_rows.specs.RoundRobin.{round_robin_rows};
+ghost use Rattle.bench_pool.specs.CoreRuns.{member_core};
 
-use crate::events::{EVENTS_OF_WAIT, VOLUME};
-use core_rows::{Left, RoundRobinNet, Rows, Steady, close, hand_over, poll, register, turn};
-use ev_types::Mask;
-use reactor_core::Core;
+use crate::events::{EVENTS_OF_WAIT, READ, VOLUME};
+use core_loop::{close, register, run};
+use core_rows::RoundRobinNet;
+use reactor_core::{Core, Parts};
 use reactor_model::{DropVolumes, NoWatch};
 use std::alloc::Global;
 use std::io;
+use std::sync::Wait;
 use std::time::{Clock, Instant};
 use timer_queue::SortedTimers;
-use tp_rows::NoPool;
+use tp_rows::{Member, NoPool};
 
-const READ: Mask = Mask {
-    read: true,
-    write: false,
-    except: false,
-};
+/// A reactor of members over a net that reports its handles in turn, whose volumes are let go.
+type EventCore = Core<Member, RoundRobinNet, SortedTimers, NoWatch, DropVolumes>;
 
-/// A reactor over a net that reports its handles in turn, whose volumes are let go.
-type EventCore = Rows<RoundRobinNet, DropVolumes>;
-
-/// A reactor with so many handlers.
+/// A reactor for so many handlers.
 fn made(alloc: Global, handles: u64) -> Result<EventCore, NoPool>
     requires least { 1 ≤ handles }
     requires greatest { handles ≤ 4097 }
-    ensures { IfOk result (λ core. IsIdle round_robin_rows core) }
+    ensures { IfOk result (λ core. IsIdle member_core core) }
 {
     let net = RoundRobinNet::new(alloc, handles, EVENTS_OF_WAIT);
     let timers = SortedTimers::new(alloc);
@@ -37,38 +32,18 @@ fn made(alloc: Global, handles: u64) -> Result<EventCore, NoPool>
     }
 }
 
-fn fill(core: &mut EventCore, handles: u64)
-    requires { IsIdle round_robin_rows core.old }
-    ensures { IsIdle round_robin_rows core.new }
+/// Registers so many members, of which each stops the reactor behind so many inputs.
+fn fill(core: &mut EventCore, handles: u64, inputs: u64)
+    requires { IsIdle member_core core.old }
+    ensures { IsIdle member_core core.new }
 {
     for _ in 0..handles {
-        let _answer = register(core, Steady::new(), READ);
-    }
-}
-
-// Serves all that waits, and then waits once.
-fn serve_wait(core: &mut EventCore)
-    requires { IsIdle round_robin_rows core.old }
-    ensures { IsIdle round_robin_rows core.new }
-{
-    for _ in 0..EVENTS_OF_WAIT {
-        let _handed = hand_over(core);
-        let _event = turn(core);
-    }
-    let _polled = poll(core);
-}
-
-fn serve(core: &mut EventCore, waits: u64)
-    requires { IsIdle round_robin_rows core.old }
-    ensures { IsIdle round_robin_rows core.new }
-{
-    for _ in 0..waits {
-        serve_wait(core);
+        let _answer = register(core, Member::working(0, inputs), READ);
     }
 }
 
 /// Serves about so many events by one thread, and tells how many nanoseconds that took.
-pub fn serve_core<R: Clock>(
+pub fn serve_core<R: Clock + Wait>(
     rt: &R,
     alloc: Global,
     handles: u64,
@@ -82,11 +57,11 @@ pub fn serve_core<R: Clock>(
         Ok(core) => core,
         Err(refused) => return Ok(Err(refused)),
     };
-    fill(&mut core, handles);
+    fill(&mut core, handles, events / handles);
     let before = start.elapsed(rt);
-    serve(&mut core, events / EVENTS_OF_WAIT as u64);
+    let _ended = run(rt, &mut core, None, None);
     let after = start.elapsed(rt);
-    let Left {
+    let Parts {
         journal: _,
         first: _,
         net: _,

@@ -19,7 +19,8 @@ pub const EVENTS_OF_WAIT: usize = 256;
 /// How many entries a volume has at least.
 pub const VOLUME: u64 = 65_536;
 
-const READ: Mask = Mask {
+/// Handles are reported for reading.
+pub const READ: Mask = Mask {
     read: true,
     write: false,
     except: false,
