@@ -1,7 +1,6 @@
 //! The lead of a desk: what the thread does that holds the token.
 ghost use Rattle.std.specs.Prelude.{◌≡◌, false, IfSome, IfNone};
 ghost use Rattle.std.specs.Option.{is_some};
-ghost use Rattle.ev_base.specs.Net.{Reserves};
 ghost use Rattle.notify_ring.specs.Words.{drainer_ring, id_of};
 ghost use Rattle.reactor_journal.specs.Past.{past_of};
 ghost use Rattle.reactor_summary.specs.Summary.{pick, summary};
