@@ -86,10 +86,6 @@ module _ {H M Q W V N E : Type 0} (m : Meaning H M Q W V N E) where
   pub settled_kin : (v w : View (Entry N) DeskTerms) (done : Done H N E) (settled : Settled) → HasSettled m v done settled w → SameKin v w
   settled_kin v w done settled s = let view = s.leaves.view in record { terms = ap (λ x. x.terms) view; root = ap (λ x. x.root) view; children = ap (λ x. x.children) view }
 
-  pub settled_on_kin : (most : Option ℕ) (answer : Option (Led H N E)) (v w : View (Entry N) DeskTerms) (done : Done H N E) (settled : Settled) → SettlesOn m v done settled most answer w → SameKin v w
-  settled_on_kin most None v w done settled s = settled_kin v w done settled s
-  settled_on_kin most (Some l) v w done settled s = kin_then v s.between w (settled_kin v s.between done settled s.settles) (led_kin s.between w most l s.leads)
-
   -- it led in the hold in which it settled
   pub serves_on : (most : Option ℕ) (until : Option (ℕ × Handle)) (job : Job H N E) (done : Done H N E) (settled : Settled) (answer : Option (Led H N E)) (next : Led H N E) (v w z : View (Entry N) DeskTerms) (p r s : RingView) → IsRunOf job done → answer ≡ Some next → SettlesOn m v done settled most answer w → z ≡ w → r ≡ p
       → MayPost until settled r s → ServesAndLeads m most until job v p next z s

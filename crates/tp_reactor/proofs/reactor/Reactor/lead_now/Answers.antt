@@ -1,5 +1,5 @@
-use Rattle.std.proofs.Common.{refl, ap, ◌∙◌}
-use Rattle.tp_reactor.proofs.Belongs.{still_of}
+use Rattle.std.proofs.Common.{refl, ◌∙◌}
+use Rattle.tp_reactor.proofs.Belongs.{still_of, kin_of}
 use Rattle.tp_reactor.proofs.Marked.{marks_tell}
 use Rattle.tp_reactor.proofs.Turns.{may_put, held_lead, is_led}
 use Rattle.tp_reactor.proofs.reactor.Reactor.lead_now.Goals as goal
@@ -14,6 +14,4 @@ pub returns-clause-tells : goal.returns-clause-tells
 returns-clause-tells g c = marks_tell _ _ _ _ c.lead-led.result (is_led _ _ _ _ _ _ c.get-held.ensures.got _ _ _ c.value.ensures.value c.lead-led.ensures.gives c.requires.limit c.requires.free.1 c.lead-led.ensures.marks c.lead-led.ensures.tells c.put.ensures.put)
 
 pub returns-clause-of : goal.returns-clause-of
-returns-clause-of g c =
-    let view = (is_led _ _ _ _ _ _ c.get-held.ensures.got _ _ _ c.value.ensures.value c.lead-led.ensures.gives c.requires.limit c.requires.free.1 c.lead-led.ensures.marks c.lead-led.ensures.tells c.put.ensures.put).leaves.view in
-    still_of c.args.worker.now _ _ c.requires.of (c.put.ensures.token ∙ c.get-held.ensures.token) refl (record { terms = ap (λ v. v.terms) view; root = ap (λ v. v.root) view; children = ap (λ v. v.children) view })
+returns-clause-of g c = still_of c.args.worker.now _ _ c.requires.of (c.put.ensures.token ∙ c.get-held.ensures.token) refl (kin_of _ _ _ _ _ _ _ c.get-held.ensures.got.view c.put.ensures.put.view)

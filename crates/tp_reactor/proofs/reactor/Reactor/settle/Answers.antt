@@ -1,5 +1,5 @@
-use Rattle.std.proofs.Common.{ap, sym, ◌∙◌}
-use Rattle.tp_reactor.proofs.Belongs.{still_of}
+use Rattle.std.proofs.Common.{sym, ◌∙◌}
+use Rattle.tp_reactor.proofs.Belongs.{still_of, kin_of}
 use Rattle.tp_reactor.proofs.Turns.{may_put, stood_of, kept_of}
 use Rattle.tp_reactor.proofs.Settling.{fits_now, settles_of, held_settle, has_settled}
 use Rattle.tp_reactor.proofs.reactor.Reactor.settle.Goals as goal
@@ -23,9 +23,4 @@ returns-clause-settled g c =
     (kept_of _ _ _ _ c.value.ensures.value c.settle-settled.ensures.marks) c.put.ensures.put
 
 pub returns-clause-of : goal.returns-clause-of
-returns-clause-of g c =
-    let got = c.take-held.ensures.got in
-    let view = (has_settled _ _ _ _ _ got c.args.done c.settle-settled.result _ (settles_of _ _ _ _ _ _ got c.args.done c.settle-settled.result c.value.ensures.value c.settle-settled.ensures.settles c.requires.own c.requires.fits) c.requires.own c.requires.fits
-    (kept_of _ _ _ _ c.value.ensures.value c.settle-settled.ensures.marks) c.put.ensures.put).leaves.view
-    in
-    still_of c.args.worker.now _ _ c.requires.of (c.put.ensures.token ∙ (c.take-held.ensures.of.token ∙ sym c.requires.of.token)) c.take-held.ensures.poster (record { terms = ap (λ v. v.terms) view; root = ap (λ v. v.root) view; children = ap (λ v. v.children) view })
+returns-clause-of g c = still_of c.args.worker.now _ _ c.requires.of (c.put.ensures.token ∙ (c.take-held.ensures.of.token ∙ sym c.requires.of.token)) c.take-held.ensures.poster (kin_of _ _ _ _ _ _ _ c.take-held.ensures.got.view c.put.ensures.put.view)

@@ -1,11 +1,11 @@
-use Rattle.std.proofs.Common.{true, refl, sym, ap, ◌∙◌}
+use Rattle.std.proofs.Common.{true, refl, sym, ◌∙◌}
 use Rattle.reactor_journal.specs.declared.entry.Entry.TheVariants.{Suspended}
 use Rattle.reactor_summary.specs.Summary.{Summary}
 use Rattle.reactor_state.specs.State.{Shows, HasPlaces, IsPlaced}
 use Rattle.reactor_core.specs.Stands.{meaning}
 use Rattle.reactor_core.specs.Refusals.{LeavesState}
 use Rattle.reactor_core.specs.Requests.{IsStateAnswer}
-use Rattle.tp_reactor.proofs.Belongs.{still_of}
+use Rattle.tp_reactor.proofs.Belongs.{still_of, kin_of}
 use Rattle.tp_reactor.proofs.Requests.{asked_one, may_ask, has_asked}
 use Rattle.tp_reactor.proofs.Turns.{stood_of}
 use Rattle.tp_reactor.proofs.reactor.Reactor.suspend.Goals as goal
@@ -28,8 +28,4 @@ returns-clause-asked g c =
     has_asked m _ _ _ _ got _ _ (asked_one m _ _ _ _ got (λ (s : Summary) a. Suspended c.args.handle) c.suspend-answer.result (λ (s : Summary). IsStateAnswer s c.args.handle.0 true) (LeavesState m) c.value.result.now c.value.ensures.value (λ s a. refl) c.requires.ask (record { ok = c.suspend-answer.ensures.ok; err = c.suspend-answer.ensures.err; cause = c.suspend-answer.ensures.cause; leaves = c.suspend-answer.ensures.refused; kept = c.suspend-answer.ensures.marks })) c.put.ensures.put
 
 pub returns-clause-of : goal.returns-clause-of
-returns-clause-of g c =
-    let m = meaning g.H.EventHandler.means g.M.Net.facts g.M.Net.keeps (Shows g.Q.TimerQueue.timers) (HasPlaces g.Q.TimerQueue.spare) IsPlaced g.W.Watch.stands g.W.Watch.faults g.W.Watch.is_broken g.W.Watch.whole g.V.Volumes.facts in
-    let got = c.take-held.ensures.got in
-    let view = (has_asked m _ _ _ _ got _ _ (asked_one m _ _ _ _ got (λ (s : Summary) a. Suspended c.args.handle) c.suspend-answer.result (λ (s : Summary). IsStateAnswer s c.args.handle.0 true) (LeavesState m) c.value.result.now c.value.ensures.value (λ s a. refl) c.requires.ask (record { ok = c.suspend-answer.ensures.ok; err = c.suspend-answer.ensures.err; cause = c.suspend-answer.ensures.cause; leaves = c.suspend-answer.ensures.refused; kept = c.suspend-answer.ensures.marks })) c.put.ensures.put).leaves.view in
-    still_of c.args.worker.now _ _ c.requires.of (c.put.ensures.token ∙ (c.take-held.ensures.of.token ∙ sym c.requires.of.token)) c.take-held.ensures.poster (record { terms = ap (λ v. v.terms) view; root = ap (λ v. v.root) view; children = ap (λ v. v.children) view })
+returns-clause-of g c = still_of c.args.worker.now _ _ c.requires.of (c.put.ensures.token ∙ (c.take-held.ensures.of.token ∙ sym c.requires.of.token)) c.take-held.ensures.poster (kin_of _ _ _ _ _ _ _ c.take-held.ensures.got.view c.put.ensures.put.view)
