@@ -154,6 +154,7 @@ impl<
         if let Some(held) = self.token.try_get(&mut worker.pass) {
             return held;
         }
+        self.turns.tell_delayed();
         self.wanted.fetch_add(1, Ordering::SeqCst);
         self.waker.wake();
         let held = self.token.get(rt, &mut worker.pass);
@@ -233,8 +234,8 @@ impl<
         if !counted {
             return;
         }
-        if self.turns.is_asked() {
-            self.turns.tell(started && desk.has_next());
+        if started && self.turns.is_asked() && desk.has_next() {
+            self.turns.tell_waiting();
         }
         self.turns.end();
     }

@@ -4,7 +4,7 @@ use std::sync::Wait;
 use std::sync::atomic::{AtomicBool, AtomicU64, Ordering};
 use std::time::Duration;
 
-/// How many microseconds a follower dozes before it looks again: so long may an event wait behind an upcall that lasts.
+/// How many microseconds a follower dozes before it looks again: for two dozes an event may wait behind an upcall that lasts.
 const DOZE: u64 = 500;
 
 /// How many microseconds a doze takes, with what the system takes to wake the follower.
@@ -12,7 +12,7 @@ const DOZED: u64 = 560;
 
 /// How many microseconds a worker takes at least from one turn to the next, where another one helps: with less the hand-over of the token costs more
 /// than is gained.
-const WORTH: u64 = 15;
+const WORTH: u64 = 5;
 
 /// The turns of the workers that make their loops. A worker that comes back from its upcall settles it and leads on, so that where upcalls are
 /// short those who are at it go on alone: a follower who led would only wait at the net, and have to be woken there for the next settling.
@@ -29,9 +29,10 @@ pub(crate) struct Turns {
     asleep: AtomicBool,
     // What a follower dozes on. It stays 0.
     doze: AtomicU64,
-    // Whether a follower asks if upcalls wait, and what the last turn since then told.
+    // Whether a follower asks for what the turns are like; and of those since then, how many left upcalls waiting, and how many waited for the token.
     asked: AtomicBool,
-    ready: AtomicBool,
+    waiting: AtomicU64,
+    delayed: AtomicU64,
 }
 
 impl Turns {
@@ -44,7 +45,8 @@ impl Turns {
             asleep: AtomicBool::new(false),
             doze: AtomicU64::new(0),
             asked: AtomicBool::new(false),
-            ready: AtomicBool::new(false),
+            waiting: AtomicU64::new(0),
+            delayed: AtomicU64::new(0),
         }
     }
 
@@ -90,14 +92,21 @@ impl Turns {
         counted
     }
 
-    // Whether a follower asks if upcalls wait.
+    // Whether a follower asks what the turns are like.
     pub(crate) fn is_asked(&self) -> bool {
         self.asked.load(Ordering::SeqCst)
     }
 
-    // Tells a follower whether upcalls wait.
-    pub(crate) fn tell(&self, ready: bool) {
-        self.ready.store(ready, Ordering::SeqCst);
+    // Tells a follower that a turn left upcalls that wait.
+    pub(crate) fn tell_waiting(&self) {
+        self.waiting.fetch_add(1, Ordering::SeqCst);
+    }
+
+    // Tells a follower, where one asks, that the token was held where a worker came to settle.
+    pub(crate) fn tell_delayed(&self) {
+        if self.is_asked() {
+            self.delayed.fetch_add(1, Ordering::SeqCst);
+        }
     }
 
     // A counted turn ends.
@@ -134,11 +143,14 @@ impl Turns {
         }
     }
 
-    // Whether one more worker helps, where so many turns ended in a doze: where upcalls are not short, and some wait.
+    // Whether one more worker helps, where so many turns ended in a doze: where upcalls are not short, most turns leave some that wait, and at most one in eight
+    // finds the token held. Else those who are at it wait for events themselves, or for what is done under the token, as a write.
     fn is_wanted(&self, turns: u64) -> bool {
         let helps = turns.saturating_mul(WORTH) <= self.active().saturating_mul(DOZED);
+        let waiting = self.waiting.swap(0, Ordering::SeqCst).saturating_mul(2);
+        let delayed = self.delayed.swap(0, Ordering::SeqCst).saturating_mul(8);
         let asked = self.asked.swap(helps, Ordering::SeqCst);
-        helps && asked && self.ready.load(Ordering::SeqCst)
+        helps && asked && turns < waiting && delayed <= turns
     }
 
     // Sleeps until the turn ends that began when the count was this.
