@@ -9,7 +9,7 @@ use std::test::Fail;
 
 /// The worked journals: of one connection; of an acceptor and one connection; of a connection that is refused; of a run that ends by a
 /// notice; of a connection that is idle. Each with the number of its first line.
-const JOURNALS: [(u64, &str); 5] = [
+const JOURNALS: &[(u64, &str)] = &[
     (
         1,
         "most 1\nopened 0 r--\npolled 0\nready 0 read\nstarted 2\nreturned 2 again piece 0 30 1 4:7:1:2:6869\nstarted 4\nreturned 4 close piece 0 0 0\nclosed 0 end 0 end\npolled 0\nended\n",
@@ -32,8 +32,8 @@ const JOURNALS: [(u64, &str); 5] = [
     ),
 ];
 
-/// Texts, each with the number of its first bad line, or 0 where it is a journal's.
-const TEXTS: [(&str, u64); 116] = [
+/// Texts of first lines and of the ends of lines, each with the number of its first bad line, or 0 where it is a journal's.
+const FIRST_LINES: &[(&str, u64)] = &[
     ("", 1),
     ("\n", 1),
     ("most 1", 1),
@@ -60,6 +60,10 @@ const TEXTS: [(&str, u64); 116] = [
     ("most 1\nended\n\n", 3),
     ("most 1\npolled 0\nx\nended\n", 3),
     ("most 1\nx\ny\n", 2),
+];
+
+/// The same of entries without pieces.
+const ENTRIES: &[(&str, u64)] = &[
     ("most 1\npolled 18446744073709551615\n", 0),
     ("most 1\npolled 18446744073709551616\n", 2),
     ("most 1\npolled 99999999999999999999\n", 2),
@@ -120,6 +124,10 @@ const TEXTS: [(&str, u64); 116] = [
     ("most 1\nclosed 0 end 0 partial\n", 2),
     ("most 1\nclosed 0 end 0 partial:1:\n", 2),
     ("most 1\nclosed 0 end 0\n", 2),
+];
+
+/// The same of pieces.
+const PIECES: &[(&str, u64)] = &[
     ("most 1\nreturned 0 keep piece 0 30 1 4:7:1:2:6869\n", 0),
     ("most 1\nreturned 0 keep piece 0 30 1 4:7:1:2:\n", 0),
     ("most 1\nreturned 0 keep piece 0 30 0\n", 0),
@@ -179,39 +187,36 @@ const TEXTS: [(&str, u64); 116] = [
     ("most 1\nreturned 0 keep piece 0 30 1 LM_DEBUG:7:1:2:\n", 2),
 ];
 
-/// What a reader answered: the number of the bad line, or 0 for a journal.
-fn bad_line(read: Result<(u64, Journal<ServerNote>), JournalRefused>) -> u64 {
-    match read {
+/// What a reader answers of a text: the number of the bad line, or 0 for a journal.
+fn bad_line(alloc: Global, text: &[u8]) -> u64 {
+    match read_journal(alloc, text) {
         Ok(_) => 0,
         Err(JournalRefused::BadLine { line }) => line,
         Err(JournalRefused::NoMemory) => u64::MAX,
     }
 }
 
-/// What is written of the journal that a text spells.
-fn written_again(alloc: Global, text: &[u8]) -> Result<MemSink, Fail> {
-    let (most, journal) = read_journal(alloc, text).map_err(|_| Fail::from("not read"))?;
+/// Whether a journal of at most so many handlers is written as this text.
+fn is_written(journal: &Journal<ServerNote>, most: u64, text: &[u8], sink: &mut MemSink) -> bool {
+    write_journal(most, journal, sink).is_ok() && sink.bytes() == text
+}
+
+/// Whether a text spells a journal with this number in its first line, and the journal is written as it.
+fn is_written_again(alloc: Global, number: u64, text: &[u8]) -> Result<bool, Fail> {
     let mut sink = MemSink::new(alloc, 1_024, None).map_err(|_| Fail::from("no room"))?;
-    write_journal(most, &journal, &mut sink).map_err(|_| Fail::from("not written"))?;
-    Ok(sink)
+    match read_journal(alloc, text) {
+        Ok((most, journal)) => Ok(is_written(&journal, most, text, &mut sink) && most == number),
+        Err(_) => Err(Fail::from("not read")),
+    }
 }
 
 #[test]
 fn journals_are_written_as_they_were_read(rt: HostRuntime) -> Result<(), Fail> {
-    for (_, text) in JOURNALS {
-        let sink = written_again(rt.alloc(), text.as_bytes())?;
-        assert_eq!(rt; sink.bytes(), text.as_bytes());
-    }
-    Ok(())
-}
-
-#[test]
-fn the_first_line_is_told(rt: HostRuntime) -> Result<(), Fail> {
     for (most, text) in JOURNALS {
-        match read_journal(rt.alloc(), text.as_bytes()) {
-            Ok((read, _)) => assert_eq!(rt; read, most),
-            Err(_) => return Err(Fail::from("not read")),
-        }
+        assert!(rt;
+            is_written_again(rt.alloc(), *most, text.as_bytes())?,
+            "in {text:?}"
+        );
     }
     Ok(())
 }
@@ -224,29 +229,33 @@ fn unfinished(text: &[u8]) -> u64 {
     }
 }
 
+/// Whether each front of a text is bad at its unfinished line.
+fn are_fronts_bad(alloc: Global, text: &[u8]) -> bool {
+    let mut are_bad = true;
+    for at in 0..text.len() {
+        let front = &text[..at];
+        are_bad &= bad_line(alloc, front) == unfinished(front);
+    }
+    are_bad
+}
+
 #[test]
 fn a_front_is_bad_at_its_unfinished_line(rt: HostRuntime) -> Result<(), Fail> {
     for (_, text) in JOURNALS {
-        let bytes = text.as_bytes();
-        for at in 0..bytes.len() {
-            let front = &bytes[..at];
-            assert_eq!(rt;
-                bad_line(read_journal(rt.alloc(), front)),
-                unfinished(front)
-            );
-        }
+        assert!(rt; are_fronts_bad(rt.alloc(), text.as_bytes()), "in {text:?}");
     }
     Ok(())
 }
 
 #[test]
 fn the_first_bad_line_is_named(rt: HostRuntime) -> Result<(), Fail> {
-    for (text, line) in TEXTS {
-        assert_eq!(rt;
-            bad_line(read_journal(rt.alloc(), text.as_bytes())),
-            line,
-            "in {text:?}"
-        );
+    for texts in [FIRST_LINES, ENTRIES, PIECES] {
+        for (text, line) in texts {
+            assert!(rt;
+                bad_line(rt.alloc(), text.as_bytes()) == *line,
+                "in {text:?}"
+            );
+        }
     }
     Ok(())
 }
@@ -261,20 +270,30 @@ fn with_digits(alloc: Global, digits: usize) -> Result<Vec<u8>, Fail> {
     Ok(text)
 }
 
+/// The bad line of a journal with one message of so many digits.
+fn bad_line_of(alloc: Global, digits: usize) -> Result<u64, Fail> {
+    let text = with_digits(alloc, digits)?;
+    Ok(bad_line(alloc, text.as_slice()))
+}
+
 #[test]
 fn messages_have_a_limit(rt: HostRuntime) -> Result<(), Fail> {
     for (digits, line) in [(131_072, 0), (131_073, 2), (131_074, 2)] {
-        let text = with_digits(rt.alloc(), digits)?;
-        assert_eq!(rt; bad_line(read_journal(rt.alloc(), text.as_slice())), line);
+        assert!(rt; bad_line_of(rt.alloc(), digits)? == line, "{digits} digits");
     }
     Ok(())
 }
 
+/// Whether the write of a journal that finds no room fails, and leaves its front.
+fn leaves_a_front(alloc: Global) -> Result<bool, Fail> {
+    let journal = Journal::new(alloc);
+    let mut sink = MemSink::new(alloc, 9, None).map_err(|_| Fail::from("no room"))?;
+    let has_failed = write_journal(4_098, &journal, &mut sink).is_err();
+    Ok(has_failed && sink.bytes() == b"most 4098".as_slice())
+}
+
 #[test]
 fn a_failed_write_leaves_a_front(rt: HostRuntime) -> Result<(), Fail> {
-    let mut sink = MemSink::new(rt.alloc(), 9, None).map_err(|_| Fail::from("no room"))?;
-    let journal: Journal<ServerNote> = Journal::new(rt.alloc());
-    assert!(rt; write_journal(4_098, &journal, &mut sink).is_err());
-    assert_eq!(rt; sink.bytes(), b"most 4098".as_slice());
+    assert!(rt; leaves_a_front(rt.alloc())?);
     Ok(())
 }
