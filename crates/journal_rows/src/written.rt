@@ -45,155 +45,199 @@ fn one_record(alloc: Global) -> Result<Records, Fail> {
     Ok(Records::new(items))
 }
 
-#[test]
-fn the_journal_of_one_connection(rt: HostRuntime) -> Result<(), Fail> {
-    let alloc = rt.alloc();
-    let entries: [Entry<ServerNote>; 10] = [
-        Entry::Opened {
-            handle: Handle(0),
-            mask: READ,
-        },
-        Entry::Polled { now: 0 },
-        Entry::Ready {
-            handle: Handle(0),
-            kind: Kind::Read,
-        },
-        Entry::Started { event: 2 },
-        Entry::Returned {
-            event: 2,
-            answer: Answer::Again,
-            note: piece(alloc, 30, one_record(alloc)?)?,
-        },
-        Entry::Started { event: 4 },
-        Entry::Returned {
-            event: 4,
-            answer: Answer::Close,
-            note: piece(alloc, 0, Records::new(Vec::new(alloc)))?,
-        },
-        Entry::Closed {
-            handle: Handle(0),
-            note: ServerNote::Finished {
-                conn: 0,
-                end: EndKind::End,
-            },
-        },
-        Entry::Polled { now: 0 },
-        Entry::Ended,
-    ];
-    let mut watch = watch(alloc, 4_096)?;
-    for entry in &entries {
-        watch.saw(entry);
+/// A note of these rows.
+#[derive(Clone, Copy)]
+enum Note {
+    /// A piece of 30 bytes with the record of the worked run.
+    OneRecord,
+    /// A piece without bytes.
+    NoBytes,
+    NoneWaiting,
+    Shut,
+    Finished(u64, EndKind),
+}
+
+impl Note {
+    fn made(self, alloc: Global) -> Result<ServerNote, Fail> {
+        match self {
+            Note::OneRecord => piece(alloc, 30, one_record(alloc)?),
+            Note::NoBytes => piece(alloc, 0, Records::new(Vec::new(alloc))),
+            Note::NoneWaiting => Ok(ServerNote::NoneWaiting),
+            Note::Shut => Ok(ServerNote::ListenerShut),
+            Note::Finished(conn, end) => Ok(ServerNote::Finished { conn, end }),
+        }
     }
-    assert!(rt; !watch.broken());
-    let written = watch.into_output();
-    let text =
-        b"most 1\nopened 0 r--\npolled 0\nready 0 read\nstarted 2\nreturned 2 again piece 0 30 1 4:7:1:2:6869\nstarted 4\nreturned 4 close piece 0 0 0\nclosed 0 end 0 end\npolled 0\nended\n";
-    assert_eq!(rt; written.bytes(), text.as_slice());
+}
+
+/// An entry of these rows, with its fields in their order. What is posted is of the kind except, and what is refused is no fault.
+#[derive(Clone, Copy)]
+enum Step {
+    Opened(Handle, Mask),
+    Scheduled(u64, Handle, u64, u64),
+    Cancelled(u64),
+    Polled(u64),
+    Due(u64),
+    Ready(Handle, Kind),
+    Posted(Handle, u64, u64),
+    Stale(Handle, u64, u64),
+    Started(u64),
+    Returned(u64, Answer, Note),
+    Masked(Handle, Mask),
+    Suspended(Handle),
+    Resumed(Handle),
+    Refused(u64, Note),
+    Removed(Handle),
+    Closed(Handle, Note),
+    Ended,
+}
+
+use self::Step::*;
+
+/// An entry of a posted notice.
+fn posted(handle: Handle, from: u64, seq: u64) -> Entry<ServerNote> {
+    Entry::Posted {
+        handle,
+        kind: Kind::Except,
+        from,
+        seq,
+    }
+}
+
+impl Step {
+    fn entry(self, alloc: Global) -> Result<Entry<ServerNote>, Fail> {
+        Ok(match self {
+            Opened(handle, mask) => Entry::Opened { handle, mask },
+            Scheduled(timer, handle, first, every) => Entry::Scheduled {
+                timer,
+                handle,
+                first,
+                every,
+            },
+            Cancelled(timer) => Entry::Cancelled { timer },
+            Polled(now) => Entry::Polled { now },
+            Due(timer) => Entry::Due { timer },
+            Ready(handle, kind) => Entry::Ready { handle, kind },
+            Posted(handle, from, seq) => posted(handle, from, seq),
+            Stale(handle, from, seq) => Entry::Stale { handle, from, seq },
+            Started(event) => Entry::Started { event },
+            Returned(event, answer, note) => Entry::Returned {
+                event,
+                answer,
+                note: note.made(alloc)?,
+            },
+            Masked(handle, mask) => Entry::Masked { handle, mask },
+            Suspended(handle) => Entry::Suspended { handle },
+            Resumed(handle) => Entry::Resumed { handle },
+            Refused(live, note) => Entry::Refused {
+                live,
+                fault: false,
+                note: note.made(alloc)?,
+            },
+            Removed(handle) => Entry::Removed { handle },
+            Closed(handle, note) => Entry::Closed {
+                handle,
+                note: note.made(alloc)?,
+            },
+            Ended => Entry::Ended,
+        })
+    }
+}
+
+/// Appends entries.
+fn see(alloc: Global, watch: &mut JournalSink<MemSink>, steps: &[Step]) -> Result<(), Fail> {
+    for step in steps {
+        let entry = step.entry(alloc)?;
+        watch.saw(&entry);
+    }
     Ok(())
 }
 
+/// Whether a watch over a sink with room for so many bytes is broken behind these entries, and has written this.
+fn writes(
+    alloc: Global,
+    room: usize,
+    steps: &[Step],
+    text: &[u8],
+    is_broken: bool,
+) -> Result<bool, Fail> {
+    let mut watch = watch(alloc, room)?;
+    see(alloc, &mut watch, steps)?;
+    let is_well = watch.broken() == is_broken;
+    let written = watch.into_output();
+    Ok(written.bytes() == text && is_well)
+}
+
+const FIRST: Handle = Handle(0);
+
+/// The worked run.
+const ONE_CONNECTION: &[Step] = &[
+    Opened(FIRST, READ),
+    Polled(0),
+    Ready(FIRST, Kind::Read),
+    Started(2),
+    Returned(2, Answer::Again, Note::OneRecord),
+    Started(4),
+    Returned(4, Answer::Close, Note::NoBytes),
+    Closed(FIRST, Note::Finished(0, EndKind::End)),
+    Polled(0),
+    Ended,
+];
+
+/// Its text.
+const WRITTEN: &[u8] =
+    b"most 1\nopened 0 r--\npolled 0\nready 0 read\nstarted 2\nreturned 2 again piece 0 30 1 4:7:1:2:6869\nstarted 4\nreturned 4 close piece 0 0 0\nclosed 0 end 0 end\npolled 0\nended\n";
+
+#[test]
+fn the_journal_of_one_connection(rt: HostRuntime) -> Result<(), Fail> {
+    assert!(rt; writes(rt.alloc(), 4_096, ONE_CONNECTION, WRITTEN, false)?);
+    Ok(())
+}
+
+const FOURTH: Handle = Handle(3);
+
+const NOT_READ: Mask = Mask {
+    read: false,
+    write: true,
+    except: true,
+};
+
+/// Entries with their lines, behind the first line.
+const LINES: &[(Step, &[u8])] = &[
+    (Scheduled(1, FOURTH, 20, 0), b"most 1\nscheduled 1 3 20 0\n"),
+    (Cancelled(1), b"most 1\ncancelled 1\n"),
+    (Due(1), b"most 1\ndue 1\n"),
+    (Posted(FOURTH, 2, 5), b"most 1\nposted 3 except 2 5\n"),
+    (Stale(FOURTH, 2, 5), b"most 1\nstale 3 2 5\n"),
+    (Masked(FOURTH, NOT_READ), b"most 1\nmasked 3 -we\n"),
+    (Suspended(FOURTH), b"most 1\nsuspended 3\n"),
+    (Resumed(FOURTH), b"most 1\nresumed 3\n"),
+    (
+        Refused(2, Note::Finished(1, EndKind::Refused)),
+        b"most 1\nrefused 2 no end 1 refused\n",
+    ),
+    (Removed(FOURTH), b"most 1\nremoved 3\n"),
+    (Closed(FOURTH, Note::Shut), b"most 1\nclosed 3 shut\n"),
+    (
+        Closed(FOURTH, Note::Finished(1, EndKind::Partial(12))),
+        b"most 1\nclosed 3 end 1 partial:12\n",
+    ),
+    (
+        Returned(9, Answer::Keep, Note::NoneWaiting),
+        b"most 1\nreturned 9 keep none\n",
+    ),
+];
+
 #[test]
 fn a_line_for_each_entry(rt: HostRuntime) -> Result<(), Fail> {
-    let alloc = rt.alloc();
-    let handle = Handle(3);
-    let note = ServerNote::NoneWaiting;
-    let table: [(Entry<ServerNote>, &[u8]); 13] = [
-        (
-            Entry::Scheduled {
-                timer: 1,
-                handle,
-                first: 20,
-                every: 0,
-            },
-            b"scheduled 1 3 20 0\n",
-        ),
-        (Entry::Cancelled { timer: 1 }, b"cancelled 1\n"),
-        (Entry::Due { timer: 1 }, b"due 1\n"),
-        (
-            Entry::Posted {
-                handle,
-                kind: Kind::Except,
-                from: 2,
-                seq: 5,
-            },
-            b"posted 3 except 2 5\n",
-        ),
-        (
-            Entry::Stale {
-                handle,
-                from: 2,
-                seq: 5,
-            },
-            b"stale 3 2 5\n",
-        ),
-        (
-            Entry::Masked {
-                handle,
-                mask: Mask {
-                    read: false,
-                    write: true,
-                    except: true,
-                },
-            },
-            b"masked 3 -we\n",
-        ),
-        (Entry::Suspended { handle }, b"suspended 3\n"),
-        (Entry::Resumed { handle }, b"resumed 3\n"),
-        (
-            Entry::Refused {
-                live: 2,
-                fault: false,
-                note: ServerNote::Finished {
-                    conn: 1,
-                    end: EndKind::Refused,
-                },
-            },
-            b"refused 2 no end 1 refused\n",
-        ),
-        (Entry::Removed { handle }, b"removed 3\n"),
-        (
-            Entry::Closed {
-                handle,
-                note: ServerNote::ListenerShut,
-            },
-            b"closed 3 shut\n",
-        ),
-        (
-            Entry::Closed {
-                handle,
-                note: ServerNote::Finished {
-                    conn: 1,
-                    end: EndKind::Partial(12),
-                },
-            },
-            b"closed 3 end 1 partial:12\n",
-        ),
-        (
-            Entry::Returned {
-                event: 9,
-                answer: Answer::Keep,
-                note,
-            },
-            b"returned 9 keep none\n",
-        ),
-    ];
-    for (entry, line) in table {
-        let mut watch = watch(alloc, 64)?;
-        watch.saw(&entry);
-        let written = watch.into_output();
-        assert_eq!(rt; written.bytes().strip_prefix(b"most 1\n"), Some(line));
+    for (at, (step, text)) in LINES.iter().enumerate() {
+        assert!(rt; writes(rt.alloc(), 64, &[*step], text, false)?, "row {at}");
     }
     Ok(())
 }
 
 #[test]
 fn nothing_is_written_behind_a_failure(rt: HostRuntime) -> Result<(), Fail> {
-    let mut watch = watch(rt.alloc(), 12)?;
-    let entry: Entry<ServerNote> = Entry::Polled { now: 7 };
-    for _ in 0..3 {
-        watch.saw(&entry);
-    }
-    assert!(rt; watch.broken());
-    assert_eq!(rt; watch.into_output().bytes(), b"most 1\npolle".as_slice());
+    let steps = [Polled(7), Polled(7), Polled(7)];
+    assert!(rt; writes(rt.alloc(), 12, &steps, b"most 1\npolle", true)?);
     Ok(())
 }
