@@ -8,53 +8,47 @@ use std::test::Fail;
 /// An entry of these rows. All that is opened wants to read, all that is ready can be read, and all that is posted comes of one poster.
 #[derive(Clone, Copy)]
 enum Step {
-    Opened(u64),
+    Opened(Handle),
     /// A timer with its handle, its first deadline and its period.
-    Scheduled(u64, u64, u64, u64),
+    Scheduled(u64, Handle, u64, u64),
     Cancelled(u64),
     Polled(u64),
     Due(u64),
-    Ready(u64),
-    Posted(u64),
+    Ready(Handle),
+    Posted(Handle),
     Started(u64),
     Returned(u64, Answer),
     Refused(u64),
-    Removed(u64),
-    Closed(u64),
+    Removed(Handle),
+    Closed(Handle),
     Ended,
 }
 
 use self::Step::*;
 
+const READS: Mask = Mask {
+    read: true,
+    write: false,
+    except: false,
+};
+
 impl Step {
     fn entry(self) -> Entry<u64> {
+        let (mask, kind) = (READS, Kind::Read);
         match self {
-            Opened(handle) => {
-                let mask = Mask {
-                    read: true,
-                    write: false,
-                    except: false,
-                };
-                Entry::Opened {
-                    handle: Handle(handle),
-                    mask,
-                }
-            }
+            Opened(handle) => Entry::Opened { handle, mask },
             Scheduled(timer, handle, first, every) => Entry::Scheduled {
                 timer,
-                handle: Handle(handle),
+                handle,
                 first,
                 every,
             },
             Cancelled(timer) => Entry::Cancelled { timer },
             Polled(now) => Entry::Polled { now },
             Due(timer) => Entry::Due { timer },
-            Ready(handle) => Entry::Ready {
-                handle: Handle(handle),
-                kind: Kind::Read,
-            },
+            Ready(handle) => Entry::Ready { handle, kind },
             Posted(handle) => Entry::Posted {
-                handle: Handle(handle),
+                handle,
                 kind: Kind::Except,
                 from: 0,
                 seq: 0,
@@ -70,67 +64,69 @@ impl Step {
                 fault: false,
                 note: 0,
             },
-            Removed(handle) => Entry::Removed {
-                handle: Handle(handle),
-            },
+            Removed(handle) => Entry::Removed { handle },
             Closed(handle) => Entry::Closed {
-                handle: Handle(handle),
-                note: handle,
+                handle,
+                note: handle.0,
             },
             Ended => Entry::Ended,
         }
     }
 }
 
+const FIRST: Handle = Handle(0);
+
+const SECOND: Handle = Handle(1);
+
 /// One connection that sends one record and ends.
 const ONE_CONNECTION: &[Step] = &[
-    Opened(0),
+    Opened(FIRST),
     Polled(0),
-    Ready(0),
+    Ready(FIRST),
     Started(2),
     Returned(2, Answer::Again),
     Started(4),
     Returned(4, Answer::Close),
-    Closed(0),
+    Closed(FIRST),
     Polled(0),
     Ended,
 ];
 
 /// A listener, and a connection that it accepts.
 const ONE_ACCEPTED: &[Step] = &[
-    Opened(0),
+    Opened(FIRST),
     Polled(0),
-    Ready(0),
+    Ready(FIRST),
     Started(2),
     Returned(2, Answer::Again),
-    Opened(1),
+    Opened(SECOND),
     Started(4),
     Returned(4, Answer::Keep),
     Polled(0),
-    Ready(1),
-    Ready(1),
+    Ready(SECOND),
+    Ready(SECOND),
     Started(9),
     Returned(9, Answer::Again),
     Started(10),
     Returned(10, Answer::Keep),
     Started(12),
     Returned(12, Answer::Close),
-    Closed(1),
+    Closed(SECOND),
     Polled(0),
     Ended,
-    Removed(0),
-    Closed(0),
+    Removed(FIRST),
+    Closed(FIRST),
 ];
 
 /// A connection that is refused, since two handles are live.
 const ONE_REFUSED: &[Step] = &[
-    Opened(0),
+    Opened(FIRST),
     Polled(0),
-    Ready(0),
-    Ready(0),
+    Ready(FIRST),
+    Ready(FIRST),
     Started(2),
     Returned(2, Answer::Again),
-    Opened(1),
+    Opened(SECOND),
     Started(3),
     Returned(3, Answer::Keep),
     Started(5),
@@ -139,75 +135,75 @@ const ONE_REFUSED: &[Step] = &[
     Started(10),
     Returned(10, Answer::Keep),
     Polled(0),
-    Ready(1),
+    Ready(SECOND),
     Started(15),
     Returned(15, Answer::Close),
-    Closed(1),
+    Closed(SECOND),
     Polled(0),
     Ended,
-    Removed(0),
-    Closed(0),
+    Removed(FIRST),
+    Closed(FIRST),
 ];
 
 /// A run that a notification ends.
 const ONE_NOTIFIED: &[Step] = &[
-    Opened(0),
+    Opened(FIRST),
     Polled(0),
-    Ready(0),
+    Ready(FIRST),
     Started(2),
     Returned(2, Answer::Again),
-    Opened(1),
+    Opened(SECOND),
     Started(4),
     Returned(4, Answer::Keep),
     Polled(0),
-    Ready(1),
+    Ready(SECOND),
     Started(9),
     Returned(9, Answer::Close),
-    Closed(1),
-    Posted(0),
+    Closed(SECOND),
+    Posted(FIRST),
     Started(13),
     Returned(13, Answer::Keep),
     Ended,
-    Removed(0),
-    Closed(0),
+    Removed(FIRST),
+    Closed(FIRST),
 ];
 
 /// A connection that is closed when it was idle too long.
 const ONE_IDLE: &[Step] = &[
-    Opened(0),
+    Opened(FIRST),
     Polled(0),
-    Ready(0),
+    Ready(FIRST),
     Started(2),
     Returned(2, Answer::Again),
-    Opened(1),
-    Scheduled(0, 1, 100, 100),
+    Opened(SECOND),
+    Scheduled(0, SECOND, 100, 100),
     Started(4),
     Returned(4, Answer::Keep),
     Polled(100),
     Due(0),
-    Ready(1),
+    Ready(SECOND),
     Started(10),
     Returned(10, Answer::Close),
-    Closed(1),
+    Closed(SECOND),
     Polled(100),
     Ended,
-    Removed(0),
-    Closed(0),
+    Removed(FIRST),
+    Closed(FIRST),
 ];
 
 /// An upcall is started twice.
 const STARTED_TWICE: &[Step] = &[
-    Opened(0),
+    Opened(FIRST),
     Polled(0),
-    Ready(0),
+    Ready(FIRST),
     Started(2),
     Returned(2, Answer::Again),
-    Opened(1),
+    Opened(SECOND),
     Started(4),
     Returned(4, Answer::Keep),
     Polled(0),
-    Ready(1),
-    Ready(1),
+    Ready(SECOND),
+    Ready(SECOND),
     Started(9),
     Started(9),
     Returned(9, Answer::Again),
@@ -215,11 +211,11 @@ const STARTED_TWICE: &[Step] = &[
 
 /// Two handlers are called at once.
 const AT_ONCE: &[Step] = &[
-    Opened(0),
-    Opened(1),
+    Opened(FIRST),
+    Opened(SECOND),
     Polled(0),
-    Ready(0),
-    Ready(1),
+    Ready(FIRST),
+    Ready(SECOND),
     Started(3),
     Started(4),
     Returned(4, Answer::Keep),
@@ -228,8 +224,8 @@ const AT_ONCE: &[Step] = &[
 
 /// A deadline beyond 64 bits stays armed and never comes due.
 const LATE: &[Step] = &[
-    Opened(0),
-    Scheduled(0, 0, u64::MAX, u64::MAX),
+    Opened(FIRST),
+    Scheduled(0, FIRST, u64::MAX, u64::MAX),
     Polled(u64::MAX),
     Due(0),
     Started(3),
@@ -241,8 +237,8 @@ const LATE: &[Step] = &[
 
 /// A timer is armed again at the least deadline above now.
 const CATCHES_UP: &[Step] = &[
-    Opened(0),
-    Scheduled(0, 0, 10, 10),
+    Opened(FIRST),
+    Scheduled(0, FIRST, 10, 10),
     Polled(35),
     Due(0),
     Started(3),
@@ -269,24 +265,24 @@ const JOURNALS: &[(&[Step], u64, Option<u64>)] = &[
 
 /// Journals of which the entry at a place is changed, and the place of the first entry that is illegal then.
 const CHANGED: &[(&[Step], u64, usize, Step, u64)] = &[
-    (ONE_CONNECTION, 1, 0, Opened(1), 0),
-    (ONE_CONNECTION, 1, 2, Ready(1), 2),
+    (ONE_CONNECTION, 1, 0, Opened(SECOND), 0),
+    (ONE_CONNECTION, 1, 2, Ready(SECOND), 2),
     (ONE_CONNECTION, 1, 3, Started(1), 3),
     (ONE_CONNECTION, 1, 4, Returned(3, Answer::Again), 4),
     (ONE_CONNECTION, 1, 4, Returned(2, Answer::Keep), 5),
     (ONE_CONNECTION, 1, 4, Returned(2, Answer::Close), 5),
-    (ONE_CONNECTION, 1, 5, Posted(1), 5),
+    (ONE_CONNECTION, 1, 5, Posted(SECOND), 5),
     (ONE_CONNECTION, 1, 6, Returned(4, Answer::Keep), 7),
-    (ONE_CONNECTION, 1, 7, Closed(1), 7),
+    (ONE_CONNECTION, 1, 7, Closed(SECOND), 7),
     (ONE_CONNECTION, 1, 7, Polled(0), 7),
-    (ONE_CONNECTION, 1, 8, Posted(0), 8),
-    (ONE_CONNECTION, 1, 8, Closed(0), 8),
+    (ONE_CONNECTION, 1, 8, Posted(FIRST), 8),
+    (ONE_CONNECTION, 1, 8, Closed(FIRST), 8),
     // behind the end
     (ONE_ACCEPTED, 1001, 20, Polled(0), 20),
     // before the timer's deadline
     (ONE_IDLE, 1001, 9, Polled(99), 10),
     // before what the timer is due
-    (ONE_IDLE, 1001, 10, Ready(1), 10),
+    (ONE_IDLE, 1001, 10, Ready(SECOND), 10),
     // input before the timeout
     (ONE_IDLE, 1001, 12, Started(11), 12),
 ];
