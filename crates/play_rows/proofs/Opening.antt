@@ -1,14 +1,10 @@
--- That a reactor may be made of a net that made no call, and served once the acceptor was offered to it.
-use Rattle.std.proofs.Common.{◌≡◌, ℕ, List, [], refl, Option}
+-- That a reactor may be served once the acceptor was offered to it.
+use Rattle.std.proofs.Common.{ℕ, List, Option}
 use Rattle.std.specs.Prelude.{Result, Ok, Err}
 use Rattle.ev_types.specs.declared.upcall.Handle.{Handle}
 use Rattle.ev_types.specs.declared.upcall.Mask.{Mask}
-use Rattle.ev_base.specs.Net.{NetFacts, IsNew}
-use Rattle.ev_base.specs.Terms.{Terms, open_terms}
-use Rattle.timer_queue.specs.declared.timer.Timer.{Timer}
+use Rattle.ev_base.specs.Terms.{Terms}
 use Rattle.reactor_journal.specs.declared.entry.Entry.{Entry}
-use Rattle.reactor_model.specs.Volumes.{tells_nothing}
-use Rattle.reactor_core.specs.Beginning.{CanBegin}
 use Rattle.reactor_core.specs.Offering.{RegisterGives}
 use Rattle.reactor_core.specs.Registering.{registered}
 use Rattle.reactor_core.specs.Stands.{Meaning}
@@ -18,10 +14,6 @@ use Rattle.reactor_core.specs.declared.registering.RegisterRefused.TheVariants.{
 use Rattle.run_rows.specs.Running.{NoneOpen, GoesOn}
 use Rattle.run_rows.proofs.Keeping.{sum, keeps_registered}
 use Rattle.run_rows.proofs.Serving.{goes_same, goes_keeping}
-
-pub begins : {N E : Type 0} (net : NetFacts E) (net_keeps : Type 0) (timers : List Timer) (watch : Type 0) (most : ℕ) → IsNew net → net_keeps → timers ≡ [] → watch
-    → CanBegin {N = N} net net_keeps timers watch tells_nothing (open_terms most) most
-begins net net_keeps timers watch most fresh keeps none seen = record { terms = refl; fresh = fresh; steady = λ q. cc; keeps = keeps; no_timers = none; seen = seen; taken = tt }
 
 -- no upcall is on its way behind a registration, whether the handler was taken or not
 pub offered : {H M Q W V N E : Type 0} (m : Meaning H M Q W V N E) (t : Terms) (F : ℕ) (h : List (Entry N)) (mask : Mask) (timer : Option (ℕ × ℕ)) (old new : Core H M Q W V N E) (result : Result Handle (H × RegisterRefused)) → NoneOpen h

@@ -1,17 +1,19 @@
 //! How a script is played: on a reactor of its own, with the acceptor.
-ghost use Rattle.std.specs.Prelude.{◌≡◌, ◌≤◌, ℕ, List, [], IfOk, true};
+ghost use Rattle.std.specs.Prelude.{◌≡◌, ◌≤◌, ℕ, List, [], IfOk, None, true};
+ghost use Rattle.ev_base.specs.Net.{IsNew};
 ghost use Rattle.ev_base.specs.Host.{GivesListener};
 ghost use Rattle.ev_base.specs.Terms.{Terms, open_terms};
 ghost use Rattle.log_handler.specs.declared.note.ServerNote.{ServerNote};
 ghost use Rattle.reactor_journal.specs.declared.entry.Entry.{Entry};
 ghost use Rattle.reactor_journal.specs.Past.{past_of};
+ghost use Rattle.reactor_core.specs.Polling.{FitsLimit};
 ghost use Rattle.reactor_core.specs.Registering.{IsOffered};
 ghost use Rattle.reactor_core.specs.Stands.{Stands, StandsWith};
 ghost use Rattle.acceptor.specs.Idle.{IsIdleTime};
 ghost use Rattle.acceptor.specs.Servers.{servers};
 ghost use Rattle.script_net.specs.NetContent.{script_net_facts, script_net_keeps};
 ghost use Rattle.script_net.specs.ScriptEnd.{script_end_facts, ScriptEndKeeps};
-ghost use Rattle.run_rows.specs.Running.{CanServe, GoesOn, NoneOpen};
+ghost use Rattle.run_rows.specs.Running.{CanServe, GoesOn, IsIdle, NoneOpen};
 
 use acceptor::{Acceptor, ServerHandler};
 use ev_base::Host;
@@ -90,6 +92,65 @@ fn register<W: Watch<ServerNote> + Drop>(
     }
 }
 
+/// Takes a reactor apart, and gives its watch.
+fn watch_of<W: Watch<ServerNote> + Drop>(core: Player<W>) -> W
+    requires { IsIdle ⟦<Player<W> as Means>⟧.m core }
+{
+    let Parts {
+        journal,
+        first: _,
+        net,
+        timers,
+        watch,
+        volumes: _,
+    } = finish(core);
+    drop(journal);
+    drop(net);
+    drop(timers);
+    watch
+}
+
+/// A reactor on which the acceptor was registered, if it was taken.
+fn registered<W: Watch<ServerNote> + Drop>(
+    core: Player<W>,
+    acceptor: ServerHandler<ScriptEnd>,
+) -> Result<Player<W>, Fail>
+    requires { StandsWith ⟦<Player<W> as Means>⟧.m
+        (λ t h. IsOffered (servers script_end_facts ScriptEndKeeps) t (past_of h) acceptor × (FitsLimit t None × NoneOpen h)) core }
+    ensures { IfOk result (λ core. CanServe ⟦<Player<W> as Means>⟧.m None core) }
+{
+    let mut core = core;
+    if register(&mut core, acceptor) {
+        return Ok(core);
+    }
+    watch_of(core);
+    Err("the acceptor was not registered".into())
+}
+
+/// A reactor over a net that made no call.
+fn begin<W: Watch<ServerNote> + Drop>(
+    alloc: Global,
+    net: ScriptNet,
+    most: u64,
+    watch: W,
+) -> Result<Player<W>, Fail>
+    requires net_new { IsNew (script_net_facts net) }
+    requires net { script_net_keeps (open_terms most) net }
+    requires least { 1 ≤ most }
+    requires greatest { most ≤ 4097 }
+    requires watch { W.stands (open_terms most) watch [] }
+    ensures { IfOk result (λ core. Stands ⟦<Player<W> as Means>⟧.m (open_terms most) core 0 []) }
+{
+    let timers = SortedTimers::new(alloc);
+    match Core::new(alloc, most, VOLUME, net, timers, watch, DropVolumes) {
+        Ok(core) => Ok(core),
+        Err(back) => {
+            drop(back);
+            Err("no memory".into())
+        }
+    }
+}
+
 /// A reactor over a net that made no call, on which the acceptor of its listener is registered.
 fn open<W: Watch<ServerNote> + Drop>(
     alloc: Global,
@@ -107,22 +168,30 @@ fn open<W: Watch<ServerNote> + Drop>(
     requires watch { W.stands (open_terms asked.most) watch [] }
     ensures { IfOk result (λ core. CanServe ⟦<Player<W> as Means>⟧.m None core) }
 {
-    let timers = SortedTimers::new(alloc);
     let taker = Acceptor::new(alloc, listener, asked.idle);
     let acceptor = ServerHandler::Listen(taker);
-    match Core::new(alloc, asked.most, VOLUME, net, timers, watch, DropVolumes) {
-        Ok(core) => {
-            let mut core = core;
-            if register(&mut core, acceptor) {
-                return Ok(core);
-            }
-            finish(core);
-            Err("the acceptor was not registered".into())
-        }
-        Err(_) => {
+    match begin(alloc, net, asked.most, watch) {
+        Ok(core) => registered(core, acceptor),
+        Err(why) => {
             acceptor.handle_close(Why::Refused);
-            Err("no memory".into())
+            Err(why)
         }
+    }
+}
+
+/// The net and the listener of a script.
+fn listen(alloc: Global, script: &str, most: u64) -> Result<(ScriptNet, ScriptEnd), Fail>
+    ensures given { IfOk result (λ given. GivesListener script_net_facts script_end_facts given) }
+    ensures net { IfOk result (λ given. script_net_keeps (open_terms most) given.0) }
+    ensures listener { IfOk result (λ given. ScriptEndKeeps (open_terms most) given.1) }
+{
+    let script = parse_script(alloc, script.as_bytes(), 0)?;
+    let mut host = ScriptHost::new(Some(script), false);
+    let given = host.listen(alloc, 7000);
+    drop(host);
+    match given {
+        Ok((net, listener, _)) => Ok((net, listener)),
+        Err(_) => Err("the host did not listen".into()),
     }
 }
 
@@ -138,40 +207,20 @@ pub(crate) fn play<W: Watch<ServerNote> + Drop>(
     if !is_fine(asked) {
         return Err("no such reactor".into());
     }
-    let script = parse_script(alloc, script.as_bytes(), 0)?;
-    let mut host = ScriptHost::new(Some(script), false);
-    match host.listen(alloc, 7000) {
-        Ok((net, listener, _)) => serve(alloc, net, listener, asked, watch),
-        Err(_) => Err("the host did not listen".into()),
-    }
+    let (net, listener) = listen(alloc, script, asked.most)?;
+    let core = open(alloc, net, listener, asked, watch)?;
+    Ok(serve(core, asked.until))
 }
 
-/// Serves what a net reports until it is over, or was stopped by a notice.
-fn serve<W: Watch<ServerNote> + Drop>(
-    alloc: Global,
-    net: ScriptNet,
-    listener: ScriptEnd,
-    asked: Asked,
-    watch: W,
-) -> Result<(Ran, W), Fail>
-    requires given { GivesListener script_net_facts script_end_facts (net, listener) }
-    requires net { script_net_keeps (open_terms asked.most) net }
-    requires listener { ScriptEndKeeps (open_terms asked.most) listener }
-    requires least { 1 ≤ asked.most }
-    requires greatest { asked.most ≤ 4097 }
-    requires idle { IsIdleTime asked.idle }
-    requires watch { W.stands (open_terms asked.most) watch [] }
+/// Serves what a net reports until it is over, or was stopped by a notice behind so many closings and refusals.
+fn serve<W: Watch<ServerNote> + Drop>(core: Player<W>, until: Option<u64>) -> (Ran, W)
+    requires { CanServe ⟦<Player<W> as Means>⟧.m None core }
 {
-    let mut core = open(alloc, net, listener, asked, watch)?;
-    let until = asked.until.map(|count| (count, Handle(0)));
+    let mut core = core;
+    let until = match until {
+        Some(count) => Some((count, Handle(0))),
+        None => None,
+    };
     let ran = run(&mut core, None, until);
-    let Parts {
-        journal: _,
-        first: _,
-        net: _,
-        timers: _,
-        watch,
-        volumes: _,
-    } = finish(core);
-    Ok((ran, watch))
+    (ran, watch_of(core))
 }
