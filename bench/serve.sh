@@ -1,8 +1,9 @@
 #!/bin/sh
 # Loads `logd serve` and a plain server on epoll that makes the same reads and writes (`plain_epoll.c`), each with 1 and with 4 workers, and checks
 # every line that they print. For each load it prints the rate of ours by that of the plain server (above 1 ours is faster), and the processor
-# time of ours by that of the plain one (below 1 ours is cheaper): of three runs the median. Behind that come loads that only ours gets: 4,096
-# connections at once, peers that send a byte a second, and 10,000 hostile streams beside an honest one. Needs rt, cc and python3.
+# time of ours by that of the plain one (below 1 ours is cheaper): the medians of nine runs of each, which take turns. Behind that come loads that
+# only ours gets: 4,096 connections at once, peers that send a byte a second, and 10,000 hostile streams beside an honest one. Needs rt, cc and
+# python3.
 root=$(cd "$(dirname "$0")/.." && pwd)
 work=$(mktemp -d) || exit 1
 trap 'rm -rf "$work"' EXIT
@@ -42,12 +43,14 @@ def ours(port, until, workers):
 def plain(port, until, workers):
     return [work + "/plain", str(port), str(until), str(workers)]
 
-def median(server, until, workers, load, groups):
-    runs = []
-    for _ in range(3):
-        port = free_port()
-        runs.append(serve(server(port, until, workers), port, load, groups))
-    return [statistics.median(of) for of in zip(*runs)]
+def medians(until, workers, load, groups):
+    """The median seconds and processor seconds of nine runs of the plain server, and of ours between them."""
+    runs = {plain: [], ours: []}
+    for _ in range(9):
+        for server, told in runs.items():
+            port = free_port()
+            told.append(serve(server(port, until, workers), port, load, groups))
+    return [[statistics.median(of) for of in zip(*told)] for told in runs.values()]
 
 LOADS = [
     ("bulk, 8 connections", 8, ["bulk", "8", "100000"], ["8x100000"]),
@@ -57,8 +60,7 @@ LOADS = [
 ]
 for name, until, load, groups in LOADS:
     for workers in (1, 2, 4) if name.startswith("bulk") else (1, 4):
-        a = median(plain, until, workers, load, groups)
-        b = median(ours, until, workers, load, groups)
+        a, b = medians(until, workers, load, groups)
         print(f"{name}, {workers} workers: rate {a[0] / b[0]:.2f}, processor {b[1] / a[1]:.2f} ({b[0]:.3f} s, {b[1]:.2f} s of processor)", flush=True)
 
 def latency(server, until, workers, load):
