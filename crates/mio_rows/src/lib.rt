@@ -3,6 +3,8 @@
 #![tactic(auto)]
 
 #[cfg(test)]
+mod courses;
+#[cfg(test)]
 mod masks;
 #[cfg(test)]
 mod rig;

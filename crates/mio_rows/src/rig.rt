@@ -6,31 +6,24 @@ use demux_mio::{MioEnd, MioNet};
 use ev_base::{Got, Net, PeerEnd, Report, Sent, Taken, Waited};
 use ev_types::{Handle, Mask, NoMemory};
 use std::alloc::Global;
-use std::time::Clock;
 
-/// A net and the handles that are attached, the latest first.
+/// A net, the handles that are attached, the latest first, and the reports of its last wait.
 #[derive(Drop)]
-pub struct Rig<R> {
-    net: MioNet<R>,
+pub struct Rig {
+    net: MioNet<HostRuntime>,
     attached: Vec<u64>,
+    reports: Vec<Report>,
     ghost same: { (mio_net_facts net).attached ≡ attached.items },
 }
 
-/// What a wait came to.
-#[derive(Drop)]
-pub struct Seen {
-    pub now: u64,
-    pub failed: bool,
-    pub reports: Vec<Report>,
-}
-
-impl<R: Clock + Copy> Rig<R> {
-    pub fn new(alloc: Global, net: MioNet<R>) -> Rig<R>
+impl Rig {
+    pub fn new(alloc: Global, net: MioNet<HostRuntime>) -> Rig
         requires { (mio_net_facts net).attached ≡ [] }
     {
         Rig {
             net,
             attached: Vec::new(alloc),
+            reports: Vec::new(alloc),
         }
     }
 
@@ -76,23 +69,26 @@ impl<R: Clock + Copy> Rig<R> {
         attached
     }
 
-    /// Waits, and copies the reports.
-    pub fn wait(&mut self, alloc: Global, most_ms: Option<u64>) -> Result<Seen, NoMemory> {
-        let (now, count, failed) = match self.net.wait(most_ms) {
-            Waited::Reports { now, count } => (now, count, false),
-            Waited::Quiet { now } => (now, 0, false),
-            Waited::Over { now } => (now, 0, true),
-            Waited::Failed => (0, 0, true),
+    /// Waits, keeps the reports, and tells the moment.
+    pub fn wait(&mut self, most_ms: Option<u64>) -> Option<u64> {
+        let (now, count) = match self.net.wait(most_ms) {
+            Waited::Reports { now, count } => (now, count),
+            Waited::Quiet { now } => (now, 0),
+            Waited::Over { .. } | Waited::Failed => return None,
         };
-        let mut reports = Vec::new(alloc);
+        let net = &self.net;
+        let reports = &mut self.reports;
+        reports.clear();
+        let mut are_kept = true;
         for at in 0..count {
-            reports.push(self.net.report(at))?;
+            are_kept &= reports.push(net.report(at)).is_ok();
         }
-        Ok(Seen {
-            now,
-            failed,
-            reports,
-        })
+        if are_kept { Some(now) } else { None }
+    }
+
+    /// The reports of the last wait.
+    pub fn reports(&self) -> &[Report] {
+        self.reports.as_slice()
     }
 }
 

@@ -1,14 +1,13 @@
 //! A net over loopback with a listener, its connections and their peers.
 
-use crate::rig::{Rig, Seen, accept, read, write};
+use crate::rig::{Rig, accept, read, write};
 use demux_mio::{MioEnd, MioHost, MioWake};
 use ev_base::{Got, Host, Report, Sent, Taken};
 use ev_types::{Handle, Kind, Mask};
 use std::alloc::Global;
 use std::io::{Read, Write};
-use std::net::{Ipv4Addr, Net, SocketAddr, TcpListener, TcpStream};
+use std::net::{Ipv4Addr, SocketAddr, TcpStream};
 use std::test::Fail;
-use std::time::Clock;
 
 pub const NONE: Mask = Mask {
     read: false,
@@ -35,72 +34,65 @@ pub fn failed<T>(why: &'static str) -> Result<T, Fail> {
 
 /// A net whose listener has handle 0, and its connections by number: number n has handle n + 1.
 #[derive(Drop)]
-pub struct Stand<R> {
-    rt: R,
+pub struct Stand {
+    rt: HostRuntime,
     alloc: Global,
-    rig: Rig<R>,
-    listener: Option<MioEnd>,
+    rig: Rig,
+    listener: MioEnd,
     port: u16,
     peers: Vec<Option<TcpStream>>,
     ends: Vec<Option<MioEnd>>,
+    /// How many bytes were written to fill the first connection.
+    filled: usize,
 }
 
-/// The value of this number, where it was not taken away.
-fn held<T>(values: &mut Vec<Option<T>>, number: usize) -> Option<&mut T> {
-    values.get_mut(number)?.as_mut()
+/// Whether there are reports, and each is this one.
+fn are_all(reports: &[Report], wanted: Report) -> bool {
+    let mut are_well = !reports.is_empty();
+    for report in reports {
+        are_well &= *report == wanted;
+    }
+    are_well
 }
 
 fn handle_of(number: usize) -> u64 {
     (number as u64).saturating_add(1)
 }
 
-impl<R: Net<Listener = TcpListener, Stream = TcpStream> + Clock + Copy> Stand<R> {
-    /// A net that watches its listener on a port that was free.
-    pub fn open(rt: R, alloc: Global) -> Result<Stand<R>, Fail> {
-        let (stand, _) = Stand::open_with_waker(rt, alloc)?;
-        Ok(stand)
-    }
-
-    /// The same, and what wakes the net.
-    pub fn open_with_waker(rt: R, alloc: Global) -> Result<(Stand<R>, MioWake), Fail> {
+impl Stand {
+    /// A net whose listener has a port that was free, and what wakes the net.
+    pub fn open(rt: HostRuntime, alloc: Global) -> Result<(Stand, MioWake), Fail> {
         let mut host = MioHost::new(rt);
         match host.listen(alloc, 0) {
             Ok((net, listener, waker)) => {
-                let stand = Stand::over(rt, alloc, Rig::new(alloc, net), listener)?;
-                Ok((stand, waker))
+                let rig = Rig::new(alloc, net);
+                Ok((Stand::over(rt, alloc, rig, listener), waker))
             }
             Err(_) => failed("no listener"),
         }
     }
 
-    /// A stand over what was opened, once its listener is watched.
-    fn over(rt: R, alloc: Global, rig: Rig<R>, listener: MioEnd) -> Result<Stand<R>, Fail> {
-        let mut stand = Stand {
+    /// A stand over what was opened.
+    fn over(rt: HostRuntime, alloc: Global, rig: Rig, listener: MioEnd) -> Stand {
+        Stand {
             rt,
             alloc,
             rig,
             port: listener.port().unwrap_or(0),
-            listener: Some(listener),
+            listener,
             peers: Vec::new(alloc),
             ends: Vec::new(alloc),
-        };
-        if stand.watch() {
-            Ok(stand)
-        } else {
-            failed("no port that is watched")
-        }
-    }
-
-    /// Attaches the listener, where its port is known.
-    fn watch(&mut self) -> bool {
-        match &mut self.listener {
-            Some(listener) => self.port > 0 && self.rig.attach(listener, 0, READ),
-            None => false,
+            filled: 0,
         }
     }
 
     pub fn port(&self) -> u16 {
         self.port
+    }
+
+    /// Attaches the listener, where its port is known.
+    pub fn watch(&mut self) -> bool {
+        self.port > 0 && self.rig.attach(&mut self.listener, 0, READ)
     }
 
     /// A peer connects.
@@ -112,18 +104,12 @@ impl<R: Net<Listener = TcpListener, Stream = TcpStream> + Clock + Copy> Stand<R>
         }
     }
 
-    /// Accepts once, and tells what that gave. A connection has the next number.
-    pub fn accept(&mut self) -> Option<Taken<()>> {
-        match accept(self.listener.as_mut()?) {
-            Taken::One(end) => {
-                if self.ends.push(Some(end)).is_ok() {
-                    Some(Taken::One(()))
-                } else {
-                    None
-                }
-            }
-            Taken::Pause => Some(Taken::Pause),
-            Taken::Failed => Some(Taken::Failed),
+    /// Accepts once, and tells what that gave. A connection has the next number, where there was memory for it.
+    pub fn accept(&mut self) -> Taken<bool> {
+        match accept(&mut self.listener) {
+            Taken::One(end) => Taken::One(self.ends.push(Some(end)).is_ok()),
+            Taken::Pause => Taken::Pause,
+            Taken::Failed => Taken::Failed,
         }
     }
 
@@ -131,8 +117,8 @@ impl<R: Net<Listener = TcpListener, Stream = TcpStream> + Clock + Copy> Stand<R>
     pub fn accept_one(&mut self) -> bool {
         for _ in 0..100 {
             match self.accept() {
-                Some(Taken::One(())) => return true,
-                Some(Taken::Pause) if self.sees(0, Kind::Read) => {}
+                Taken::One(is_kept) => return is_kept,
+                Taken::Pause if self.sees(0, Kind::Read) => {}
                 _ => return false,
             }
         }
@@ -141,9 +127,9 @@ impl<R: Net<Listener = TcpListener, Stream = TcpStream> + Clock + Copy> Stand<R>
 
     /// Attaches the end of a connection with this mask.
     pub fn attach(&mut self, number: usize, mask: Mask) -> bool {
-        match held(&mut self.ends, number) {
-            Some(end) => self.rig.attach(end, handle_of(number), mask),
-            None => false,
+        match self.ends.get_mut(number) {
+            Some(Some(end)) => self.rig.attach(end, handle_of(number), mask),
+            _ => false,
         }
     }
 
@@ -153,15 +139,17 @@ impl<R: Net<Listener = TcpListener, Stream = TcpStream> + Clock + Copy> Stand<R>
         self.connect()
             && self.accept_one()
             && self.attach(number, mask)
-            && matches!(self.accept(), Some(Taken::Pause))
+            && matches!(self.accept(), Taken::Pause)
     }
 
-    /// Waits.
-    pub fn wait(&mut self, most_ms: Option<u64>) -> Option<Seen> {
-        match self.rig.wait(self.alloc, most_ms) {
-            Ok(seen) if !seen.failed => Some(seen),
-            _ => None,
-        }
+    /// Waits, and tells the moment.
+    pub fn wait(&mut self, most_ms: Option<u64>) -> Option<u64> {
+        self.rig.wait(most_ms)
+    }
+
+    /// The reports of the last wait.
+    pub fn reports(&self) -> &[Report] {
+        self.rig.reports()
     }
 
     /// A wait gives one report, of this handle and kind. It comes within ten seconds.
@@ -175,9 +163,9 @@ impl<R: Net<Listener = TcpListener, Stream = TcpStream> + Clock + Copy> Stand<R>
             handle: Handle(handle),
             kind,
         };
-        let seen = self.wait(Some(10_000))?;
-        if seen.reports.as_slice() == [wanted].as_slice() {
-            Some(seen.now)
+        let now = self.wait(Some(10_000))?;
+        if self.reports() == [wanted].as_slice() {
+            Some(now)
         } else {
             None
         }
@@ -185,16 +173,11 @@ impl<R: Net<Listener = TcpListener, Stream = TcpStream> + Clock + Copy> Stand<R>
 
     /// A wait gives reports of this handle and kind alone. They come within ten seconds.
     pub fn hears(&mut self, handle: u64, kind: Kind) -> bool {
-        match self.wait(Some(10_000)) {
-            Some(seen) => {
-                !seen.reports.is_empty()
-                    && seen
-                        .reports
-                        .iter()
-                        .all(|r| r.handle.0 == handle && r.kind == kind)
-            }
-            None => false,
-        }
+        let wanted = Report {
+            handle: Handle(handle),
+            kind,
+        };
+        self.wait(Some(10_000)).is_some() && are_all(self.reports(), wanted)
     }
 
     /// A wait of so many milliseconds gives no report.
@@ -204,10 +187,7 @@ impl<R: Net<Listener = TcpListener, Stream = TcpStream> + Clock + Copy> Stand<R>
 
     /// A wait with this limit gives no report.
     pub fn ends_quietly(&mut self, most_ms: Option<u64>) -> bool {
-        match self.wait(most_ms) {
-            Some(seen) => seen.reports.is_empty(),
-            None => false,
-        }
+        self.wait(most_ms).is_some() && self.reports().is_empty()
     }
 
     pub fn set_mask(&mut self, number: usize, mask: Mask) -> bool {
@@ -215,16 +195,16 @@ impl<R: Net<Listener = TcpListener, Stream = TcpStream> + Clock + Copy> Stand<R>
     }
 
     pub fn read(&mut self, number: usize, buf: &mut [u8]) -> Got {
-        match held(&mut self.ends, number) {
-            Some(end) => read(end, buf),
-            None => Got::Failed,
+        match self.ends.get_mut(number) {
+            Some(Some(end)) => read(end, buf),
+            _ => Got::Failed,
         }
     }
 
     pub fn write(&mut self, number: usize, piece: &[u8]) -> Sent {
-        match held(&mut self.ends, number) {
-            Some(end) => write(end, piece),
-            None => Sent::Failed,
+        match self.ends.get_mut(number) {
+            Some(Some(end)) => write(end, piece),
+            _ => Sent::Failed,
         }
     }
 
@@ -243,17 +223,17 @@ impl<R: Net<Listener = TcpListener, Stream = TcpStream> + Clock + Copy> Stand<R>
 
     /// A peer sends bytes.
     pub fn send(&mut self, number: usize, bytes: &[u8]) -> bool {
-        match held(&mut self.peers, number) {
-            Some(peer) => peer.write_all(bytes).is_ok(),
-            None => false,
+        match self.peers.get_mut(number) {
+            Some(Some(peer)) => peer.write_all(bytes).is_ok(),
+            _ => false,
         }
     }
 
     /// A peer reads once, and tells how many bytes it got.
     pub fn receive(&mut self, number: usize, buf: &mut [u8]) -> Option<usize> {
-        match held(&mut self.peers, number) {
-            Some(peer) => peer.read(buf).ok(),
-            None => None,
+        match self.peers.get_mut(number) {
+            Some(Some(peer)) => peer.read(buf).ok(),
+            _ => None,
         }
     }
 
@@ -263,5 +243,27 @@ impl<R: Net<Listener = TcpListener, Stream = TcpStream> + Clock + Copy> Stand<R>
             Some(peer) => peer.take().is_some(),
             None => false,
         }
+    }
+
+    /// Counts bytes that were written to fill the first connection.
+    pub fn add_filled(&mut self, count: usize) {
+        self.filled = self.filled.saturating_add(count);
+    }
+
+    pub fn filled(&self) -> usize {
+        self.filled
+    }
+
+    /// Another host.
+    pub fn host(&self) -> MioHost<HostRuntime> {
+        MioHost::new(self.rt)
+    }
+
+    pub fn runtime(&self) -> HostRuntime {
+        self.rt
+    }
+
+    pub fn alloc(&self) -> Global {
+        self.alloc
     }
 }

@@ -1,24 +1,23 @@
 //! Steps of rows, which are taken one behind the other.
 
+use crate::courses::Course;
 use crate::stand::Stand;
 use ev_base::{Got, Sent, Taken};
 use ev_types::{Kind, Mask};
-use std::alloc::Global;
-use std::net::{Net, TcpListener, TcpStream};
 use std::process::Abort;
 use std::test::Fail;
-use std::time::Clock;
 
 /// A call on a stand, and what it has to come to. A number is that of a connection.
 #[derive(Clone, Copy)]
 pub enum Step {
+    /// The listener is watched, on a port that was free.
+    Watch,
     /// A peer connects.
     Connect,
     /// A connection is accepted, behind waits where none is there yet.
     AcceptOne,
     /// No connection waits to be accepted.
     AcceptPauses,
-    AcceptFails,
     /// A peer connects, and its connection is accepted and attached. No other waits.
     Join(Mask),
     Attach(usize, Mask),
@@ -29,6 +28,8 @@ pub enum Step {
     Quiet(u64),
     /// A read into all the room answers this.
     Read(usize, Got),
+    /// The room is full of this byte.
+    Holds(u8),
     Write(usize, &'static [u8], Sent),
     Retire(usize),
     /// A peer sends bytes.
@@ -37,20 +38,18 @@ pub enum Step {
     Receive(usize, usize),
     /// A peer closes its connection.
     HangUp(usize),
+    /// Steps on more than a call.
+    All(Course),
 }
 
 impl Step {
     /// Takes the step, and tells whether it came to what it has to.
-    fn is_taken<R: Net<Listener = TcpListener, Stream = TcpStream> + Clock + Copy>(
-        self,
-        stand: &mut Stand<R>,
-        room: &mut [u8],
-    ) -> bool {
+    fn is_taken(self, stand: &mut Stand, room: &mut [u8]) -> bool {
         match self {
+            Step::Watch => stand.watch(),
             Step::Connect => stand.connect(),
             Step::AcceptOne => stand.accept_one(),
-            Step::AcceptPauses => matches!(stand.accept(), Some(Taken::Pause)),
-            Step::AcceptFails => matches!(stand.accept(), Some(Taken::Failed)),
+            Step::AcceptPauses => matches!(stand.accept(), Taken::Pause),
             Step::Join(mask) => stand.join(mask),
             Step::Attach(number, mask) => stand.attach(number, mask),
             Step::SetMask(number, mask) => stand.set_mask(number, mask),
@@ -62,30 +61,45 @@ impl Step {
             Step::Send(number, bytes) => stand.send(number, bytes),
             Step::Receive(number, count) => stand.receive(number, room) == Some(count),
             Step::HangUp(number) => stand.hang_up(number),
+            Step::Holds(byte) => is_full_of(room, byte),
+            Step::All(course) => course.is_taken(stand),
         }
     }
 }
 
-/// Takes these steps. Reads have this room.
-pub fn take<R: Net<Listener = TcpListener, Stream = TcpStream> + Clock + Copy>(
-    rt: &impl Abort,
-    stand: &mut Stand<R>,
-    room: &mut [u8],
-    steps: &[Step],
-) {
-    for (at, step) in steps.iter().enumerate() {
-        assert!(rt; step.is_taken(stand, room), "step {at}");
+/// Whether each byte is this one.
+fn is_full_of(room: &[u8], byte: u8) -> bool {
+    let mut is_full = !room.is_empty();
+    for held in room {
+        is_full &= *held == byte;
     }
+    is_full
+}
+
+/// Takes these steps, up to one that does not come to what it has to, and tells how many did. Reads have this room.
+fn count_taken(stand: &mut Stand, room: &mut [u8], steps: &[Step]) -> usize {
+    for (at, step) in steps.iter().enumerate() {
+        if !step.is_taken(stand, room) {
+            return at;
+        }
+    }
+    steps.len()
+}
+
+/// The same on a stand of its own.
+fn count_taken_alone(host: HostRuntime, room: &mut [u8], steps: &[Step]) -> Result<usize, Fail> {
+    let (mut stand, _) = Stand::open(host, host.alloc())?;
+    Ok(count_taken(&mut stand, room, steps))
 }
 
 /// Takes these steps on a stand of their own.
-pub fn take_alone<R: Net<Listener = TcpListener, Stream = TcpStream> + Clock + Abort + Copy>(
-    rt: R,
-    alloc: Global,
+pub fn take(
+    rt: &impl Abort,
+    host: HostRuntime,
     room: &mut [u8],
     steps: &[Step],
 ) -> Result<(), Fail> {
-    let mut stand = Stand::open(rt, alloc)?;
-    take(&rt, &mut stand, room, steps);
+    let at = count_taken_alone(host, room, steps)?;
+    assert!(rt; at == steps.len(), "step {at}");
     Ok(())
 }

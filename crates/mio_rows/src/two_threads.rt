@@ -6,13 +6,11 @@ use demux_mio::MioEnd;
 use ev_base::Got;
 use ev_types::Kind;
 use std::alloc::Global;
-use std::net::{Net, TcpListener, TcpStream};
 use std::sync::Arc;
 use std::sync::atomic::{AtomicBool, AtomicU64, Ordering};
 use std::test::Fail;
 use std::thread;
 use std::thread::{Threads, yield_now};
-use std::time::Clock;
 
 /// How often one thread looks for the other at most.
 const LOOKS: u64 = 100_000_000;
@@ -73,10 +71,7 @@ fn serve(desk: &Desk, end: &mut MioEnd) {
 }
 
 /// Waits without a report while the reader reads.
-fn wait_meanwhile<R: Net<Listener = TcpListener, Stream = TcpStream> + Clock + Copy>(
-    stand: &mut Stand<R>,
-    desk: &Desk,
-) -> bool {
+fn wait_meanwhile(stand: &mut Stand, desk: &Desk) -> bool {
     for _ in 0..LOOKS {
         if desk.is_done() {
             return true;
@@ -90,12 +85,7 @@ fn wait_meanwhile<R: Net<Listener = TcpListener, Stream = TcpStream> + Clock + C
 
 /// Where all bytes were read one more is sent. Then a report comes, which the reader is asked to follow while its mask holds back others,
 /// and more bytes come. Tells how many were sent.
-fn turn<R: Net<Listener = TcpListener, Stream = TcpStream> + Clock + Copy>(
-    stand: &mut Stand<R>,
-    desk: &Desk,
-    sent: u64,
-    more: u64,
-) -> Option<u64> {
+fn turn(stand: &mut Stand, desk: &Desk, sent: u64, more: u64) -> Option<u64> {
     let mut sent = sent;
     if desk.got.load(Ordering::SeqCst) == sent {
         if !stand.send(0, b"x") {
@@ -121,10 +111,7 @@ fn turn<R: Net<Listener = TcpListener, Stream = TcpStream> + Clock + Copy>(
 }
 
 /// Makes the turns, and tells whether each went well.
-fn turns<R: Net<Listener = TcpListener, Stream = TcpStream> + Clock + Copy>(
-    stand: &mut Stand<R>,
-    desk: &Desk,
-) -> bool {
+fn turns(stand: &mut Stand, desk: &Desk) -> bool {
     let mut sent = Some(0);
     for at in 0..TURNS {
         sent = match sent {
@@ -136,30 +123,34 @@ fn turns<R: Net<Listener = TcpListener, Stream = TcpStream> + Clock + Copy>(
 }
 
 /// Makes the turns beside a thread that reads.
-fn turns_beside_a_reader<
-    R: Net<Listener = TcpListener, Stream = TcpStream> + Clock + Threads + Copy,
->(rt: R, alloc: Global, stand: &mut Stand<R>, end: MioEnd) -> Result<bool, Fail> {
+fn turns_beside_a_reader(
+    rt: &impl Threads,
+    alloc: Global,
+    stand: &mut Stand,
+    end: MioEnd,
+) -> Result<bool, Fail> {
     let desk = Arc::new(alloc, Desk::new())?;
     let theirs = Arc::try_clone(&desk)?;
-    let child = thread::spawn(&rt, move || {
+    let child = thread::spawn(rt, move || {
         let mut end = end;
         serve(&theirs, &mut end);
     })?;
     let are_well = turns(stand, &desk);
     desk.over.store(true, Ordering::SeqCst);
-    child.join(&rt);
+    child.join(rt);
     Ok(are_well)
 }
 
 #[test]
 fn no_report_is_lost_while_another_thread_reads(rt: HostRuntime) -> Result<(), Fail> {
-    let mut stand = Stand::open(rt, rt.alloc())?;
-    assert!(rt; stand.join(READ));
+    let (mut stand, _) = Stand::open(rt, rt.alloc())?;
+    let is_joined = stand.watch() && stand.join(READ);
     let are_well = match stand.take_end(0) {
-        Some(end) => turns_beside_a_reader(rt, rt.alloc(), &mut stand, end),
+        Some(end) => turns_beside_a_reader(&rt, rt.alloc(), &mut stand, end),
         None => failed("no end"),
     };
     drop(stand);
+    assert!(rt; is_joined);
     assert!(rt; are_well?);
     Ok(())
 }
