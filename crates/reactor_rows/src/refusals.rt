@@ -1,11 +1,10 @@
 //! What the calls of a reactor refuse, and what a refusal leaves.
 ghost use Rattle.std.specs.Prelude.{◌≤◌, IfOk};
 ghost use Rattle.core_loop.specs.Idle.{IsIdle};
-ghost use Rattle.core_rows.specs.Play.{play_rows};
 ghost use Rattle.core_rows.specs.RoundRobin.{round_robin_rows};
 
-use crate::steps::{NONE, PlayRows, READ, Step, in_the_end, play, quiet};
-use crate::tests::returned;
+use crate::steps::{NONE, READ, Run, Step, quiet, take};
+use crate::tests::FULL_OF_ONE;
 use core_rows::*;
 use ev_types::{Answer, Handle, Kind};
 use reactor_core::{
@@ -15,82 +14,71 @@ use reactor_core::{
 use reactor_journal::Entry;
 use reactor_model::{DropVolumes, NoWatch};
 use std::alloc::Global;
-use std::process::Abort;
 use std::test::Fail;
 use timer_queue::SortedTimers;
 
-// Each call on a handle that was never opened, and on a timer that was never set.
-fn refuse_the_unknown(rt: &impl Abort, core: &mut PlayRows)
-    requires { IsIdle play_rows core.old }
-    ensures { IsIdle play_rows core.new }
-{
-    let unknown = Handle(7);
-    play(
-        rt,
-        core,
-        &[
-            Step::Remove(unknown, Err(NotLive)),
-            Step::Suspend(unknown, Err(StateRefused::NotLive)),
-            Step::Resume(unknown, Err(StateRefused::NotLive)),
-            Step::Masks(unknown, NONE, Err(LiveRefused::NotLive)),
-            Step::Schedule(unknown, Err(LiveRefused::NotLive)),
-            Step::Cancel(7, Err(CancelRefused::NotArmed)),
-        ],
-    );
-}
+const HANDLE: Handle = Handle(0);
+
+// A handle that was never opened.
+const UNKNOWN: Handle = Handle(7);
+
+const REFUSALS: &Run = &Run {
+    steps: &[
+        Step::Register(Answer::Keep, Ok(HANDLE)),
+        Step::Resume(HANDLE, Err(StateRefused::Same)),
+        Step::Suspend(HANDLE, Ok(())),
+        Step::Suspend(HANDLE, Err(StateRefused::Same)),
+        Step::Register(Answer::Keep, Err(FULL_OF_ONE)),
+        // Each call on a handle that was never opened, and on a timer that was never set.
+        Step::Remove(UNKNOWN, Err(NotLive)),
+        Step::Suspend(UNKNOWN, Err(StateRefused::NotLive)),
+        Step::Resume(UNKNOWN, Err(StateRefused::NotLive)),
+        Step::Masks(UNKNOWN, NONE, Err(LiveRefused::NotLive)),
+        Step::Schedule(UNKNOWN, Err(LiveRefused::NotLive)),
+        Step::Cancel(7, Err(CancelRefused::NotArmed)),
+        Step::Stop,
+        Step::Poll(Err(PollRefused::Stopped)),
+        Step::Post(HANDLE, Kind::Read, (0, 0), Err(PostRefused::Stopped)),
+        Step::Register(Answer::Keep, Err(RegisterRefused::Stopped)),
+        Step::Turn(Ok(None)),
+        Step::Remove(HANDLE, Err(NotLive)),
+        // The same of a reactor that was stopped.
+        Step::Remove(UNKNOWN, Err(NotLive)),
+        Step::Suspend(UNKNOWN, Err(StateRefused::NotLive)),
+        Step::Resume(UNKNOWN, Err(StateRefused::NotLive)),
+        Step::Masks(UNKNOWN, NONE, Err(LiveRefused::NotLive)),
+        Step::Schedule(UNKNOWN, Err(LiveRefused::NotLive)),
+        Step::Cancel(7, Err(CancelRefused::NotArmed)),
+    ],
+    taken: &[],
+    entries: &[
+        Entry::Opened {
+            handle: HANDLE,
+            mask: READ,
+        },
+        Entry::Suspended { handle: HANDLE },
+        Entry::Ended,
+        Entry::Removed { handle: HANDLE },
+        Entry::Closed {
+            handle: HANDLE,
+            note: 0,
+        },
+    ],
+    behind: &[],
+};
 
 #[test]
 fn refusals_leave_the_journal(rt: HostRuntime) -> Result<(), Fail> {
-    let mut core = quiet(rt.alloc(), 1)?;
-    let handle = Handle(0);
-    let full = RegisterRefused::Full { live: 1, opened: 1 };
-    play(
-        &rt,
-        &mut core,
-        &[
-            Step::Register(Answer::Keep, Ok(handle)),
-            Step::Resume(handle, Err(StateRefused::Same)),
-            Step::Suspend(handle, Ok(())),
-            Step::Suspend(handle, Err(StateRefused::Same)),
-            Step::Register(Answer::Keep, Err(full)),
-        ],
-    );
-    refuse_the_unknown(&rt, &mut core);
-    play(
-        &rt,
-        &mut core,
-        &[
-            Step::Stop,
-            Step::Poll(Err(PollRefused::Stopped)),
-            Step::Post(handle, Kind::Read, (0, 0), Err(PostRefused::Stopped)),
-            Step::Register(Answer::Keep, Err(RegisterRefused::Stopped)),
-            Step::Turn(Ok(None)),
-            Step::Remove(handle, Err(NotLive)),
-        ],
-    );
-    refuse_the_unknown(&rt, &mut core);
-    in_the_end(
-        &rt,
-        core,
-        &[],
-        &[
-            Entry::Opened { handle, mask: READ },
-            Entry::Suspended { handle },
-            Entry::Ended,
-            Entry::Removed { handle },
-            Entry::Closed { handle, note: 0 },
-        ],
-    );
+    let core = quiet(rt.alloc(), 1)?;
+    take(&rt, core, REFUSALS);
     Ok(())
 }
 
+// A reactor over a net that reports handle 0 at each wait.
+type Failing = Rows<RoundRobinNet, DropVolumes>;
+
 // A reactor for so many handlers over a net that reports handle 0 at each wait, whose waits and attaches of these numbers fail.
-fn failing(
-    alloc: Global,
-    most: u64,
-    wait: u64,
-    attach: u64,
-) -> Result<Rows<RoundRobinNet, DropVolumes>, Fail>
+fn failing(alloc: Global, most: u64, wait: u64, attach: u64) -> Result<Failing, Fail>
     requires least { 1 ≤ most }
     requires greatest { most ≤ 4097 }
     ensures { IfOk result (λ core. IsIdle round_robin_rows core) }
@@ -103,8 +91,8 @@ fn failing(
     }
 }
 
-// Which entries such a reactor holds in the end.
-fn left_in_the_end(rt: &impl Abort, core: Rows<RoundRobinNet, DropVolumes>, entries: &[Entry<u64>])
+// Whether such a reactor holds these entries in the end.
+fn is_left(core: Failing, entries: &[Entry<u64>]) -> bool
     requires { IsIdle round_robin_rows core }
 {
     let Left {
@@ -115,76 +103,109 @@ fn left_in_the_end(rt: &impl Abort, core: Rows<RoundRobinNet, DropVolumes>, entr
         watch: _,
         volumes: _,
     } = close(core);
-    assert_eq!(rt; journal.as_slice(), entries);
+    journal.as_slice() == entries
 }
+
+// Whether the first attach fails, and gives the handler back, which is attached then.
+fn is_attached_again(core: &mut Failing) -> bool
+    requires { IsIdle round_robin_rows core.old }
+    ensures { IsIdle round_robin_rows core.new }
+{
+    match register(core, Steady::answering(Answer::Again), READ) {
+        Err((back, RegisterRefused::NetFailed)) => {
+            let is_same = back.to_input() == Answer::Again;
+            let is_registered = matches!(register(core, back, READ), Ok(Handle(0)));
+            is_same && is_registered
+        }
+        _ => false,
+    }
+}
+
+// Whether the first wait fails, and the second does not.
+fn is_polled_again(core: &mut Failing) -> bool
+    requires { IsIdle round_robin_rows core.old }
+    ensures { IsIdle round_robin_rows core.new }
+{
+    let first = poll(core);
+    let second = poll(core);
+    first == Err(PollRefused::NetFailed) && second == Ok(Polled::Events)
+}
+
+const FAILED: &[Entry<u64>] = &[
+    Entry::Opened {
+        handle: HANDLE,
+        mask: READ,
+    },
+    Entry::Polled { now: 0 },
+    Entry::Ready {
+        handle: HANDLE,
+        kind: Kind::Read,
+    },
+    Entry::Ended,
+    Entry::Removed { handle: HANDLE },
+    Entry::Closed {
+        handle: HANDLE,
+        note: 0,
+    },
+];
 
 #[test]
 fn a_net_that_fails_leaves_the_journal(rt: HostRuntime) -> Result<(), Fail> {
     let mut core = failing(rt.alloc(), 2, 0, 0)?;
-    let handle = Handle(0);
-    let refused = register(&mut core, Steady::answering(Answer::Again), READ);
-    let Err((back, RegisterRefused::NetFailed)) = refused else {
-        panic!(rt; "the attach did not fail")
-    };
-    assert_eq!(rt; back.to_input(), Answer::Again);
-    assert!(rt; matches!(register(&mut core, back, READ), Ok(Handle(0))));
-    assert_eq!(rt; poll(&mut core), Err(PollRefused::NetFailed));
-    assert_eq!(rt; poll(&mut core), Ok(Polled::Events));
-    left_in_the_end(
-        &rt,
-        core,
-        &[
-            Entry::Opened { handle, mask: READ },
-            Entry::Polled { now: 0 },
-            Entry::Ready {
-                handle,
-                kind: Kind::Read,
-            },
-            Entry::Ended,
-            Entry::Removed { handle },
-            Entry::Closed { handle, note: 0 },
-        ],
-    );
+    let is_attached = is_attached_again(&mut core);
+    let is_polled = is_polled_again(&mut core);
+    let is_left = is_left(core, FAILED);
+    assert!(rt; is_attached && is_polled && is_left);
     Ok(())
 }
 
-// Registers a handler that offers another at its input, serves its one report, and finds what became of the offer.
-fn offer_one(
-    rt: &impl Abort,
-    alloc: Global,
-    most: u64,
-    failing_attach: u64,
-    offered: Entry<u64>,
-) -> Result<(), Fail>
-    requires least { 1 ≤ most }
-    requires greatest { most ≤ 4097 }
+// What stands before the offer of the first handler.
+const BEFORE_THE_OFFER: &[Entry<u64>] = &[
+    Entry::Opened {
+        handle: HANDLE,
+        mask: READ,
+    },
+    Entry::Polled { now: 0 },
+    Entry::Ready {
+        handle: HANDLE,
+        kind: Kind::Read,
+    },
+    Entry::Started { event: 2 },
+    Entry::Returned {
+        event: 2,
+        answer: Answer::Keep,
+        note: 0,
+    },
+];
+
+// Registers a handler that offers another at its input, serves its one report, and tells whether each call went well.
+fn is_served(core: &mut Failing) -> bool
+    requires { IsIdle round_robin_rows core.old }
+    ensures { IsIdle round_robin_rows core.new }
 {
-    let mut core = failing(alloc, most, 9, failing_attach)?;
-    let handle = Handle(0);
-    assert!(rt; matches!(register(&mut core, Steady::offering(), READ), Ok(Handle(0))));
-    assert_eq!(rt; poll(&mut core), Ok(Polled::Events));
-    assert_eq!(rt; turn(&mut core), Ok(Some(2)));
-    let entries = [
-        Entry::Opened { handle, mask: READ },
-        Entry::Polled { now: 0 },
-        Entry::Ready {
-            handle,
-            kind: Kind::Read,
-        },
-        Entry::Started { event: 2 },
-        returned(2),
-        offered,
-    ];
-    assert_eq!(rt; core.journal().as_slice(), entries.as_slice());
-    let Left {
-        journal: _,
-        first: _,
-        net: _,
-        timers: _,
-        watch: _,
-        volumes: _,
-    } = close(core);
-    Ok(())
+    let is_registered = matches!(register(core, Steady::offering(), READ), Ok(Handle(0)));
+    let polled = poll(core);
+    let turned = turn(core);
+    is_registered && polled == Ok(Polled::Events) && turned == Ok(Some(2))
+}
+
+// Whether this became of the offer of a handler.
+fn becomes(entries: &[Entry<u64>], offered: Entry<u64>) -> bool {
+    match entries.split_last() {
+        Some((last, before)) => *last == offered && before == BEFORE_THE_OFFER,
+        None => false,
+    }
+}
+
+// Whether a handler that is offered is registered or refused so.
+fn is_offered(core: Failing, offered: Entry<u64>) -> bool
+    requires { IsIdle round_robin_rows core }
+{
+    let mut core = core;
+    let is_served = is_served(&mut core);
+    let becomes = becomes(core.journal().as_slice(), offered);
+    drop(close(core));
+    is_served && becomes
 }
 
 #[test]
@@ -194,17 +215,18 @@ fn an_offered_handler_is_registered_or_refused(rt: HostRuntime) -> Result<(), Fa
         handle: Handle(1),
         mask: READ,
     };
-    offer_one(&rt, alloc, 2, 9, opened)?;
+    assert!(rt; is_offered(failing(alloc, 2, 9, 9)?, opened));
     let full = Entry::Refused {
         live: 1,
         fault: false,
         note: 0,
     };
-    offer_one(&rt, alloc, 1, 9, full)?;
+    assert!(rt; is_offered(failing(alloc, 1, 9, 9)?, full));
     let failed = Entry::Refused {
         live: 1,
         fault: true,
         note: 0,
     };
-    offer_one(&rt, alloc, 2, 1, failed)
+    assert!(rt; is_offered(failing(alloc, 2, 9, 1)?, failed));
+    Ok(())
 }
