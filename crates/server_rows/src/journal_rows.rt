@@ -1,7 +1,6 @@
 //! The journals of scripts, entry by entry.
 use crate::played_rows::run;
 use crate::running::see;
-use script_net::ScriptHost;
 use std::alloc::Global;
 use std::process::Abort;
 use std::sync::Wait;
@@ -42,7 +41,7 @@ fn see_journal<R: Abort + Threads + Wait + Copy + Send + Sync + 'static>(
     timers: &str,
 ) -> Result<(), Fail> {
     let line = format!(in alloc; "{words} --timers {timers}")?;
-    let ran = run(rt, alloc, &line, script, ScriptHost::new(None, true))?;
+    let ran = run(rt, alloc, &line, script)?;
     see(rt, &line, &ran, (0, 0), journal.as_bytes());
     Ok(())
 }

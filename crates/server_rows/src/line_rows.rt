@@ -9,8 +9,9 @@ use journal_text::JournalSink;
 use log_handler::{EndKind, LineSink, LoggedRecords, ServerNote};
 use reactor_model::{DropVolumes, Entry, Watch};
 use std::alloc::Global;
-use std::process::Abort;
+use std::sync::Wait;
 use std::test::Fail;
+use std::thread::Threads;
 
 const LINE: &[u8] = b"3 1,2 7 LM_DEBUG: hi\n";
 
@@ -101,68 +102,77 @@ fn closed(end: EndKind) -> Entry<ServerNote> {
     }
 }
 
-/// Sees in how many writes an entry is written, and which lines.
-fn see_lines(
-    rt: &impl Abort,
-    alloc: Global,
-    entry: &Entry<ServerNote>,
-    writes: u64,
-    lines: &[u8],
-) -> Result<(), Fail> {
-    let mut watch = LineSink::new(counting_sink(alloc)?);
-    watch.saw(entry);
-    assert!(*rt; !watch.broken());
-    let output = watch.into_output();
-    assert_eq!(*rt; output.writes, writes);
-    assert_eq!(*rt; output.below.bytes(), lines);
-    Ok(())
+/// An entry of these rows.
+#[derive(Clone, Copy)]
+enum Noted {
+    Accepted,
+    Opened,
+    /// A turn with so many records, and with the text of their lines for a connection's number, where one is given.
+    Piece(u64, Option<u64>),
+    Closed(EndKind),
 }
 
-/// Sees in how many writes a turn with so many records is written, and which lines.
-fn see_piece(
-    rt: &impl Abort,
-    alloc: Global,
-    (count, conn): (u64, Option<u64>),
-    writes: u64,
-    lines: &[u8],
-) -> Result<(), Fail> {
-    let entry = piece(logged(alloc, count, conn)?);
-    see_lines(rt, alloc, &entry, writes, lines)
+impl Noted {
+    fn entry(self, alloc: Global) -> Result<Entry<ServerNote>, Fail> {
+        Ok(match self {
+            Noted::Accepted => accepted(),
+            Noted::Opened => opened(),
+            Noted::Piece(count, conn) => piece(logged(alloc, count, conn)?),
+            Noted::Closed(end) => closed(end),
+        })
+    }
 }
+
+/// Whether an entry is written to a sink in so many writes, and as these lines.
+fn is_written(entry: &Entry<ServerNote>, output: CountingSink, writes: u64, lines: &[u8]) -> bool {
+    let mut watch = LineSink::new(output);
+    watch.saw(entry);
+    let is_broken = watch.broken();
+    let output = watch.into_output();
+    !is_broken && is_taken(&output, writes, lines)
+}
+
+/// Whether a sink took this in so many writes.
+fn is_taken(output: &CountingSink, writes: u64, text: &[u8]) -> bool {
+    output.writes == writes && output.below.bytes() == text
+}
+
+/// Whether an entry is written in so many writes, and as these lines.
+fn gives_lines(alloc: Global, (noted, writes, lines): (Noted, u64, &[u8])) -> Result<bool, Fail> {
+    let output = counting_sink(alloc)?;
+    let entry = noted.entry(alloc)?;
+    Ok(is_written(&entry, output, writes, lines))
+}
+
+/// Entries, in how many writes each is written, and which lines.
+const NOTED: &[(Noted, u64, &[u8])] = &[
+    (Noted::Accepted, 0, b""),
+    (Noted::Opened, 0, b""),
+    (Noted::Piece(0, None), 0, b""),
+    (Noted::Piece(0, Some(3)), 0, b""),
+    (Noted::Piece(1, Some(3)), 1, LINE),
+    (Noted::Piece(2, Some(3)), 1, TWO_LINES),
+    // without a text, or with that for another number, each line is made and written alone
+    (Noted::Piece(2, None), 2, TWO_LINES),
+    (Noted::Piece(2, Some(4)), 2, TWO_LINES),
+    (Noted::Closed(EndKind::Idle), 1, b"3 closed: idle\n"),
+    (Noted::Closed(EndKind::Stopped), 1, b"3 closed: stopped\n"),
+    (Noted::Closed(EndKind::Refused), 1, b"3 closed: refused\n"),
+];
 
 #[test]
 fn a_note_is_written_at_once(rt: HostRuntime) -> Result<(), Fail> {
-    let alloc = rt.alloc();
-    see_lines(&rt, alloc, &accepted(), 0, b"")?;
-    see_lines(&rt, alloc, &opened(), 0, b"")?;
-    see_piece(&rt, alloc, (0, None), 0, b"")?;
-    see_piece(&rt, alloc, (0, Some(3)), 0, b"")?;
-    see_piece(&rt, alloc, (1, Some(3)), 1, LINE)?;
-    see_piece(&rt, alloc, (2, Some(3)), 1, TWO_LINES)?;
-    // without a text, or with that for another number, each line is made and written alone
-    see_piece(&rt, alloc, (2, None), 2, TWO_LINES)?;
-    see_piece(&rt, alloc, (2, Some(4)), 2, TWO_LINES)?;
-    see_lines(&rt, alloc, &closed(EndKind::Idle), 1, b"3 closed: idle\n")?;
-    see_lines(
-        &rt,
-        alloc,
-        &closed(EndKind::Stopped),
-        1,
-        b"3 closed: stopped\n",
-    )?;
-    see_lines(
-        &rt,
-        alloc,
-        &closed(EndKind::Refused),
-        1,
-        b"3 closed: refused\n",
-    )
+    for (at, row) in NOTED.iter().enumerate() {
+        assert!(rt; gives_lines(rt.alloc(), *row)?, "row {at}");
+    }
+    Ok(())
 }
 
 /// What a sink took that was lent a journal of three entries.
 fn three_entries(alloc: Global) -> Result<CountingSink, Fail> {
+    let sink = counting_sink(alloc)?;
     let returned = piece(logged(alloc, 2, Some(3))?);
-    let mut watch = JournalSink::new(1, counting_sink(alloc)?);
+    let mut watch = JournalSink::new(1, sink);
     watch.saw(&opened());
     watch.saw(&returned);
     watch.saw(&closed(EndKind::Idle));
@@ -171,11 +181,12 @@ fn three_entries(alloc: Global) -> Result<CountingSink, Fail> {
 
 #[test]
 fn an_entry_of_a_journal_is_written_at_once(rt: HostRuntime) -> Result<(), Fail> {
-    let output = three_entries(rt.alloc())?;
-    assert_eq!(rt; output.writes, 3);
     let text =
         b"most 1\nopened 1 r--\nreturned 0 again piece 3 30 2 4:7:1:2:6869 4:7:1:2:6869\nclosed 1 end 3 idle\n";
-    assert_eq!(rt; output.below.bytes(), text.as_slice());
+    let output = three_entries(rt.alloc())?;
+    let is_so = is_taken(&output, 3, text);
+    drop(output);
+    assert!(rt; is_so);
     Ok(())
 }
 
@@ -188,14 +199,22 @@ fn hundred(alloc: Global) -> Result<SteadySource, Fail> {
     Ok(SteadySource::new(bytes))
 }
 
+/// Runs `one` on a hundred records, and gives the status, and how many writes and bytes there were.
+fn run_hundred<R: Threads + Wait + Copy + Send + Sync + 'static>(
+    rt: &R,
+    alloc: Global,
+) -> Result<(u8, u64, usize), Fail> {
+    let output = counting_sink(alloc)?;
+    let input = hundred(alloc)?;
+    let left = run_line(rt, alloc, "one", input, output, DropVolumes)?;
+    let written = left.output.below.bytes().len();
+    Ok((left.status, left.output.writes, written))
+}
+
 #[test]
 fn the_lines_of_a_piece_are_written_together(rt: HostRuntime) -> Result<(), Fail> {
-    let alloc = rt.alloc();
-    let input = hundred(alloc)?;
-    let left = run_line(&rt, alloc, "one", input, counting_sink(alloc)?, DropVolumes)?;
-    assert_eq!(rt; left.status, 0);
     // 3,000 bytes are one piece: one write for its 100 lines of 21 bytes, and one for the closing line of 14
-    assert_eq!(rt; left.output.writes, 2);
-    assert_eq!(rt; left.output.below.bytes().len(), 100 * 21 + 14);
+    let left = run_hundred(&rt, rt.alloc())?;
+    assert_eq!(rt; left, (0, 2, 100 * 21 + 14));
     Ok(())
 }

@@ -1,5 +1,5 @@
 //! Long runs of several workers.
-use crate::running::{Left, room_for, run_line, volumes};
+use crate::running::{Left, Ran, room_for, run_line, volumes};
 use ev_base::{MemSink, SteadySource};
 use journal_check::check;
 use log_handler::ServerNote;
@@ -25,9 +25,9 @@ fn run_many<R: Threads + Wait + Copy + Send + Sync + 'static>(
     alloc: Global,
     fails: &[u64],
 ) -> Result<Kept, Fail> {
-    let volumes = volumes(alloc, fails)?;
-    let output = room_for(alloc, 1 << 20, None)?;
     let input = SteadySource::new(gen_script(alloc, 80, 7)?.into_vec());
+    let output = room_for(alloc, 1 << 20, None)?;
+    let volumes = volumes(alloc, fails)?;
     run_line(rt, alloc, "replay --workers 4", input, output, volumes)
 }
 
@@ -46,8 +46,13 @@ fn a_long_journal_is_handed_over(rt: HostRuntime) -> Result<(), Fail> {
     let alloc = rt.alloc();
     let left = run_many(&rt, alloc, &[])?;
     see_handed_over(&rt, alloc, &left);
-    let refused = run_many(&rt, alloc, &[0])?;
-    assert_eq!(rt; refused.status, 12);
+    Ok(())
+}
+
+#[test]
+fn a_refused_volume_halts_a_run(rt: HostRuntime) -> Result<(), Fail> {
+    let status = run_many(&rt, rt.alloc(), &[0])?.status;
+    assert_eq!(rt; status, 12);
     Ok(())
 }
 
@@ -59,9 +64,9 @@ fn grouped<R: Abort + Threads + Wait + Copy + Send + Sync + 'static>(
 ) -> Result<MemSink, Fail> {
     let input = SteadySource::new(gen_script(alloc, 40, 7)?.into_vec());
     let output = room_for(alloc, 1 << 19, None)?;
-    let ran = run_line(rt, alloc, words, input, output, DropVolumes)?.ran();
-    assert_eq!(*rt; ran.status, 0, "{words}");
-    Ok(ran.output)
+    let Ran { status, output, .. } = run_line(rt, alloc, words, input, output, DropVolumes)?.ran();
+    assert_eq!(*rt; status, 0, "{words}");
+    Ok(output)
 }
 
 /// Sees that words write this text.
@@ -76,13 +81,32 @@ fn see_text<R: Abort + Threads + Wait + Copy + Send + Sync + 'static>(
     Ok(())
 }
 
+/// Words of runs by several workers.
+const SEVERAL: &[&str] = &[
+    "replay --grouped --workers 2",
+    "replay --grouped --workers 8",
+    "replay --grouped --workers 64",
+];
+
+/// Sees that several workers write this text.
+fn see_texts<R: Abort + Threads + Wait + Copy + Send + Sync + 'static>(
+    rt: &R,
+    alloc: Global,
+    text: &[u8],
+) -> Result<(), Fail> {
+    for words in SEVERAL {
+        see_text(rt, alloc, words, text)?;
+    }
+    Ok(())
+}
+
 #[test]
 fn grouped_lines_are_one_text(rt: HostRuntime) -> Result<(), Fail> {
     let alloc = rt.alloc();
     let first = grouped(&rt, alloc, "replay --grouped")?;
-    see_text(&rt, alloc, "replay --grouped --workers 2", first.bytes())?;
-    see_text(&rt, alloc, "replay --grouped --workers 8", first.bytes())?;
-    see_text(&rt, alloc, "replay --grouped --workers 64", first.bytes())?;
-    assert_eq!(rt; count_lines(first.bytes()), 5_040);
-    Ok(())
+    let seen = see_texts(&rt, alloc, first.bytes());
+    let lines = count_lines(first.bytes());
+    drop(first);
+    assert_eq!(rt; lines, 5_040);
+    seen
 }

@@ -1,5 +1,6 @@
 //! Words that run the server over scripts and over hosts that play one: how each run ends, and what it writes.
-use crate::running::{LINES, Ran, room, run_words, see, text_source, words_of};
+use crate::running::{LINES, Ran, room, run_short, run_words, see, text_source, words_of};
+use ev_base::SteadySource;
 use reactor_model::DropVolumes;
 use script_net::ScriptHost;
 use script_text::parse_script;
@@ -16,19 +17,30 @@ const RECORD: &str =
 /// One that ends, and one that comes later.
 const TWO: &str = "open 0\nshut 0\nat 5\nopen 1\n";
 
-/// Runs words on an input, with a host.
+/// Runs words on an input, with a host that refuses to listen.
 pub(crate) fn run<R: Threads + Wait + Copy + Send + Sync + 'static>(
     rt: &R,
     alloc: Global,
     words: &str,
     input: &str,
-    host: ScriptHost,
 ) -> Result<Ran, Fail> {
-    let mut host = host;
+    let input = text_source(alloc, input)?;
+    run_short(rt, alloc, words, input, DropVolumes, None)
+}
+
+/// Runs words without an input, with a host.
+fn run_hosted<R: Threads + Wait + Copy + Send + Sync + 'static>(
+    rt: &R,
+    alloc: Global,
+    words: &str,
+    host: &mut ScriptHost,
+) -> Result<Ran, Fail> {
     let words = words_of(alloc, words)?;
     let output = room(alloc, None)?;
-    let input = text_source(alloc, input)?;
-    Ok(run_words(rt, alloc, &words, &mut host, input, output, DropVolumes).ran())
+    let input = SteadySource::new(Vec::new(alloc));
+    let left = run_words(rt, alloc, &words, host, input, output, DropVolumes);
+    drop(words);
+    Ok(left.ran())
 }
 
 /// A host that plays a script, some waits and attaches of whose net fail, by their numbers from 0.
@@ -38,10 +50,12 @@ fn host_of(
     waits: &[u64],
     attaches: &[u64],
 ) -> Result<ScriptHost, Fail> {
+    let waits = Vec::from_slice(alloc, waits)?;
+    let attaches = Vec::from_slice(alloc, attaches)?;
     let (net, listener, waker) = parse_script(alloc, script.as_bytes(), 0)?.parts();
     let mut net = net;
-    net.fail_waits(Vec::from_slice(alloc, waits)?);
-    net.fail_attaches(Vec::from_slice(alloc, attaches)?);
+    net.fail_waits(waits);
+    net.fail_attaches(attaches);
     Ok(ScriptHost::of_parts(net, listener, waker))
 }
 
@@ -83,19 +97,32 @@ const HOSTED: &[Hosted<'static>] = &[
     ("serve --port 7000", RECORD, &[], &[0], 5, b"", Some(1)),
 ];
 
+/// Runs words with a host that plays a script, some waits and attaches of whose net fail.
+fn run_script<R: Threads + Wait + Copy + Send + Sync + 'static>(
+    rt: &R,
+    alloc: Global,
+    (words, script, waits, attaches): (&str, &str, &[u64], &[u64]),
+) -> Result<Ran, Fail> {
+    let mut host = host_of(alloc, script, waits, attaches)?;
+    let ran = run_hosted(rt, alloc, words, &mut host);
+    drop(host);
+    ran
+}
+
 /// Sees a run over a host that plays a script.
 fn see_hosted<R: Abort + Threads + Wait + Copy + Send + Sync + 'static>(
     rt: &R,
     alloc: Global,
     (words, script, waits, attaches, status, lines, entries): Hosted<'_>,
 ) -> Result<(), Fail> {
-    let host = host_of(alloc, script, waits, attaches)?;
-    let ran = run(rt, alloc, words, "", host)?;
+    let ran = run_script(rt, alloc, (words, script, waits, attaches))?;
     see(rt, words, &ran, (status, 0), lines);
+    let (has_net, count) = (ran.has_net, ran.entries);
+    drop(ran);
+    assert!(*rt; has_net, "{words}");
     if let Some(entries) = entries {
-        assert_eq!(*rt; ran.entries, entries, "{words}");
+        assert_eq!(*rt; count, entries, "{words}");
     }
-    assert!(*rt; ran.has_net, "{words}");
     Ok(())
 }
 
@@ -104,14 +131,10 @@ fn see_unheard<R: Abort + Threads + Wait + Copy + Send + Sync + 'static>(
     rt: &R,
     alloc: Global,
 ) -> Result<(), Fail> {
-    let ran = run(
-        rt,
-        alloc,
-        "serve --port 7000",
-        "",
-        ScriptHost::new(None, true),
-    )?;
-    assert_eq!(*rt; (ran.status, ran.at, ran.has_net), (7, 0, false));
+    let ran = run(rt, alloc, "serve --port 7000", "")?;
+    let ending = (ran.status, ran.at, ran.has_net);
+    drop(ran);
+    assert!(*rt; ending == (7, 0, false), "a host that refuses to listen");
     Ok(())
 }
 
@@ -144,7 +167,7 @@ fn see_replayed<R: Abort + Threads + Wait + Copy + Send + Sync + 'static>(
     alloc: Global,
     (words, script, ending, lines): (&str, &str, (u8, u64), &[u8]),
 ) -> Result<(), Fail> {
-    let ran = run(rt, alloc, words, script, ScriptHost::new(None, true))?;
+    let ran = run(rt, alloc, words, script)?;
     see(rt, words, &ran, ending, lines);
     Ok(())
 }
@@ -165,9 +188,11 @@ fn see_summary<R: Abort + Threads + Wait + Copy + Send + Sync + 'static>(
     words: &str,
     summary: &str,
 ) -> Result<(), Fail> {
-    let ran = run(rt, alloc, words, "", ScriptHost::new(None, true))?;
+    let ran = run(rt, alloc, words, "")?;
     see(rt, words, &ran, (0, 0), summary.as_bytes());
-    assert_eq!(*rt; ran.first, 0, "{words}");
+    let first = ran.first;
+    drop(ran);
+    assert_eq!(*rt; first, 0, "{words}");
     Ok(())
 }
 

@@ -104,10 +104,31 @@ pub(crate) fn run_line<
     Ok(run_words(rt, alloc, &words, &mut host, input, output, volumes))
 }
 
+/// Runs the words of a line, with a host that refuses to listen and a sink that fails behind so many bytes.
+pub(crate) fn run_short<
+    R: Threads + Wait + Copy + Send + Sync + 'static,
+    S: Source + Drop,
+    V: Volumes<ServerNote> + Drop + Send,
+>(
+    rt: &R,
+    alloc: Global,
+    line: &str,
+    input: S,
+    volumes: V,
+    fail_after: Option<u64>,
+) -> Result<Ran, Fail> {
+    let output = room(alloc, fail_after)?;
+    Ok(run_line(rt, alloc, line, input, output, volumes)?.ran())
+}
+
+/// Whether a run ended with this status and its number, and wrote this.
+fn is_so(ran: &Ran, (status, at): (u8, u64), written: &[u8]) -> bool {
+    ran.status == status && ran.at == at && ran.output.bytes() == written
+}
+
 /// Sees that a run ended with this status and its number, and wrote this.
 pub(crate) fn see(rt: &impl Abort, row: &str, ran: &Ran, ending: (u8, u64), written: &[u8]) {
-    assert_eq!(*rt; (ran.status, ran.at), ending, "{row}");
-    assert_eq!(*rt; ran.output.bytes(), written, "{row}");
+    assert!(*rt; is_so(ran, ending, written), "{row}");
 }
 
 /// The words of a line, which are parted by one space.

@@ -1,5 +1,5 @@
 //! What `display` and `audit` write, by their input, with the status and its number.
-use crate::running::{RECORD, Ran, long_record, room, run_line, see, source};
+use crate::running::{RECORD, Ran, long_record, run_short, see, source};
 use ev_base::MemSource;
 use reactor_model::DropVolumes;
 use std::alloc::Global;
@@ -27,8 +27,7 @@ fn run<R: Threads + Wait + Copy + Send + Sync + 'static>(
     input: MemSource,
     fail_after: Option<u64>,
 ) -> Result<Ran, Fail> {
-    let output = room(alloc, fail_after)?;
-    Ok(run_line(rt, alloc, word, input, output, DropVolumes)?.ran())
+    run_short(rt, alloc, word, input, DropVolumes, fail_after)
 }
 
 /// Sees a row of a command.
@@ -122,8 +121,9 @@ fn see_length<R: Abort + Threads + Wait + Copy + Send + Sync + 'static>(
     length: usize,
 ) -> Result<(), Fail> {
     let ran = run(rt, alloc, "display", long_record(alloc, header)?, None)?;
-    let written = ran.output.bytes().len();
-    assert_eq!(*rt; (ran.status, ran.at, written), (status, 0, length));
+    let ending = (ran.status, ran.at, ran.output.bytes().len());
+    drop(ran);
+    assert!(*rt; ending == (status, 0, length), "a long record of {length}");
     Ok(())
 }
 
