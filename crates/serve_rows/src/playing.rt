@@ -22,7 +22,7 @@ use std::thread::Threads;
 use timer_queue::SortedTimers;
 
 /// What is left of a script that was played.
-pub(crate) type Played<W, V> = Served<ScriptNet, SortedTimers, W, V>;
+type Played<W, V> = Served<ScriptNet, SortedTimers, W, V>;
 
 /// The reactor that plays it.
 type Player<W, V> = Core<ServerHandler<ScriptEnd>, ScriptNet, SortedTimers, W, V>;
@@ -86,13 +86,17 @@ fn ground<W: Watch<ServerNote> + Drop, V: Volumes<ServerNote> + Drop>(
     ensures listener { IfOk result (λ given. GivesListener script_net_facts script_end_facts (given.0.net, given.0.listener)) }
     ensures start { IfOk result (λ given. CanStart ⟦<Player<W, V> as Means>⟧.m (λ q. q.timers) ScriptEndKeeps asked given.0 (terms_of asked)) }
 {
+    let waits = numbers(alloc, fails.wait)?;
+    let attaches = numbers(alloc, fails.attach)?;
     let script = parse_script(alloc, script.as_bytes(), 0)?;
     let mut host = ScriptHost::new(Some(script), false);
-    match host.listen(alloc, 7000) {
+    let given = host.listen(alloc, 7000);
+    drop(host);
+    match given {
         Ok((net, listener, waker)) => {
             let mut net = net;
-            net.fail_waits(numbers(alloc, fails.wait)?);
-            net.fail_attaches(numbers(alloc, fails.attach)?);
+            net.fail_waits(waits);
+            net.fail_attaches(attaches);
             let ground = Ground {
                 net,
                 listener,
@@ -106,7 +110,13 @@ fn ground<W: Watch<ServerNote> + Drop, V: Volumes<ServerNote> + Drop>(
     }
 }
 
-/// Plays a script, some calls of whose net fail.
+/// How a run ended, and the watch, which saw its journal.
+fn told<W: Drop, V: Drop>(played: Played<W, V>) -> (Ending, W) {
+    let Served { ending, parts } = played;
+    (ending, parts.watch)
+}
+
+/// Plays a script, some calls of whose net fail, and gives how its run ended and the watch.
 pub(crate) fn play<
     R: Threads + Wait + Sync,
     W: Watch<ServerNote> + Drop + Send,
@@ -119,14 +129,14 @@ pub(crate) fn play<
     fails: Fails,
     watch: W,
     volumes: V,
-) -> Result<Played<W, V>, Fail>
+) -> Result<(Ending, W), Fail>
     requires { W.stands (terms_of asked) watch [] }
 {
     if !is_fine(asked) {
         return Err("no such run".into());
     }
     let (ground, waker) = ground(alloc, script, asked, fails, watch, volumes)?;
-    Ok(serve(rt, alloc, asked, ground, waker))
+    Ok(told(serve(rt, alloc, asked, ground, waker)))
 }
 
 /// Plays a script of whose calls none fails, and gives how its run ended and the watch, which saw its journal.
@@ -139,6 +149,5 @@ pub(crate) fn watch_script<R: Threads + Wait + Sync, W: Watch<ServerNote> + Drop
 ) -> Result<(Ending, W), Fail>
     requires { W.stands (terms_of asked) watch [] }
 {
-    let Served { ending, parts } = play(rt, alloc, script, asked, NONE_FAILS, watch, DropVolumes)?;
-    Ok((ending, parts.watch))
+    play(rt, alloc, script, asked, NONE_FAILS, watch, DropVolumes)
 }

@@ -4,8 +4,8 @@ use Rattle.serve_rows.specs.Playing.{terms_of}
 use Rattle.serve_rows.proofs.Starting.{gives_still, keeps_still, named, open_terms_of, taken_open}
 use Rattle.serve_rows.proofs.playing.ground.Goals as goal
 
-pub returns-in_ok-numbers-in-Ok-2-clause-start : goal.returns-in_ok-numbers-in-Ok-2-clause-start
-returns-in_ok-numbers-in-Ok-2-clause-start g c =
+pub returns-in-Ok-clause-start : goal.returns-in-Ok-clause-start
+returns-in-Ok-clause-start g c =
     let t = terms_of c.args.asked in
     let is = named c.in-Ok.net c.fail_waits.new.self c.fail_attaches.new.self _ _ c.fail_waits.ensures c.fail_attaches.ensures in
     let kept = c.in-Ok.ensures.listens.2 t (host_keeps_open t c.new-host.result (open_terms_of c.args.asked)) in
