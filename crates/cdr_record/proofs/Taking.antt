@@ -11,7 +11,7 @@ use Rattle.cdr_record.specs.Grammar.{first_of, record_in, fields_length, HasFiel
 use Rattle.cdr_record.specs.declared.bad.Bad.{Bad as BadRecord}
 use Rattle.cdr_record.specs.declared.bad.BadWhy.{BadWhy}
 use Rattle.cdr_record.specs.declared.decoder.Fed.{Fed}
-use Rattle.cdr_record.specs.Decoding.{records_of, left_of, taken_of, told, kept_of, bad_at, bad_of, StandsFor, DecoderState}
+use Rattle.cdr_record.specs.Decoding.{decode, records_of, left_of, taken_of, told, kept_of, bad_at, bad_of, StandsFor, DecoderState}
 use Rattle.cdr_record.specs.Feeding.{Feeds, fresh}
 use Rattle.cdr_record.proofs.Growing.{verdict, first_verdict, first_one, one_stays, bad_stays, word_at-append}
 use Rattle.cdr_record.proofs.Cutting.{Stops, first_nil, steps_over, StopsAt, stops_at, is_left, goes_on, one_goes_on, taken_of-append}
@@ -242,6 +242,15 @@ stays_bad old piece fed b is_bad erecords ebad =
 pub feeds_bad : (old : DecoderState) (piece : List ℕ) (fed : Fed) → true ≡ is_some old.bad → fed.records ≡ [] → fed.bad ≡ old.bad → Feeds old piece fed old
 feeds_bad old piece fed is_bad erecords ebad =
     let b = the_bad old.bad is_bad in stays_bad old piece fed b.0 b.1 erecords ebad
+
+-- a decoder was fed a piece, and these records came, with this bad record or none
+pub fed_these : (old new : DecoderState) (piece : List ℕ) (found fed : Fed) → fed.records ≡ found.records → fed.bad ≡ found.bad → Feeds old piece found new → Feeds old piece fed new
+fed_these old new piece found fed same_records same_bad feeds = record {
+  stands = feeds.stands;
+  records = λ t s. feeds.records t s ∙ ap (λ rs. (decode t).records ++ rs) (sym same_records);
+  bad = λ t s. same_bad ∙ feeds.bad t s;
+  same_bad = feeds.same_bad ∙ sym same_bad;
+}
 
 -- what a decoder keeps is never a whole record, nor the beginning of a bad one
 kept_by_first : (left : List ℕ) (v : First) → first_of left ≡ v → Stops v → first_of (kept_of left v) ≡ More

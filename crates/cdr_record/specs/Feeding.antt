@@ -1,7 +1,8 @@
 -- What one feed of a decoder does, and a run of feeds.
-use Rattle.std.specs.Prelude.{◌≡◌, ℕ, List, [], ◌∷◌, ◌++◌, None}
+use Rattle.std.specs.Prelude.{◌≡◌, ℕ, List, [], ◌∷◌, ◌++◌, Option, None}
 use Rattle.cdr_record.specs.declared.record.LogRecord.{LogRecord}
 use Rattle.cdr_record.specs.declared.decoder.Fed.{Fed}
+use Rattle.cdr_record.specs.declared.bad.Bad.{Bad}
 use Rattle.cdr_record.specs.Decoding.{DecoderState, StandsFor, decode, bad_of}
 
 -- The decoder was fed a piece. For each list that it stood for, it stands now for that list and the piece;
@@ -12,6 +13,10 @@ pub record Feeds (old : DecoderState) (piece : List ℕ) (fed : Fed) (new : Deco
   pub records : (t : List ℕ) → StandsFor old t → (decode (t ++ piece)).records ≡ (decode t).records ++ fed.records
   pub bad : (t : List ℕ) → StandsFor old t → fed.bad ≡ bad_of (t ++ piece)
   pub same_bad : new.bad ≡ fed.bad
+
+-- The decoder was fed a piece, and the records that came stand now behind those that a list had.
+abbrev pub FeedsTo : DecoderState → List ℕ → List LogRecord → Option Bad → List LogRecord → DecoderState → Type 0
+FeedsTo old piece before bad after new = (fed : Fed) × (fed.bad ≡ bad) × (after ≡ before ++ fed.records) × Feeds old piece fed new
 
 -- a decoder that was fed nothing
 abbrev pub fresh : DecoderState

@@ -3,12 +3,13 @@
 ghost use Rattle.std.specs.Prelude.{◌≡◌, ◌≤◌, ◌<◌, ◌-◌, ◌*◌, ◌++◌, [], None, IsSome, IfOk, IsOkAnd, OnOk, OnErr, ℕ, List, length, take, drop, min};
 ghost use Rattle.cdr_record.specs.Grammar as G;
 ghost use Rattle.cdr_record.specs.Decoding as D;
-ghost use Rattle.cdr_record.specs.Feeding.{Feeds, fresh};
+ghost use Rattle.cdr_record.specs.Feeding.{Feeds, FeedsTo, fresh};
 ghost use Rattle.cdr_record.specs.declared.grammar.First.TheVariants as first;
 
 use crate::bad::Bad;
-use crate::grammar::{First, HEADER, SHORTEST_RECORD, first_in, payload_length, read_record};
-use crate::record::{LogRecord, Records};
+use crate::grammar::{First, HEADER, SHORTEST_RECORD, first_in, payload_length, record_in};
+use crate::record::Records;
+use crate::record_list::RecordList;
 use ev_types::NoMemory;
 use std::alloc::{AllocError, Global};
 use std::marker::Model;
@@ -73,16 +74,33 @@ impl Decoder {
                 bad: self.bad,
             });
         }
+        let items = Vec::with_capacity(alloc, most_records(piece.len()))?;
+        let mut records = Records::new(items);
+        let bad = self.feed_to(piece, &mut records)?;
+        Ok(Fed { records, bad })
+    }
+
+    /// Takes the next piece of the stream as `feed` does, and appends the records that are whole now to a list. It gives the bad record at which
+    /// the stream stops, if that has come. An `Err` leaves the decoder as it was; the list may have some records more.
+    pub fn feed_to<L: RecordList>(
+        &mut self,
+        piece: &[u8],
+        list: &mut L,
+    ) -> Result<Option<Bad>, NoMemory>
+        ensures ok { IfOk result (λ bad. FeedsTo self.old piece.now (L.records list.old) bad (L.records list.new) self.new) }
+        ensures stays_bad { IsSome self.old.bad → (result ≡ Ok self.old.bad) × (L.records list.new ≡ L.records list.old) }
+        ensures err { OnErr result (self.new ≡ self.old) }
+    {
+        let stopped = self.bad;
+        if stopped.is_some() {
+            return Ok(stopped);
+        }
         let held = self.rest.len();
-        let mut records = Vec::with_capacity(alloc, most_records(piece.len()))?;
-        match take_piece(&mut self.rest, &mut records, piece) {
+        match take_piece(&mut self.rest, list, piece) {
             Ok(step) => {
                 self.offset = self.offset.saturating_add(step.taken);
                 self.bad = bad_at(self.offset, step.first);
-                Ok(Fed {
-                    records: Records::new(records),
-                    bad: self.bad,
-                })
+                Ok(self.bad)
             }
             Err(AllocError) => {
                 self.rest.truncate(held);
@@ -135,20 +153,19 @@ fn bad_at(at: u64, first: First) -> Option<Bad>
 
 /// Takes the records off the front of a list of bytes while one stands there. Gives what is left behind them,
 /// and what stands first there.
-fn take_records<'a>(
-    records: &mut Vec<LogRecord>,
+fn take_records<'a, L: RecordList>(
+    list: &mut L,
     bytes: &'a [u8],
 ) -> Result<(&'a [u8], First), AllocError>
     ensures left { IfOk result (λ found. found.0.now ≡ D.left_of bytes.now) }
     ensures first { IfOk result (λ found. found.1 ≡ G.first_of (D.left_of bytes.now)) }
-    ensures records { OnOk result (records.new.items ≡ records.old.items ++ D.records_of bytes.now) }
+    ensures records { OnOk result (L.records list.new ≡ L.records list.old ++ D.records_of bytes.now) }
 {
-    let alloc = *records.allocator();
     let mut left = bytes;
     'records: loop {
         match first_in(left) {
             First::One(size) => {
-                records.push(read_record(alloc, left)?)?;
+                list.append(record_in(left))?;
                 left = &left[size..];
             }
             first => return Ok((left, first)),
@@ -168,18 +185,18 @@ fn replace(rest: &mut Vec<u8>, left: &[u8]) -> Result<(), AllocError>
 }
 
 /// Takes a piece that begins where a record does. What the rest has is done with.
-fn take_whole(
+fn take_whole<L: RecordList>(
     rest: &mut Vec<u8>,
-    records: &mut Vec<LogRecord>,
+    list: &mut L,
     piece: &[u8],
 ) -> Result<Step, AllocError>
     ensures taken { IfOk result (λ step. step.taken ≡ D.told (D.taken_of piece.now)) }
     ensures first { IfOk result (λ step. step.first ≡ G.first_of (D.left_of piece.now)) }
-    ensures records { OnOk result (records.new.items ≡ records.old.items ++ D.records_of piece.now) }
+    ensures records { OnOk result (L.records list.new ≡ L.records list.old ++ D.records_of piece.now) }
     ensures rest { OnOk result (rest.new.items ≡ D.kept_of (D.left_of piece.now) (G.first_of (D.left_of piece.now))) }
     ensures err { OnErr result (rest.new.items ≡ rest.old.items) }
 {
-    let (left, first) = take_records(records, piece)?;
+    let (left, first) = take_records(list, piece)?;
     let taken = piece.len() - left.len();
     let kept = match first {
         First::Bad(_) => &left[..0],
@@ -229,26 +246,26 @@ fn complete(rest: &mut Vec<u8>, piece: &[u8]) -> Result<(usize, First), AllocErr
 }
 
 /// Takes the next piece of a stream of which the rest is left.
-fn take_piece(
+fn take_piece<L: RecordList>(
     rest: &mut Vec<u8>,
-    records: &mut Vec<LogRecord>,
+    list: &mut L,
     piece: &[u8],
 ) -> Result<Step, AllocError>
     requires { G.first_of rest.old.items ≡ first.More }
     ensures taken { IfOk result (λ step. step.taken ≡ D.told (D.taken_of (rest.old.items ++ piece.now))) }
     ensures first { IfOk result (λ step. step.first ≡ G.first_of (D.left_of (rest.old.items ++ piece.now))) }
-    ensures records { OnOk result (records.new.items ≡ records.old.items ++ D.records_of (rest.old.items ++ piece.now)) }
+    ensures records { OnOk result (L.records list.new ≡ L.records list.old ++ D.records_of (rest.old.items ++ piece.now)) }
     ensures rest { OnOk result (rest.new.items ≡ D.kept_of (D.left_of (rest.old.items ++ piece.now)) (G.first_of (D.left_of (rest.old.items ++ piece.now)))) }
     ensures err { OnErr result (take (length rest.old.items) rest.new.items ≡ rest.old.items) }
 {
     if rest.is_empty() {
-        return take_whole(rest, records, piece);
+        return take_whole(rest, list, piece);
     }
     let (moved, first) = complete(rest, piece)?;
     match first {
         First::One(size) => {
-            records.push(read_record(*records.allocator(), rest)?)?;
-            let step = take_whole(rest, records, &piece[moved..])?;
+            list.append(record_in(rest))?;
+            let step = take_whole(rest, list, &piece[moved..])?;
             Ok(Step {
                 taken: step.taken.saturating_add(size as u64),
                 first: step.first,

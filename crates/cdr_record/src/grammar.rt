@@ -1,16 +1,14 @@
 //! What stands first in a list of bytes, and the record that stands there.
 
-ghost use Rattle.std.specs.Prelude.{◌≡◌, ◌≤◌, ◌<◌, ◌+◌, ℕ, length, take, drop, IfOk};
+ghost use Rattle.std.specs.Prelude.{◌≡◌, ◌≤◌, ◌<◌, ◌+◌, ℕ, length, take, drop};
 ghost use Rattle.std.specs.Int.{cast_signed, w32};
 ghost use Rattle.cdr_record.specs.Borrowed.{owned};
 ghost use Rattle.cdr_record.specs.Grammar as G;
 ghost use Rattle.cdr_record.specs.declared.grammar.First.TheVariants as first;
 
 use crate::bad::BadWhy;
-use crate::bytes::Bytes;
-use crate::record::{LogRecord, Order, RecordRef};
+use crate::record::{Order, RecordRef};
 use byteorder::{BigEndian, ByteOrder, LittleEndian};
-use std::alloc::{AllocError, Global};
 
 /// The bytes of a header.
 pub(crate) const HEADER: usize = 8;
@@ -174,26 +172,4 @@ pub(crate) fn record_in(bytes: &[u8]) -> RecordRef<'_>
         usec: signed_at(bytes, 16 + seconds_size(bytes[0])),
         text: message_in(bytes),
     }
-}
-
-/// The record at the front.
-pub(crate) fn read_record(alloc: Global, bytes: &[u8]) -> Result<LogRecord, AllocError>
-    requires fields { 8 + G.fields_length bytes.now ≤ length bytes.now }
-    requires message { 8 + G.fields_length bytes.now + G.message_length bytes.now ≤ length bytes.now }
-    ensures { IfOk result (λ r. r ≡ G.record_in bytes.now) }
-{
-    let RecordRef {
-        kind,
-        pid,
-        sec,
-        usec,
-        text,
-    } = record_in(bytes);
-    Ok(LogRecord {
-        kind,
-        pid,
-        sec,
-        usec,
-        text: Bytes::new(Vec::from_slice(alloc, text)?),
-    })
 }

@@ -18,6 +18,7 @@ mod grammar;
 pub mod laws;
 mod one_record;
 mod record;
+mod record_list;
 
 pub use bad::{Bad, BadWhy};
 pub use bytes::Bytes;
@@ -26,3 +27,4 @@ pub use encoding::{EncodeRefused, encode, encode_2};
 pub use grammar::{First, first_in};
 pub use one_record::only_record;
 pub use record::{LogRecord, Order, RecordRef, Records};
+pub use record_list::RecordList;

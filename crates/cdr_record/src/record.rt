@@ -4,6 +4,8 @@ ghost use Rattle.std.specs.Prelude.{◌≡◌};
 ghost use Rattle.cdr_record.specs.Borrowed.{owned};
 
 use crate::bytes::Bytes;
+use crate::record_list::RecordList;
+use std::alloc::AllocError;
 use std::marker::Model;
 
 /// A byte order of CDR.
@@ -95,5 +97,29 @@ impl Records {
         ensures { result.items ≡ self }
     {
         self.items
+    }
+}
+
+impl RecordList for Records {
+    ghost records = { λ r. r };
+
+    fn append(&mut self, entry: RecordRef<'_>) -> Result<(), AllocError> {
+        let RecordRef {
+            kind,
+            pid,
+            sec,
+            usec,
+            text,
+        } = entry;
+        let alloc = *self.items.allocator();
+        let text = Bytes::new(Vec::from_slice(alloc, text)?);
+        self.items.push(LogRecord {
+            kind,
+            pid,
+            sec,
+            usec,
+            text,
+        })?;
+        Ok(())
     }
 }

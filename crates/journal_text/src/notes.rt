@@ -1,16 +1,18 @@
 //! The texts of notes.
+ghost use Rattle.cdr_record.specs.Borrowed.{owned};
 ghost use Rattle.sink_buffer.specs.Texts.{Puts};
 ghost use Rattle.journal_text.specs.Texts.{record_word, record_words, note_text};
 
 use crate::words::{put_counted, put_digits, put_end, put_number};
-use cdr_record::LogRecord;
+use cdr_record::RecordRef;
 use log_handler::ServerNote;
 use log_lines::put_signed;
+use packed_records::Unpacked;
 use sink_buffer::TextOut;
 
 /// Puts a record's word.
-fn put_record<T: TextOut>(out: &mut T, entry: &LogRecord)
-    ensures { Puts T.stands out.old (record_word entry.now) out.new }
+fn put_record<T: TextOut>(out: &mut T, entry: RecordRef<'_>)
+    ensures { Puts T.stands out.old (record_word (owned entry.entry)) out.new }
 {
     put_signed(out, i64::from(entry.kind));
     out.put(b":");
@@ -20,12 +22,12 @@ fn put_record<T: TextOut>(out: &mut T, entry: &LogRecord)
     out.put(b":");
     put_signed(out, i64::from(entry.usec));
     out.put(b":");
-    put_digits(out, entry.text.as_slice());
+    put_digits(out, entry.text);
 }
 
 /// Puts the words of records, a space before each.
-fn put_records<T: TextOut>(out: &mut T, records: &[LogRecord])
-    ensures { Puts T.stands out.old (record_words records.now) out.new }
+fn put_records<T: TextOut>(out: &mut T, records: Unpacked<'_>)
+    ensures { Puts T.stands out.old (record_words records.entry) out.new }
 {
     for entry in records {
         out.put(b" ");
@@ -50,8 +52,8 @@ pub(crate) fn put_note<T: TextOut>(out: &mut T, note: &ServerNote)
         } => {
             put_counted(out, b"piece ", *conn);
             put_number(out, *took);
-            put_number(out, records.as_slice().len() as u64);
-            put_records(out, records.as_slice());
+            put_number(out, records.len() as u64);
+            put_records(out, records.iter());
         }
         ServerNote::Finished { conn, end } => {
             put_counted(out, b"end ", *conn);

@@ -1,20 +1,19 @@
 -- The text of the lines of a piece's records.
-use Rattle.std.specs.Prelude.{◌≡◌, ◌-◌, ℕ, ℤ, pos, List, [], ◌∷◌, ◌++◌, length, take, false}
+use Rattle.std.specs.Prelude.{◌≡◌, ℕ, List, [], ◌++◌, false, Option, None, Some, IfSome}
+use Rattle.std.specs.Global.{Box}
 use Rattle.cdr_record.specs.declared.record.LogRecord.{LogRecord}
 use Rattle.log_lines.specs.Texts.{record_lines}
+use Rattle.log_handler.specs.declared.logged.Content.{Content}
 use Rattle.log_handler.specs.declared.logged.GrowingText.{GrowingText}
 
--- a text beside a time: where that is the number of a connection, the text is that of the lines of these records for it
-abbrev pub IsTextOf : ℤ → List ℕ → List LogRecord → Type 0
-IsTextOf sec text records = (conn : ℕ) → sec ≡ pos conn → text ≡ record_lines conn records
+-- a text beside the number of a connection is that of the lines of these records for it
+abbrev pub IsTextOf : Option ℕ → List ℕ → List LogRecord → Type 0
+IsTextOf conn text records = IfSome conn (λ number. text ≡ record_lines number records)
 
--- the records of a list: all its items but the last, which carries their text
-abbrev pub records_in : List LogRecord → List LogRecord
-records_in items = take (length items - 1) items
-
--- the item behind the records carries the text of their lines
-abbrev pub HasLines : List LogRecord → Type 0
-HasLines items = (carrier : LogRecord) → items ≡ records_in items ++ carrier ∷ [] → IsTextOf carrier.sec carrier.text (records_in items)
+-- the records of what is kept, or none
+abbrev pub records_in : Option (Box Content) → List LogRecord
+records_in None = []
+records_in (Some content) = content.value.records
 
 -- since it was these bytes, this was put behind them, unless it broke
 abbrev pub Grows : List ℕ → GrowingText → List ℕ → Type 0

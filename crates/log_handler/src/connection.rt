@@ -1,5 +1,5 @@
 //! The event handler of one connection.
-ghost use Rattle.std.specs.Prelude.{◌≡◌, ◌≢◌, ◌<◌, ◌≤◌, ◌↔◌, ℕ, List, [], true, false, Some, None, IsSome, Option, length};
+ghost use Rattle.std.specs.Prelude.{◌≡◌, ◌≢◌, ◌<◌, ◌≤◌, ◌↔◌, ℕ, List, [], true, false, Some, None, IsSome, Option, length, IfOk};
 ghost use Rattle.ev_types.specs.declared.upcall.Answer.TheVariants.{Keep, Again, Close};
 ghost use Rattle.ev_types.specs.declared.upcall.Upcall.TheVariants.{Input, Timeout};
 ghost use Rattle.ev_types.specs.declared.upcall.Why.TheVariants.{Own};
@@ -23,10 +23,14 @@ use ev_base::{Got, Net, PeerEnd};
 use ev_types::{Answer, Handle, Mask, NetFailed, Upcall, Why};
 use log_lines::EndKind;
 use reactor_model::{EventHandler, Turn};
-use std::alloc::Global;
+use packed_records::PackedRecords;
+use std::alloc::{AllocError, Global};
 
 /// How many bytes a read takes at most.
 const PIECE: usize = 4096;
+
+/// How many bytes a record is taken to have at least: shorter ones make a list grow.
+const USUAL_RECORD: usize = 64;
 
 /// The event handler of one connection (C++NPv2 chapter 4, `Logging_Event_Handler`): it decodes log records from what its end gives,
 /// one read for each upcall, and notes them.
@@ -95,11 +99,14 @@ impl<E: PeerEnd> LogConnection<E> {
     {
         self.last = now;
         let took = piece.len() as u64;
-        match self.decoder.feed(piece) {
-            Ok(fed) => {
+        let Ok(mut records) = room_for(self.alloc, piece.len()) else {
+            return self.lose(took);
+        };
+        match self.decoder.feed_to(piece, &mut records) {
+            Ok(bad) => {
                 tells_stop();
-                match LoggedRecords::with_lines(self.alloc, self.conn, fed.records) {
-                    Ok(records) => match fed.bad {
+                match LoggedRecords::with_lines(self.alloc, self.conn, records) {
+                    Ok(records) => match bad {
                         Some(bad) => self.close_with(EndKind::Malformed(bad.at), took, records),
                         None => self.turn(Answer::Again, took, records),
                     },
@@ -115,7 +122,7 @@ impl<E: PeerEnd> LogConnection<E> {
         ensures turn { IsTurn self.old.conn Close took [] result }
         ensures ends { self.new ≡ record self.old { kept = Some NoMemory } }
     {
-        self.close_with(EndKind::NoMemory, took, LoggedRecords::none(self.alloc))
+        self.close_with(EndKind::NoMemory, took, LoggedRecords::none())
     }
 
     /// Closes where nothing came for too long.
@@ -146,7 +153,7 @@ impl<E: PeerEnd> LogConnection<E> {
     fn keep(&self) -> Turn<LogConnection<E>>
         ensures { IsTurn self.now.conn Keep 0 [] result }
     {
-        self.turn(Answer::Keep, 0, LoggedRecords::none(self.alloc))
+        self.turn(Answer::Keep, 0, LoggedRecords::none())
     }
 
     /// A turn that took nothing and ends the connection so.
@@ -154,7 +161,7 @@ impl<E: PeerEnd> LogConnection<E> {
         ensures turn { IsTurn self.old.conn Close 0 [] result }
         ensures ends { self.new ≡ record self.old { kept = Some end } }
     {
-        self.close_with(end, 0, LoggedRecords::none(self.alloc))
+        self.close_with(end, 0, LoggedRecords::none())
     }
 
     /// A turn that took so many bytes, completed these records, and ends the connection so.
@@ -184,6 +191,13 @@ impl<E: PeerEnd> LogConnection<E> {
             act: None,
         }
     }
+}
+
+/// No records, with room for those of a piece of so many bytes, where they are of usual size.
+fn room_for(alloc: Global, bytes: usize) -> Result<PackedRecords, AllocError>
+    ensures { IfOk result (λ records. records ≡ []) }
+{
+    PackedRecords::with_capacity(alloc, bytes / USUAL_RECORD + 1, bytes)
 }
 
 /// How a connection is closed for the reason, which ended itself in this way or did not.

@@ -2,14 +2,16 @@
 ghost use Rattle.std.specs.Prelude.{◌≡◌, ◌≤◌, ◌++◌, ◌∷◌, ℕ, List, [], Some, MatchOption, true, false};
 ghost use Rattle.ev_base.specs.Counts.{Rose};
 ghost use Rattle.ev_base.specs.Terms.{Terms};
+ghost use Rattle.cdr_record.specs.Borrowed.{owned};
 ghost use Rattle.sink_buffer.specs.Texts.{Puts};
 ghost use Rattle.log_lines.specs.Texts.{record_line, record_lines, closing_line};
 ghost use Rattle.log_handler.specs.Notes.{note_lines, entry_lines};
 
 use crate::{LoggedRecords, ServerNote};
-use cdr_record::LogRecord;
+use cdr_record::RecordRef;
 use ev_base::Sink;
-use log_lines::{EndKind, put_closing_line, put_record_line};
+use log_lines::{EndKind, put_borrowed_line, put_closing_line};
+use packed_records::Unpacked;
 use reactor_journal::Entry;
 use reactor_model::Watch;
 use sink_buffer::{DirectSink, ShortText, TextOut};
@@ -87,13 +89,13 @@ fn put_piece<T: TextOut>(out: &mut T, conn: u64, records: &LoggedRecords)
 {
     match records.lines_for(conn) {
         Some(text) => out.put(text),
-        None => put_each(out, conn, records.as_slice()),
+        None => put_each(out, conn, records.iter()),
     }
 }
 
 /// Puts the lines of records one by one.
-fn put_each<T: TextOut>(out: &mut T, conn: u64, records: &[LogRecord])
-    ensures { Puts T.stands out.old (record_lines conn records.now) out.new }
+fn put_each<T: TextOut>(out: &mut T, conn: u64, records: Unpacked<'_>)
+    ensures { Puts T.stands out.old (record_lines conn records.entry) out.new }
 {
     for entry in records {
         put_record(out, conn, entry);
@@ -101,14 +103,14 @@ fn put_each<T: TextOut>(out: &mut T, conn: u64, records: &[LogRecord])
 }
 
 /// Puts a record's line, at once where it is short.
-fn put_record<T: TextOut>(out: &mut T, conn: u64, entry: &LogRecord)
-    ensures { Puts T.stands out.old (record_line conn entry.now) out.new }
+fn put_record<T: TextOut>(out: &mut T, conn: u64, entry: RecordRef<'_>)
+    ensures { Puts T.stands out.old (record_line conn (owned entry.entry)) out.new }
 {
     let mut line = ShortText::new();
-    put_record_line(&mut line, conn, entry);
+    put_borrowed_line(&mut line, conn, entry);
     match line.text() {
         Some(text) => out.put(text),
-        None => put_record_line(out, conn, entry),
+        None => put_borrowed_line(out, conn, entry),
     }
 }
 

@@ -10,7 +10,5 @@ mod numbers;
 
 pub use end_kind::EndKind;
 pub use laws::texts_are_short;
-pub use lines::{
-    put_borrowed_text, put_closing_line, put_record_line, put_record_lines, put_record_text,
-};
+pub use lines::{put_borrowed_line, put_borrowed_text, put_closing_line, put_record_lines};
 pub use numbers::{put_signed, put_unsigned};

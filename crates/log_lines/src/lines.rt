@@ -8,17 +8,11 @@ ghost use Rattle.log_lines.specs.Texts.{type_text, record_text, record_line, rec
 use crate::EndKind;
 use crate::message::put_message;
 use crate::numbers::{put_signed, put_unsigned};
-use cdr_record::{LogRecord, RecordRef};
+use cdr_record::RecordRef;
+use packed_records::Unpacked;
 use sink_buffer::TextOut;
 
-/// Puts a record's text: `SEC,USEC PID NAME: MESSAGE`.
-pub fn put_record_text<T: TextOut>(out: &mut T, entry: &LogRecord)
-    ensures { Puts T.stands out.old (record_text entry.now) out.new }
-{
-    put_borrowed_text(out, entry.borrowed());
-}
-
-/// Puts the text of a record whose message is borrowed, as `put_record_text` does.
+/// Puts the text of a record whose message is borrowed: `SEC,USEC PID NAME: MESSAGE`.
 pub fn put_borrowed_text<T: TextOut>(out: &mut T, entry: RecordRef<'_>)
     ensures { Puts T.stands out.old (record_text (owned entry.entry)) out.new }
 {
@@ -33,22 +27,22 @@ pub fn put_borrowed_text<T: TextOut>(out: &mut T, entry: RecordRef<'_>)
     put_message(out, entry.text);
 }
 
-/// Puts a record's line: the number of its connection, and its text.
-pub fn put_record_line<T: TextOut>(out: &mut T, connection: u64, entry: &LogRecord)
-    ensures { Puts T.stands out.old (record_line connection entry.now) out.new }
+/// Puts the line of a record whose message is borrowed: the number of its connection, and its text.
+pub fn put_borrowed_line<T: TextOut>(out: &mut T, connection: u64, entry: RecordRef<'_>)
+    ensures { Puts T.stands out.old (record_line connection (owned entry.entry)) out.new }
 {
     put_unsigned(out, connection);
     out.put(b" ");
-    put_record_text(out, entry);
+    put_borrowed_text(out, entry);
     out.put(b"\n");
 }
 
 /// Puts the lines of records, one behind another.
-pub fn put_record_lines<T: TextOut>(out: &mut T, connection: u64, records: &[LogRecord])
-    ensures { Puts T.stands out.old (record_lines connection records.now) out.new }
+pub fn put_record_lines<T: TextOut>(out: &mut T, connection: u64, records: Unpacked<'_>)
+    ensures { Puts T.stands out.old (record_lines connection records.entry) out.new }
 {
     for entry in records {
-        put_record_line(out, connection, entry);
+        put_borrowed_line(out, connection, entry);
     }
 }
 

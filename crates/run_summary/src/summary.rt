@@ -69,7 +69,7 @@ impl Summary {
                 self.connections = self.connections.saturating_add(1);
             }
             ServerNote::Piece { took, records, .. } => {
-                let records = records.as_slice().len() as u64;
+                let records = records.len() as u64;
                 self.records = self.records.saturating_add(records);
                 self.bytes = self.bytes.saturating_add(*took);
                 self.lines = self.lines.saturating_add(records);

@@ -7,6 +7,7 @@ use ev_base::{MemSink, Sink, SteadySource, Wrote};
 use ev_types::{Answer, Handle, Mask};
 use journal_text::JournalSink;
 use log_handler::{EndKind, LineSink, LoggedRecords, ServerNote};
+use packed_records::PackedRecords;
 use reactor_model::{DropVolumes, Entry, Watch};
 use std::alloc::Global;
 use std::sync::Wait;
@@ -58,7 +59,10 @@ fn records_of(alloc: Global, count: u64) -> Result<Records, Fail> {
 fn logged(alloc: Global, count: u64, conn: Option<u64>) -> Result<LoggedRecords, Fail> {
     let records = records_of(alloc, count)?;
     Ok(match conn {
-        Some(conn) => LoggedRecords::with_lines(alloc, conn, records)?,
+        Some(conn) => {
+            let packed = PackedRecords::of(alloc, records.as_slice())?;
+            LoggedRecords::with_lines(alloc, conn, packed)?
+        }
         None => LoggedRecords::new(alloc, records)?,
     })
 }

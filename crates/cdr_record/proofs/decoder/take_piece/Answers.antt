@@ -5,14 +5,14 @@ use Rattle.cdr_record.specs.Decoding.{records_of, taken_of, told}
 use Rattle.cdr_record.proofs.Taking.{one_fields, one_message, in_parts, completed, ends_bad, ends_whole, ends_more, joined_records}
 use Rattle.cdr_record.proofs.decoder.take_piece.Goals as goal
 
-pub read_record-requires-clause-fields : goal.read_record-requires-clause-fields
-read_record-requires-clause-fields c = rw c.deref.ensures.value (one_fields _ _ (sym c.in_ok-moved.ensures.first ∙ c.in-One.is))
+pub record_in-requires-clause-fields : goal.record_in-requires-clause-fields
+record_in-requires-clause-fields g c = rw c.deref.ensures.value (one_fields _ _ (sym c.in_ok-moved.ensures.first ∙ c.in-One.is))
 
-pub read_record-requires-clause-message : goal.read_record-requires-clause-message
-read_record-requires-clause-message c = rw c.deref.ensures.value (one_message _ _ (sym c.in_ok-moved.ensures.first ∙ c.in-One.is))
+pub record_in-requires-clause-message : goal.record_in-requires-clause-message
+record_in-requires-clause-message g c = rw c.deref.ensures.value (one_message _ _ (sym c.in_ok-moved.ensures.first ∙ c.in-One.is))
 
 pub returns-in_ok-step-in-One-clause-taken : goal.returns-in_ok-step-in-One-clause-taken
-returns-in_ok-step-in-One-clause-taken c =
+returns-in_ok-step-in-One-clause-taken g c =
     let whole = in_parts c.args.rest.now.items c.args.piece.now c.complete.new.rest.items _ c.in_ok-moved.ensures.moved in
     let done = completed c.complete.new.rest.items (drop c.in_ok-moved.moved c.args.piece.now) c.in-One.size
     (sym c.in_ok-moved.ensures.first ∙ c.in-One.is) (c.in_ok-moved.ensures.one c.in-One.size c.in-One.is) in
@@ -23,73 +23,73 @@ returns-in_ok-step-in-One-clause-taken c =
     omega (arith, c.saturating_add.ensures, taken, behind)
 
 pub returns-in_ok-step-in-One-clause-first : goal.returns-in_ok-step-in-One-clause-first
-returns-in_ok-step-in-One-clause-first c =
+returns-in_ok-step-in-One-clause-first g c =
     let whole = in_parts c.args.rest.now.items c.args.piece.now c.complete.new.rest.items _ c.in_ok-moved.ensures.moved in
     let done = completed c.complete.new.rest.items (drop c.in_ok-moved.moved c.args.piece.now) c.in-One.size
     (sym c.in_ok-moved.ensures.first ∙ c.in-One.is) (c.in_ok-moved.ensures.one c.in-One.size c.in-One.is) in
     rw (whole, done.left) (rw take_rest at c.in_ok-step-in-One.ensures.first)
 
 pub returns-in_ok-step-in-One-clause-records : goal.returns-in_ok-step-in-One-clause-records
-returns-in_ok-step-in-One-clause-records c =
+returns-in_ok-step-in-One-clause-records g c =
     let whole = in_parts c.args.rest.now.items c.args.piece.now c.complete.new.rest.items _ c.in_ok-moved.ensures.moved in
     let done = completed c.complete.new.rest.items (drop c.in_ok-moved.moved c.args.piece.now) c.in-One.size
     (sym c.in_ok-moved.ensures.first ∙ c.in-One.is) (c.in_ok-moved.ensures.one c.in-One.size c.in-One.is) in
-    let read = c.in_ok-read_record-in-One.ensures ∙ ap record_in c.deref.ensures.value in
+    let read = c.record_in.ensures ∙ ap record_in c.deref.ensures.value in
     rw (whole, done.records, ← read)
-    (joined_records c.args.records.now.items c.push.new.self.items c.take_whole-in-One.new.records.items
-    (records_of (drop c.in_ok-moved.moved c.args.piece.now)) _ c.in_ok-push-in-One.ensures.items (rw take_rest at c.in_ok-step-in-One.ensures.records))
+    (joined_records (g.L.RecordList.records c.args.list.now) (g.L.RecordList.records c.append.new.self) (g.L.RecordList.records c.take_whole-in-One.new.list)
+    (records_of (drop c.in_ok-moved.moved c.args.piece.now)) _ c.in_ok-append-in-One.ensures.ok (rw take_rest at c.in_ok-step-in-One.ensures.records))
 
 pub returns-in_ok-step-in-One-clause-rest : goal.returns-in_ok-step-in-One-clause-rest
-returns-in_ok-step-in-One-clause-rest c =
+returns-in_ok-step-in-One-clause-rest g c =
     let whole = in_parts c.args.rest.now.items c.args.piece.now c.complete.new.rest.items _ c.in_ok-moved.ensures.moved in
     let done = completed c.complete.new.rest.items (drop c.in_ok-moved.moved c.args.piece.now) c.in-One.size
     (sym c.in_ok-moved.ensures.first ∙ c.in-One.is) (c.in_ok-moved.ensures.one c.in-One.size c.in-One.is) in
     rw (whole, done.left) (rw take_rest at c.in_ok-step-in-One.ensures.rest)
 
 pub returns-in-Bad-clause-taken : goal.returns-in-Bad-clause-taken
-returns-in-Bad-clause-taken c =
+returns-in-Bad-clause-taken g c =
     let end = ends_bad c.args.rest.now.items c.args.piece.now c.complete.new.rest.items _ _ c.in_ok-moved.ensures.moved
     (sym c.in_ok-moved.ensures.first ∙ c.in-Bad.is) in
     omega (arith, end.taken)
 
 pub returns-in-Bad-clause-first : goal.returns-in-Bad-clause-first
-returns-in-Bad-clause-first c =
+returns-in-Bad-clause-first g c =
     let end = ends_bad c.args.rest.now.items c.args.piece.now c.complete.new.rest.items _ _ c.in_ok-moved.ensures.moved
     (sym c.in_ok-moved.ensures.first ∙ c.in-Bad.is) in
     c.in-Bad.is ∙ sym end.first
 
 pub returns-in-Bad-clause-records : goal.returns-in-Bad-clause-records
-returns-in-Bad-clause-records c =
+returns-in-Bad-clause-records g c =
     let end = ends_bad c.args.rest.now.items c.args.piece.now c.complete.new.rest.items _ _ c.in_ok-moved.ensures.moved
     (sym c.in_ok-moved.ensures.first ∙ c.in-Bad.is) in
     rw end.records (sym (append-nil _))
 
 pub returns-in-Bad-clause-rest : goal.returns-in-Bad-clause-rest
-returns-in-Bad-clause-rest c =
+returns-in-Bad-clause-rest g c =
     let end = ends_bad c.args.rest.now.items c.args.piece.now c.complete.new.rest.items _ _ c.in_ok-moved.ensures.moved
     (sym c.in_ok-moved.ensures.first ∙ c.in-Bad.is) in
     rw (end.first, c.clear.ensures.items) refl
 
 pub returns-in-More-clause-taken : goal.returns-in-More-clause-taken
-returns-in-More-clause-taken c =
+returns-in-More-clause-taken g c =
     let end = ends_more c.args.rest.now.items c.args.piece.now c.complete.new.rest.items _ c.in_ok-moved.ensures.moved
     (c.in_ok-moved.ensures.all c.in-More.is) (sym c.in_ok-moved.ensures.first ∙ c.in-More.is) in
     omega (arith, end.taken)
 
 pub returns-in-More-clause-first : goal.returns-in-More-clause-first
-returns-in-More-clause-first c =
+returns-in-More-clause-first g c =
     let end = ends_more c.args.rest.now.items c.args.piece.now c.complete.new.rest.items _ c.in_ok-moved.ensures.moved
     (c.in_ok-moved.ensures.all c.in-More.is) (sym c.in_ok-moved.ensures.first ∙ c.in-More.is) in
     c.in-More.is ∙ sym end.first
 
 pub returns-in-More-clause-records : goal.returns-in-More-clause-records
-returns-in-More-clause-records c =
+returns-in-More-clause-records g c =
     let end = ends_more c.args.rest.now.items c.args.piece.now c.complete.new.rest.items _ c.in_ok-moved.ensures.moved
     (c.in_ok-moved.ensures.all c.in-More.is) (sym c.in_ok-moved.ensures.first ∙ c.in-More.is) in
     rw end.records (sym (append-nil _))
 
 pub returns-in-More-clause-rest : goal.returns-in-More-clause-rest
-returns-in-More-clause-rest c =
+returns-in-More-clause-rest g c =
     let end = ends_more c.args.rest.now.items c.args.piece.now c.complete.new.rest.items _ c.in_ok-moved.ensures.moved
     (c.in_ok-moved.ensures.all c.in-More.is) (sym c.in_ok-moved.ensures.first ∙ c.in-More.is) in
     rw (end.first, end.left) (ends_whole c.args.rest.now.items c.args.piece.now c.complete.new.rest.items _ c.in_ok-moved.ensures.moved (c.in_ok-moved.ensures.all c.in-More.is))

@@ -1,8 +1,9 @@
-use Rattle.std.proofs.Common.{take}
+use Rattle.std.proofs.Common.{map}
+use Rattle.cdr_record.specs.Borrowed.{owned}
 use Rattle.log_lines.specs.Texts.{record_lines}
 use Rattle.sink_buffer.specs.Texts.{Puts}
 use Rattle.log_handler.proofs.line_sink.put_each.Given as goal
 
 -- the lines of the records so far
 abbrev pub invariant-loop-entry : goal.invariant-loop-entry
-invariant-loop-entry g l = Puts g.T.TextOut.stands l.fn.out (record_lines l.conn (take l.entry-index l.records)) l.out
+invariant-loop-entry g l = Puts g.T.TextOut.stands l.fn.out (record_lines l.conn (map owned l.yielded)) l.out
