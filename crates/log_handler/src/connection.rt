@@ -22,8 +22,8 @@ use cdr_record::laws::tells_stop;
 use ev_base::{Got, Net, PeerEnd};
 use ev_types::{Answer, Handle, Mask, NetFailed, Upcall, Why};
 use log_lines::EndKind;
-use reactor_model::{EventHandler, Turn};
 use packed_records::PackedRecords;
+use reactor_model::{EventHandler, Turn};
 use std::alloc::{AllocError, Global};
 
 /// How many bytes a read takes at most.

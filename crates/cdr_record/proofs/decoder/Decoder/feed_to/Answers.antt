@@ -15,9 +15,12 @@ invariant_of-self g c = ap first_of c.in-Ok.ensures.rest ∙ kept_more _
 
 pub returns-in-Ok-clause-ok : goal.returns-in-Ok-clause-ok
 returns-in-Ok-clause-ok g c =
-    let fed : Fed = record { records = records_of _; bad = c.bad_at-self-inside.result } in
-    (fed, refl, c.in-Ok.ensures.records,
-    rw (← c.self.view_is) (feeds_piece _ _ _ fed c.in-Ok.step.taken c.in-Ok.step.first
-    (no_bad c.self.inside.bad c.if-is_some.ensures) c.in-Ok.ensures.taken c.in-Ok.ensures.first
-    refl c.in-Ok.ensures.rest
-    c.saturating_add-self-inside.ensures c.bad_at-self-inside.ensures refl))
+    let fed : Fed = record { records = records_of _; bad = c.bad_at-self-inside.result } in (
+      fed,
+      refl,
+      c.in-Ok.ensures.records,
+      rw (← c.self.view_is) (feeds_piece _ _ _ fed c.in-Ok.step.taken c.in-Ok.step.first
+          (no_bad c.self.inside.bad c.if-is_some.ensures) c.in-Ok.ensures.taken c.in-Ok.ensures.first
+          refl c.in-Ok.ensures.rest
+          c.saturating_add-self-inside.ensures c.bad_at-self-inside.ensures refl),
+    )
