@@ -3,7 +3,7 @@ ghost use Rattle.std.specs.Prelude.{◌≤◌, IfOk};
 ghost use Rattle.core_loop.specs.Idle.{IsIdle};
 ghost use Rattle.bench_pool.specs.CoreRuns.{member_core};
 
-use crate::events::{EVENTS_OF_WAIT, READ, VOLUME};
+use crate::events::{EVENTS_OF_WAIT, READ, VOLUME, narrow};
 use core_loop::{close, register, run};
 use core_rows::RoundRobinNet;
 use reactor_core::{Core, Parts};
@@ -33,7 +33,7 @@ fn made(alloc: Global, handles: u64) -> Result<EventCore, NoPool>
 }
 
 /// Registers so many members, of which each stops the reactor behind so many inputs.
-fn fill(core: &mut EventCore, handles: u64, inputs: u64)
+fn fill(core: &mut EventCore, handles: u64, inputs: u32)
     requires { IsIdle member_core core.old }
     ensures { IsIdle member_core core.new }
 {
@@ -57,7 +57,7 @@ pub fn serve_core<R: Clock + Wait>(
         Ok(core) => core,
         Err(refused) => return Ok(Err(refused)),
     };
-    fill(&mut core, handles, events / handles);
+    fill(&mut core, handles, narrow(events / handles));
     let before = start.elapsed(rt);
     let _ended = run(rt, &mut core, None, None);
     let after = start.elapsed(rt);

@@ -43,14 +43,19 @@ pub struct Run {
     pub entries: u64,
 }
 
+/// A count as a number of 32 bits, the greatest of them where it is larger.
+pub fn narrow(count: u64) -> u32 {
+    u32::try_from(count).unwrap_or(u32::MAX)
+}
+
 /// Registers so many members, of which each takes so many turns at each of so many inputs, and then stops the pool.
 fn fill<R: Wait>(
     rt: &R,
     pool: &EventPool,
     root: &mut EventRoot,
     handles: u64,
-    turns: u64,
-    inputs: u64,
+    turns: u32,
+    inputs: u32,
 )
     requires { IsFree pool.now root.old }
     ensures free { IsFree pool.now root.new }
@@ -67,7 +72,7 @@ pub fn serve_pool<R: Threads + Wait + Clock + Sync>(
     alloc: Global,
     handles: u64,
     workers: usize,
-    turns: u64,
+    turns: u32,
     events: u64,
 ) -> io::Result<Result<Run, NoPool>>
     requires least { 1 ≤ handles }
@@ -81,7 +86,14 @@ pub fn serve_pool<R: Threads + Wait + Clock + Sync>(
         Ok(made) => made,
         Err(refused) => return Ok(Err(refused)),
     };
-    fill(rt, &pool, &mut root, handles, turns, events / handles);
+    fill(
+        rt,
+        &pool,
+        &mut root,
+        handles,
+        turns,
+        narrow(events / handles),
+    );
     let before = start.elapsed(rt);
     let ran = run_pool(rt, alloc, &pool, &mut root, workers, None);
     let after = start.elapsed(rt);

@@ -30,7 +30,7 @@ const MANY: u64 = 1_000_000;
 const FEW: u64 = 2_048;
 
 /// How many turns of a generator of numbers are timed, to find how many take 20 microseconds.
-const TURNS: u64 = 20_000_000;
+const TURNS: u32 = 20_000_000;
 
 fn main(rt: HostRuntime) -> io::Result<()> {
     let mut timed = false;
@@ -112,7 +112,7 @@ fn report_pool<R: Threads + Wait + Clock + Print + Copy + Send + Sync>(
 }
 
 /// How many turns of a generator of numbers take about 20 microseconds.
-fn turns_of_20_microseconds<R: Clock + Print>(rt: &R) -> io::Result<u64> {
+fn turns_of_20_microseconds<R: Clock + Print>(rt: &R) -> io::Result<u32> {
     let start = Instant::now(rt)?;
     let mut number = 1;
     for _ in 0..TURNS {
@@ -121,7 +121,7 @@ fn turns_of_20_microseconds<R: Clock + Print>(rt: &R) -> io::Result<u64> {
     let nanos = start.elapsed(rt)?.as_nanos();
     println!(rt; "a generator of numbers came to {number} in {nanos} ns")?;
     let turns = u128::from(TURNS).saturating_mul(20_000) / nanos.max(1);
-    Ok(u64::try_from(turns).unwrap_or(TURNS))
+    Ok(u32::try_from(turns).unwrap_or(TURNS))
 }
 
 /// Prints how many upcalls of 20 microseconds of work are made in a second, by one worker and by four.

@@ -54,6 +54,9 @@ impl LoggedRecords {
     pub fn new(alloc: Global, records: Records) -> Result<LoggedRecords, NoMemory>
         ensures { IfOk result (λ logged. logged ≡ records) }
     {
+        if records.as_slice().is_empty() {
+            return Ok(LoggedRecords::none());
+        }
         let packed = PackedRecords::of(alloc, records.as_slice())?;
         LoggedRecords::carrying(alloc, packed, None, Vec::new(alloc))
     }
@@ -66,7 +69,7 @@ impl LoggedRecords {
     ) -> Result<LoggedRecords, NoMemory>
         ensures { IfOk result (λ logged. logged ≡ records) }
     {
-        if records.len() == 0 {
+        if records.is_empty() {
             return Ok(LoggedRecords::none());
         }
         let text = text_of_lines(alloc, conn, &records)?;

@@ -1,5 +1,5 @@
 //! Packed records, and the records that are left of them.
-ghost use Rattle.std.specs.Prelude.{◌≡◌, [], IfOk, OnOk, OnErr, length};
+ghost use Rattle.std.specs.Prelude.{◌≡◌, ◌==◌, [], IfOk, OnOk, OnErr, length};
 ghost use Rattle.std.specs.Iterator.{YieldsFirstBy, item_count};
 ghost use Rattle.cdr_record.specs.Borrowed.{owned};
 ghost use Rattle.packed_records.specs.Packing.{head_of};
@@ -91,6 +91,13 @@ impl PackedRecords {
         ensures { result ≡ length self.now }
     {
         self.heads.as_slice().len()
+    }
+
+    /// Whether there is none.
+    pub fn is_empty(&self) -> bool
+        ensures { result ≡ (length self.now == 0) }
+    {
+        self.len() == 0
     }
 
     /// How many bytes their messages have in all.

@@ -38,8 +38,10 @@ fn register_two<R: Abort + Wait>(
         other: one,
         turns: TURNS,
     };
-    assert!(rt; register(rt, pool, root, Member::meeting(first), READ).is_ok());
-    assert!(rt; register(rt, pool, root, Member::meeting(second), READ).is_ok());
+    let first = Member::meeting(Box::new(alloc, first)?);
+    let second = Member::meeting(Box::new(alloc, second)?);
+    assert!(rt; register(rt, pool, root, first, READ).is_ok());
+    assert!(rt; register(rt, pool, root, second, READ).is_ok());
     Ok(())
 }
 

@@ -20,7 +20,7 @@ use tp_rows::*;
 const HANDLES: usize = 64;
 
 // Registers so many members, each of which is called again so many times.
-fn fill<R: Abort + Wait>(rt: &R, pool: &PlayPool, root: &mut PlayWorker, handles: u64, times: u64)
+fn fill<R: Abort + Wait>(rt: &R, pool: &PlayPool, root: &mut PlayWorker, handles: u64, times: u32)
     requires { IsFree pool.now root.old }
     ensures free { IsFree pool.now root.new }
     ensures rank { SameRank root.old root.new }
@@ -54,7 +54,7 @@ fn run_many<R: Abort + Wait + Threads + Sync>(
     rt: &R,
     alloc: Global,
     workers: usize,
-    times: u64,
+    times: u32,
 ) -> Result<Journal<u64>, Fail>
     requires many { 1 ≤ workers }
     requires few { workers ≤ 60 }

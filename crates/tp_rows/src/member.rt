@@ -54,7 +54,7 @@ enum Input {
     /// It gives this answer.
     Answers(Answer),
     /// It answers Again so many times, and Keep from then on.
-    Counts(u64),
+    Counts(u32),
     /// It answers Keep, and stops the reactor.
     Stops,
     /// It answers Keep, and asks for no more reports.
@@ -62,18 +62,18 @@ enum Input {
     /// It answers Keep, and offers another for reading.
     Offers,
     /// It meets another upcall, and notes 1 where it did.
-    Meets(Meeting),
+    Meets(Box<Meeting>),
     /// It takes so many turns of a generator of numbers, and answers Keep; behind so many inputs it stops the reactor.
     Works {
         /// How many turns it takes.
-        turns: u64,
+        turns: u32,
         /// How many inputs are left.
-        left: u64,
+        left: u32,
     },
 }
 
 /// A handler of a pool, whose turns at inputs are what it was made for. It answers Keep to each other upcall, and notes 0 but
-/// where two upcalls met.
+/// where two upcalls met. It is small, so that to move it costs little of what an event costs.
 #[derive(Drop)]
 pub struct Member {
     end: PlayEnd,
@@ -87,7 +87,7 @@ impl Member {
     }
 
     /// One that answers Again so many times, and Keep from then on.
-    pub fn counting(times: u64) -> Member {
+    pub fn counting(times: u32) -> Member {
         Member::with(Input::Counts(times))
     }
 
@@ -107,7 +107,7 @@ impl Member {
     }
 
     /// One whose upcalls take so many turns of a generator of numbers each, and which stops the reactor behind so many of them.
-    pub fn working(turns: u64, upcalls: u64) -> Member {
+    pub fn working(turns: u32, upcalls: u32) -> Member {
         Member::with(Input::Works {
             turns,
             left: upcalls,
@@ -115,7 +115,7 @@ impl Member {
     }
 
     /// One whose upcall meets another.
-    pub fn meeting(meeting: Meeting) -> Member {
+    pub fn meeting(meeting: Box<Meeting>) -> Member {
         Member::with(Input::Meets(meeting))
     }
 
@@ -159,7 +159,7 @@ impl Member {
 }
 
 // A turn that took so many turns of a generator of numbers; it stops the reactor where none are left.
-fn work(turns: u64, left: &mut u64) -> Turn<Member>
+fn work(turns: u32, left: &mut u32) -> Turn<Member>
     ensures close { result.answer ≡ Answer.Close → IsNotOfMine result.act }
     ensures timer { HasTimer result.act }
 {
@@ -176,7 +176,7 @@ fn work(turns: u64, left: &mut u64) -> Turn<Member>
 }
 
 // A number that takes so many turns to find (Marsaglia, Xorshift RNGs).
-fn mixed(turns: u64) -> u64 {
+fn mixed(turns: u32) -> u64 {
     let mut number: u64 = 88_172_645_463_325_252;
     for _ in 0..turns {
         number = next_number(number);
