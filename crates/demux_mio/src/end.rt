@@ -1,11 +1,14 @@
 //! The end of a socket.
-ghost use Rattle.std.specs.Prelude.{◌≡◌, true, false, None};
-ghost use Rattle.ev_base.specs.End.{IsFresh};
-ghost use Rattle.demux_mio.specs.Ends.{mio_end_facts, mio_end_keeps};
+ghost use Rattle.std.specs.Prelude.{◌≡◌, true, false, None, IfOk, OnErr};
+ghost use Rattle.ev_base.specs.End.{IsFresh, KeptByGiven};
+ghost use Rattle.demux_mio.specs.Ends.{mio_end_facts, mio_end_keeps, IsNewConnection};
 ghost use Rattle.demux_mio.specs.NoStory.{keeps_no_story};
 
-use crate::socket::{Accepted, Socket};
+use crate::socket::{Accepted, Place, Socket};
 use ev_base::{Got, PeerEnd, Sent, Taken};
+use ev_types::NoMemory;
+use std::alloc::Global;
+use std::io;
 use tally::Tally;
 
 /// What a call came to.
@@ -21,7 +24,14 @@ enum Came {
 /// The end of a TCP connection, or a listener. Dropped, it closes its socket.
 #[derive(Drop)]
 pub struct MioEnd {
-    pub(crate) socket: Socket,
+    // In a box, so that a handler that has an end is cheap to move.
+    state: Box<EndState>,
+}
+
+/// What an end has.
+#[derive(Drop)]
+struct EndState {
+    socket: Socket,
     listener: bool,
     reads: u64,
     last_read: Option<Came>,
@@ -33,12 +43,12 @@ pub struct MioEnd {
 }
 
 impl MioEnd {
-    /// The end of a socket that made no call.
-    pub(crate) fn new(socket: Socket, listener: bool) -> MioEnd
-        ensures fresh { IsFresh (mio_end_facts result) }
-        ensures listener { (mio_end_facts result).listener ≡ listener }
+    /// The end of a socket that made no call. Where there is no memory for it the socket is closed.
+    pub(crate) fn new(alloc: Global, socket: Socket, listener: bool) -> Result<MioEnd, NoMemory>
+        ensures fresh { IfOk result (λ end. IsFresh (mio_end_facts end)) }
+        ensures listener { IfOk result (λ end. (mio_end_facts end).listener ≡ listener) }
     {
-        MioEnd {
+        let state = EndState {
             socket,
             listener,
             reads: 0,
@@ -48,12 +58,50 @@ impl MioEnd {
             faults: 0,
             gave: Tally::none(),
             over: false,
-        }
+        };
+        Ok(MioEnd {
+            state: Box::new(alloc, state)?,
+        })
     }
 
     /// The port that it has on this side, where the system tells it. So who listens on port 0 learns which was free.
     pub fn port(&self) -> Option<u16> {
-        self.socket.port()
+        self.state.socket.port()
+    }
+
+    /// Has its socket watched.
+    pub(crate) fn watch(&mut self, place: Place) -> io::Result<()>
+        ensures { mio_end_facts self.new ≡ mio_end_facts self.old }
+    {
+        self.state.socket.watch(place)
+    }
+
+    /// Has its socket watched no longer.
+    pub(crate) fn unwatch(&mut self)
+        ensures { mio_end_facts self.new ≡ mio_end_facts self.old }
+    {
+        self.state.socket.unwatch();
+    }
+}
+
+/// Takes the next connection into the end that was made for it. Where there was no memory to make one, the system is not asked, so the
+/// connection waits on, and the accept has failed.
+fn next_end(socket: &mut Socket, made: Result<MioEnd, NoMemory>) -> Taken<MioEnd>
+    requires { IfOk made IsNewConnection }
+    ensures given { KeptByGiven IsNewConnection result }
+    ensures no_memory { OnErr made (result ≡ Taken.Failed) }
+{
+    let Ok(mut end) = made else {
+        socket.note_failed_accept();
+        return Taken::Failed;
+    };
+    match socket.accept() {
+        Accepted::One(stream) => {
+            end.state.socket.open(stream);
+            Taken::One(end)
+        }
+        Accepted::None => Taken::Pause,
+        Accepted::Failed => Taken::Failed,
     }
 }
 
@@ -63,65 +111,66 @@ impl PeerEnd for MioEnd {
     ghost keeps = { mio_end_keeps };
 
     fn is_listener(&self) -> bool {
-        self.listener
+        self.state.listener
     }
 
     fn read(&mut self, buf: &mut [u8]) -> Got {
-        let got = if self.over {
+        let state = self.state.as_mut();
+        let got = if state.over {
             Got::Over
         } else {
-            self.socket.read(buf)
+            state.socket.read(buf)
         };
-        self.reads = self.reads.saturating_add(1);
+        state.reads = state.reads.saturating_add(1);
         match got {
             Got::Bytes(count) => {
-                self.last_read = Some(Came::Moved(count));
-                self.gave.add(count);
+                state.last_read = Some(Came::Moved(count));
+                state.gave.add(count);
             }
-            Got::Pause => self.last_read = Some(Came::Paused),
+            Got::Pause => state.last_read = Some(Came::Paused),
             Got::Over => {
-                self.last_read = Some(Came::WasOver);
-                self.over = true;
+                state.last_read = Some(Came::WasOver);
+                state.over = true;
             }
             Got::Failed => {
-                self.last_read = Some(Came::Faulted);
-                self.faults = self.faults.saturating_add(1);
+                state.last_read = Some(Came::Faulted);
+                state.faults = state.faults.saturating_add(1);
             }
         }
         got
     }
 
     fn write(&mut self, piece: &[u8]) -> Sent {
-        let sent = self.socket.write(piece);
-        self.writes = self.writes.saturating_add(1);
+        let state = self.state.as_mut();
+        let sent = state.socket.write(piece);
+        state.writes = state.writes.saturating_add(1);
         match sent {
-            Sent::Bytes(count) => self.last_write = Some(Came::Moved(count)),
-            Sent::Pause => self.last_write = Some(Came::Paused),
+            Sent::Bytes(count) => state.last_write = Some(Came::Moved(count)),
+            Sent::Pause => state.last_write = Some(Came::Paused),
             Sent::Failed => {
-                self.last_write = Some(Came::Faulted);
-                self.faults = self.faults.saturating_add(1);
+                state.last_write = Some(Came::Faulted);
+                state.faults = state.faults.saturating_add(1);
             }
         }
         sent
     }
 
+    /// The memory for the new end is taken before the system is asked for a connection, so that none is taken and lost. Want of it is told as a
+    /// failed accept: the connection waits in the system's queue, and the net reports the listener again after a while.
     fn accept(&mut self) -> Taken<MioEnd> {
-        self.reads = self.reads.saturating_add(1);
-        match self.socket.accept() {
-            Accepted::One(socket) => {
-                self.last_read = Some(Came::Accepted);
-                Taken::One(MioEnd::new(socket, false))
-            }
-            Accepted::None => {
-                self.last_read = Some(Came::Paused);
-                Taken::Pause
-            }
-            Accepted::Failed => {
-                self.last_read = Some(Came::Faulted);
-                self.faults = self.faults.saturating_add(1);
-                Taken::Failed
+        let made = MioEnd::new(*Box::allocator(&self.state), Socket::unopened(), false);
+        let state = self.state.as_mut();
+        let taken = next_end(&mut state.socket, made);
+        state.reads = state.reads.saturating_add(1);
+        match taken {
+            Taken::One(_) => state.last_read = Some(Came::Accepted),
+            Taken::Pause => state.last_read = Some(Came::Paused),
+            Taken::Failed => {
+                state.last_read = Some(Came::Faulted);
+                state.faults = state.faults.saturating_add(1);
             }
         }
+        taken
     }
 
     ghost keeps_story = { keeps_no_story };

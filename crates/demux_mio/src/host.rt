@@ -98,6 +98,9 @@ impl<R: Sockets + Clock + Copy> Host for MioHost<R> {
             shared,
             start,
         } = opened;
+        let Ok(end) = MioEnd::new(alloc, Socket::listening(listener), true) else {
+            return Err(ListenRefused::NoMemory);
+        };
         let Ok(shared) = Arc::new(alloc, shared) else {
             return Err(ListenRefused::NoMemory);
         };
@@ -107,7 +110,6 @@ impl<R: Sockets + Clock + Copy> Host for MioHost<R> {
         let Ok(net) = MioNet::new(self.rt, alloc, poll, shared, start) else {
             return Err(ListenRefused::NoMemory);
         };
-        let end = MioEnd::new(Socket::listening(listener), true);
         let waker = MioWake { shared: theirs };
         Ok((net, end, waker))
     }

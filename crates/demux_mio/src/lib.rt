@@ -15,7 +15,7 @@
 //! - That a read pauses behind four in a row that gave bytes, and that the end is reported again at the next wait. So no
 //!   stream keeps others, new connections or timers waiting.
 //! - That an accept that failed, as where no descriptor is left, is owed again: its listener is reported again 100 ms later. So
-//!   neither is it lost nor does it spin.
+//!   neither is it lost nor does it spin. Want of memory for the new end goes the same way, which no test shows.
 //! - That a waker ends a wait. It costs a call of the system only while the net is in a wait; else the next wait returns at
 //!   once.
 //! - That a write to a peer that is gone fails and raises no signal: the standard library sends with `MSG_NOSIGNAL`.

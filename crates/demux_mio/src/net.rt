@@ -205,12 +205,12 @@ impl<R: Clock + Copy> MioNet<R> {
             token,
             signs: theirs,
         };
-        if end.socket.watch(place).is_err() {
+        if end.watch(place).is_err() {
             return Err(NetFailed);
         }
         let listens = end.is_listener();
         if self.watching.add(handle, mask, listens, signs).is_err() {
-            end.socket.unwatch();
+            end.unwatch();
             return Err(NetFailed);
         }
         Ok(())

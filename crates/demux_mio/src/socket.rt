@@ -20,6 +20,8 @@ const MOST_IN_A_ROW: u32 = 4;
 
 #[derive(Drop)]
 enum Opened {
+    // There is no socket yet: its calls fail.
+    Nothing,
     Listener(TcpListener),
     Stream(TcpStream),
 }
@@ -44,7 +46,7 @@ pub(crate) struct Socket {
 /// What an accept of a socket gave.
 #[derive(Drop)]
 pub(crate) enum Accepted {
-    One(Socket),
+    One(TcpStream),
     None,
     Failed,
 }
@@ -59,6 +61,11 @@ impl Socket {
         Socket::new(Opened::Listener(listener))
     }
 
+    /// One that is not opened yet. Until then its calls fail.
+    pub(crate) fn unopened() -> Socket {
+        Socket::new(Opened::Nothing)
+    }
+
     fn new(opened: Opened) -> Socket {
         Socket {
             opened,
@@ -67,9 +74,15 @@ impl Socket {
         }
     }
 
+    /// Makes it the socket of this connection.
+    pub(crate) fn open(&mut self, stream: TcpStream) {
+        self.opened = Opened::Stream(stream);
+    }
+
     /// The port that it is bound to, where the system tells it.
     pub(crate) fn port(&self) -> Option<u16> {
         let address = match &self.opened {
+            Opened::Nothing => return None,
             Opened::Listener(listener) => listener.local_addr(),
             Opened::Stream(stream) => stream.local_addr(),
         };
@@ -83,6 +96,7 @@ impl Socket {
     pub(crate) fn watch(&mut self, place: Place) -> io::Result<()> {
         let registry = &place.shared.registry;
         match &mut self.opened {
+            Opened::Nothing => return Err(io::Error::from(ErrorKind::NotConnected)),
             Opened::Listener(listener) => registry.register(listener, place.token, both_ways())?,
             Opened::Stream(stream) => registry.register(stream, place.token, both_ways())?,
         }
@@ -95,6 +109,7 @@ impl Socket {
         if let Some(place) = self.place.take() {
             let registry = &place.shared.registry;
             let _ = match &mut self.opened {
+                Opened::Nothing => Ok(()),
                 Opened::Listener(listener) => registry.deregister(listener),
                 Opened::Stream(stream) => registry.deregister(stream),
             };
@@ -187,18 +202,19 @@ impl Socket {
         match accept_again(listener) {
             Ok(stream) => {
                 self.go_on(Kind::Read);
-                Accepted::One(Socket::new(Opened::Stream(stream)))
+                Accepted::One(stream)
             }
             Err(error) if error.kind() == ErrorKind::WouldBlock => Accepted::None,
             Err(_) => {
-                self.go_on(Kind::Read);
-                self.tell_of_failed_accept();
+                self.note_failed_accept();
                 Accepted::Failed
             }
         }
     }
 
-    fn tell_of_failed_accept(&self) {
+    /// An accept failed, and did not pause: the net hears of it, and reports the listener again after a while.
+    pub(crate) fn note_failed_accept(&self) {
+        self.go_on(Kind::Read);
         if let Some(place) = &self.place {
             place.shared.note_failed_accept();
         }
@@ -211,7 +227,7 @@ fn read_once(opened: &mut Opened, buf: &mut [u8]) -> Got
 {
     match opened {
         Opened::Stream(stream) => got_of(read_again(stream, buf)),
-        Opened::Listener(_) => Got::Failed,
+        Opened::Listener(_) | Opened::Nothing => Got::Failed,
     }
 }
 
@@ -220,7 +236,7 @@ fn write_once(opened: &mut Opened, piece: &[u8]) -> Sent
 {
     match opened {
         Opened::Stream(stream) => sent_of(write_again(stream, piece)),
-        Opened::Listener(_) => Sent::Failed,
+        Opened::Listener(_) | Opened::Nothing => Sent::Failed,
     }
 }
 
