@@ -11,7 +11,7 @@ returns-in-Accepted c =
 pub returns-in-Piece : goal.returns-in-Piece
 returns-in-Piece c =
     subst (λ (said : ServerNote). Adds c.args.self.now said (record c.args.self.now { records = c.saturating_add-self-in-Piece.result; bytes = c.saturating_add-self-in-Piece-2.result; lines = c.saturating_add-self-in-Piece-3.result })) (sym c.in-Piece.is)
-    (adds_piece c.args.self.now c.in-Piece.conn c.in-Piece.took c.in-Piece.records (length c.as_slice.result.now) _ _ _ (ap length c.as_slice.ensures) c.saturating_add-self-in-Piece.ensures
+    (adds_piece c.args.self.now c.in-Piece.conn c.in-Piece.took c.in-Piece.records c.len-records.result _ _ _ c.len-records.ensures c.saturating_add-self-in-Piece.ensures
     c.saturating_add-self-in-Piece-2.ensures c.saturating_add-self-in-Piece-3.ensures)
 
 pub returns-in-Finished : goal.returns-in-Finished
