@@ -105,11 +105,13 @@ def lines(title, across, up, curves, to, is_log=False):
 
 def serve_pictures(text, to):
     """Records a second, and microseconds until a record's line is there, by workers."""
-    rates = re.findall(r"^bulk, 8 connections, (\d+) workers: rate ([\d.]+), .*\(([\d.]+) s,", text, re.M)
+    rates = re.findall(r"^bulk, 8 connections of ([\d,]+) records, (\d+) workers: rate ([\d.]+), .*\(([\d.]+) s,", text, re.M)
     if rates:
-        records = 800_000
-        values = [[records / float(took), records / (float(took) * float(rate))] for _, rate, took in rates]
-        bars("8 connections, records of 100 bytes", "workers", "records a second", [workers for workers, _, _ in rates], ["logd serve", "plain epoll server"], values, to / "rate.svg")
+        values = []
+        for each, _, rate, took in rates:
+            records = 8 * int(each.replace(",", ""))
+            values.append([records / float(took), records / (float(took) * float(rate))])
+        bars("8 connections, records of 100 bytes", "workers", "records a second", [workers for _, workers, _, _ in rates], ["logd serve", "plain epoll server"], values, to / "rate.svg")
     found = re.findall(r"^latency beside 900 silent, (\d+) workers: median (\d+) us, 99 % (\d+) us \(plain server (\d+) us, (\d+) us\)", text, re.M)
     if found:
         values = [[int(it) for it in (row[1], row[3], row[2], row[4])] for row in found]

@@ -1,9 +1,9 @@
 #!/bin/sh
 # Loads `logd serve` and a plain server on epoll that makes the same reads and writes (`plain_epoll.c`), each with 1 and with 4 workers, and checks
 # every line that they print. For each load it prints the rate of ours by that of the plain server (above 1 ours is faster), and the processor
-# time of ours by that of the plain one (below 1 ours is cheaper): the medians of nine runs of each, which take turns. Behind that come loads that
-# only ours gets: 4,096 connections at once, peers that send a byte a second, and 10,000 hostile streams beside an honest one. Needs rt, cc and
-# python3.
+# time of ours by that of the plain one (below 1 ours is cheaper): the medians of nine runs of each, which take turns; and how many times as fast as
+# one worker it was. Behind that come loads that only ours gets: 4,096 connections at once, peers that send a byte a second, and 10,000 hostile
+# streams beside an honest one. Needs rt, cc and python3.
 root=$(cd "$(dirname "$0")/.." && pwd)
 work=$(mktemp -d) || exit 1
 trap 'rm -rf "$work"' EXIT
@@ -43,25 +43,28 @@ def ours(port, until, workers):
 def plain(port, until, workers):
     return [work + "/plain", str(port), str(until), str(workers)]
 
-def medians(until, workers, load, groups):
-    """The median seconds and processor seconds of nine runs of the plain server, and of ours between them."""
-    runs = {plain: [], ours: []}
+def medians(until, counts, load, groups):
+    """The median seconds and processor seconds of nine runs of each server with each number of workers, which take turns."""
+    runs = {(server, workers): [] for workers in counts for server in (plain, ours)}
     for _ in range(9):
-        for server, told in runs.items():
+        for (server, workers), told in runs.items():
             port = free_port()
             told.append(serve(server(port, until, workers), port, load, groups))
-    return [[statistics.median(of) for of in zip(*told)] for told in runs.values()]
+    return {of: [statistics.median(each) for each in zip(*told)] for of, told in runs.items()}
 
 LOADS = [
-    ("bulk, 8 connections", 8, ["bulk", "8", "100000"], ["8x100000"]),
+    ("bulk, 8 connections of 200,000 records", 8, ["bulk", "8", "200000"], ["8x200000"]),
     ("one stream", 1, ["bulk", "1", "400000"], ["1x400000"]),
     ("900 silent, one busy", 901, ["silent", "900", "200000"], ["900x0", "1x200000"]),
     ("2,000 short connections", 2000, ["short", "2000"], ["2000x1"]),
 ]
 for name, until, load, groups in LOADS:
-    for workers in (1, 2, 4) if name.startswith("bulk") else (1, 4):
-        a, b = medians(until, workers, load, groups)
-        print(f"{name}, {workers} workers: rate {a[0] / b[0]:.2f}, processor {b[1] / a[1]:.2f} ({b[0]:.3f} s, {b[1]:.2f} s of processor)", flush=True)
+    counts = (1, 2, 4) if name.startswith("bulk") else (1, 4)
+    told = medians(until, counts, load, groups)
+    for workers in counts:
+        a, b = told[plain, workers], told[ours, workers]
+        gains = [told[server, 1][0] / told[server, workers][0] for server in (ours, plain)]
+        print(f"{name}, {workers} workers: rate {a[0] / b[0]:.2f}, processor {b[1] / a[1]:.2f} ({b[0]:.3f} s, {b[1]:.2f} s of processor), {gains[0]:.2f} times one worker (plain server {gains[1]:.2f})", flush=True)
 
 def latency(server, until, workers, load):
     port = free_port()
