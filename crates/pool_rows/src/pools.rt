@@ -3,11 +3,13 @@ ghost use Rattle.std.specs.Prelude.{◌≡◌, ◌≤◌, true, false};
 ghost use Rattle.tp_reactor.specs.Words.{SameKin, known_by};
 ghost use Rattle.tp_rows.specs.Callers.{IsFree, IsRoot, SameRank};
 
-use crate::steps::{PlayPool, PlayWorker, READ, journal_of, one, ready_at, two};
+use crate::steps::{
+    PlayPool, PlayWorker, READ, is_legal, journal_of, one, ready_at, registered, two,
+};
 use ev_base::Report;
 use ev_types::{Answer, Handle, Kind};
 use notify_ring::Full;
-use reactor_journal::{Entry, Journal};
+use reactor_journal::Entry;
 use std::alloc::Global;
 use std::process::Abort;
 use std::sync::Wait;
@@ -19,6 +21,20 @@ use tp_rows::*;
 /// How many handles a large run has.
 const HANDLES: usize = 64;
 
+/// What is seen of a run.
+#[derive(Clone, Copy)]
+struct Seen {
+    ran: Ran,
+    /// Whether its journal is legal.
+    is_legal: bool,
+    /// How many upcalls were started in it.
+    started: usize,
+    /// How many notifications were posted in it.
+    posted: usize,
+    /// Whether the notice was.
+    has_notice: bool,
+}
+
 // Registers so many members, each of which is called again so many times.
 fn fill<R: Abort + Wait>(rt: &R, pool: &PlayPool, root: &mut PlayWorker, handles: u64, times: u32)
     requires { IsFree pool.now root.old }
@@ -26,7 +42,7 @@ fn fill<R: Abort + Wait>(rt: &R, pool: &PlayPool, root: &mut PlayWorker, handles
     ensures rank { SameRank root.old root.new }
 {
     for _ in 0..handles {
-        let answered = register(rt, pool, root, Member::counting(times), READ);
+        let answered = registered(register(rt, pool, root, Member::counting(times), READ));
         assert!(rt; answered.is_ok());
     }
 }
@@ -39,6 +55,31 @@ fn started_in(entries: &[Entry<u64>]) -> usize {
         .count()
 }
 
+// How many notifications were posted in a journal.
+fn posted_in(entries: &[Entry<u64>]) -> usize {
+    entries
+        .iter()
+        .filter(|entry| matches!(entry, Entry::Posted { .. }))
+        .count()
+}
+
+// What is seen of a pool that ran so, and that its root takes apart.
+fn seen_of(alloc: Global, most: u64, ran: Ran, pool: PlayPool, root: PlayWorker) -> Seen
+    requires free { IsFree pool root }
+    requires root { (known_by root).root ≡ true }
+    requires alone { (known_by root).children ≡ 0 }
+{
+    let journal = journal_of(pool, root);
+    let entries = journal.as_slice();
+    Seen {
+        ran,
+        is_legal: is_legal(alloc, most, entries),
+        started: started_in(entries),
+        posted: posted_in(entries),
+        has_notice: entries.contains(&NOTICE),
+    }
+}
+
 // A report for each of the handles, at the first wait.
 fn reports() -> [(usize, Report); HANDLES] {
     let mut reports = [ready_at(0, 0); HANDLES];
@@ -48,38 +89,54 @@ fn reports() -> [(usize, Report); HANDLES] {
     reports
 }
 
-// Runs a pool of so many workers, each of whose members is called again so many times, until nothing is left to do, and gives its journal,
-// which is legal.
+// Runs a pool of so many workers, each of whose members is called again so many times, until nothing is left to do.
 fn run_many<R: Abort + Wait + Threads + Sync>(
     rt: &R,
     alloc: Global,
     workers: usize,
     times: u32,
-) -> Result<Journal<u64>, Fail>
+) -> Result<Seen, Fail>
     requires many { 1 ≤ workers }
     requires few { workers ≤ 60 }
 {
     let (pool, mut root) = one(alloc, HANDLES as u64, &[0], &reports())?;
     fill(rt, &pool, &mut root, HANDLES as u64, times);
     let ran = run_pool(rt, alloc, &pool, &mut root, workers, None);
-    assert_eq!(rt; ran, Ran::Over);
-    Ok(journal_of(rt, alloc, HANDLES as u64, pool, root))
+    Ok(seen_of(alloc, HANDLES as u64, ran, pool, root))
+}
+
+// Finds that so many workers start each upcall once, where each member is called again so many times, and leave a legal journal.
+fn see_many<R: Abort + Wait + Threads + Sync>(
+    rt: &R,
+    alloc: Global,
+    workers: usize,
+    times: u32,
+) -> Result<(), Fail>
+    requires many { 1 ≤ workers }
+    requires few { workers ≤ 60 }
+{
+    let seen = run_many(rt, alloc, workers, times)?;
+    let is_over = seen.ran == Ran::Over && seen.is_legal;
+    assert!(rt; is_over, "{workers} workers");
+    assert_eq!(rt;
+        seen.started as u64,
+        HANDLES as u64 * (times as u64 + 1),
+        "{workers} workers"
+    );
+    Ok(())
 }
 
 #[test]
 fn each_event_is_started_once_by_pools_of_any_size(rt: HostRuntime) -> Result<(), Fail> {
     for workers in [1, 2, 4, 8] {
-        let journal = run_many(&rt, rt.alloc(), workers, 9)?;
-        assert_eq!(rt; started_in(journal.as_slice()), HANDLES * 10);
+        see_many(&rt, rt.alloc(), workers, 9)?;
     }
     Ok(())
 }
 
 #[test]
 fn a_long_run_of_eight_workers_leaves_a_legal_journal(rt: HostRuntime) -> Result<(), Fail> {
-    let journal = run_many(&rt, rt.alloc(), 8, 1_562)?;
-    assert_eq!(rt; started_in(journal.as_slice()), HANDLES * 1_563);
-    Ok(())
+    see_many(&rt, rt.alloc(), 8, 1_562)
 }
 
 // Makes so many calls on members as the numbers behind the seed say: suspensions and their ends, postings, and now and then a removal.
@@ -146,23 +203,21 @@ fn run_disturbed<R: Threads + Wait + Sync>(
     ran
 }
 
-// The journal of a pool of eight workers, which a worker outside disturbs.
-fn disturbed<R: Abort + Wait + Threads + Sync>(
-    rt: &R,
-    alloc: Global,
-) -> Result<Journal<u64>, Fail> {
+// What is seen of a pool of eight workers, which a worker outside disturbs.
+fn disturbed<R: Abort + Wait + Threads + Sync>(rt: &R, alloc: Global) -> Result<Seen, Fail> {
     let (pool, mut root, mut outside) = two(alloc, HANDLES as u64, &[0], &reports())?;
     fill(rt, &pool, &mut root, HANDLES as u64, 400);
     let ran = run_disturbed(rt, alloc, &pool, &mut root, &mut outside, 8);
-    assert_eq!(rt; ran, Ran::Over);
     dismiss(&pool, &mut root, outside);
-    Ok(journal_of(rt, alloc, HANDLES as u64, pool, root))
+    Ok(seen_of(alloc, HANDLES as u64, ran, pool, root))
 }
 
 #[test]
 fn a_worker_outside_leaves_the_journal_legal(rt: HostRuntime) -> Result<(), Fail> {
-    let journal = disturbed(&rt, rt.alloc())?;
-    assert!(rt; started_in(journal.as_slice()) > 0);
+    let seen = disturbed(&rt, rt.alloc())?;
+    assert_eq!(rt; seen.ran, Ran::Over);
+    assert!(rt; seen.is_legal);
+    assert!(rt; seen.started > 0);
     Ok(())
 }
 
@@ -173,75 +228,98 @@ fn register_two<R: Abort + Wait>(rt: &R, pool: &PlayPool, root: &mut PlayWorker)
     ensures rank { SameRank root.old root.new }
 {
     let closing = Member::answering(Answer::Close);
-    assert!(rt; register(rt, pool, root, closing, READ).is_ok());
-    assert!(rt; register(rt, pool, root, Member::counting(0), READ).is_ok());
+    let first = registered(register(rt, pool, root, closing, READ));
+    let second = registered(register(rt, pool, root, Member::counting(0), READ));
+    assert!(rt; first.is_ok() && second.is_ok());
+}
+
+/// What is posted once one handler was closed.
+const NOTICE: Entry<u64> = Entry::Posted {
+    handle: Handle(1),
+    kind: Kind::Except,
+    from: 0,
+    seq: 0,
+};
+
+// What is seen of a pool that is to post a notice once one handler was closed.
+fn noticed<R: Abort + Wait + Threads + Sync>(rt: &R, alloc: Global) -> Result<Seen, Fail> {
+    let (pool, mut root) = one(alloc, 2, &[0], &[ready_at(0, 0)])?;
+    register_two(rt, &pool, &mut root);
+    let ran = run_pool(rt, alloc, &pool, &mut root, 1, Some((1, Handle(1))));
+    Ok(seen_of(alloc, 2, ran, pool, root))
 }
 
 #[test]
 fn a_notice_is_posted_once_as_many_were_closed_as_were_asked_for(
     rt: HostRuntime,
 ) -> Result<(), Fail> {
-    let alloc = rt.alloc();
-    let (pool, mut root) = one(alloc, 2, &[0], &[ready_at(0, 0)])?;
-    register_two(&rt, &pool, &mut root);
-    let ran = run_pool(&rt, alloc, &pool, &mut root, 1, Some((1, Handle(1))));
-    assert_eq!(rt; ran, Ran::Over);
-    let journal = journal_of(&rt, alloc, 2, pool, root);
-    let posted = journal
-        .as_slice()
-        .iter()
-        .filter(|entry| matches!(entry, Entry::Posted { .. }))
-        .count();
-    assert_eq!(rt; posted, 1);
-    let notice = Entry::Posted {
-        handle: Handle(1),
-        kind: Kind::Except,
-        from: 0,
-        seq: 0,
-    };
-    assert!(rt; journal.as_slice().contains(&notice));
+    let seen = noticed(&rt, rt.alloc())?;
+    assert_eq!(rt; seen.ran, Ran::Over);
+    assert!(rt; seen.is_legal);
+    assert_eq!(rt; seen.posted, 1);
+    assert!(rt; seen.has_notice);
     Ok(())
 }
 
-// Posts until the ring is full, and once more behind a lead.
-fn fill_ring<R: Abort + Wait>(rt: &R, pool: &PlayPool, root: &mut PlayWorker)
+/// How many postings a ring holds.
+const RING: u64 = 256;
+
+// Posts until the ring is full, and tells whether each posting got its number.
+fn are_posted(pool: &PlayPool, root: &mut PlayWorker) -> bool
     requires { IsFree pool.now root.old }
     ensures free { IsFree pool.now root.new }
     ensures rank { SameRank root.old root.new }
 {
-    for number in 0..256 {
-        assert!(rt;
-            matches!(post(pool, root, Handle(0), Kind::Read), Some(Ok(made)) if made == number)
-        );
+    let mut are_posted = true;
+    for number in 0..RING {
+        are_posted &= post(pool, root, Handle(0), Kind::Read) == Some(Ok(number));
     }
-    assert!(rt;
-        matches!(
-            post(pool, root, Handle(0), Kind::Read),
-            Some(Err(Full { held: 256 }))
-        )
-    );
+    are_posted
+}
+
+// Leads, and settles the upcall that was made, of which it gives the event and the handle.
+fn serve<R: Wait>(rt: &R, pool: &PlayPool, root: &mut PlayWorker) -> Option<(u64, Handle)>
+    requires { IsFree pool.now root.old }
+    ensures free { IsFree pool.now root.new }
+    ensures rank { SameRank root.old root.new }
+{
     match lead(rt, pool, root, None) {
         Ok(done) => {
-            assert_eq!(rt; (done.event(), done.handle()), (1, Handle(0)));
+            let served = (done.event(), done.handle());
             settle(rt, pool, root, done);
+            Some(served)
         }
-        Err(_) => panic!(rt; "there was no job"),
+        Err(_) => None,
     }
-    assert!(rt; matches!(post(pool, root, Handle(0), Kind::Read), Some(Ok(256))));
+}
+
+// Posts until the ring is full, and once more behind a lead. It tells whether each call answered as it is to.
+fn fill_ring<R: Wait>(rt: &R, pool: &PlayPool, root: &mut PlayWorker) -> bool
+    requires { IsFree pool.now root.old }
+    ensures free { IsFree pool.now root.new }
+    ensures rank { SameRank root.old root.new }
+{
+    let are_posted = are_posted(pool, root);
+    let refused = post(pool, root, Handle(0), Kind::Read);
+    let served = serve(rt, pool, root);
+    let again = post(pool, root, Handle(0), Kind::Read);
+    are_posted
+        && refused == Some(Err(Full { held: RING }))
+        && served == Some((1, Handle(0)))
+        && again == Some(Ok(RING))
+}
+
+// Whether a full ring refuses until a leader drains it, and leaves all postings in a legal journal but that which was not drained.
+fn is_drained<R: Abort + Wait>(rt: &R, alloc: Global) -> Result<bool, Fail> {
+    let (pool, mut root) = one(alloc, 1, &[], &[])?;
+    fill(rt, &pool, &mut root, 1, 0);
+    let is_filled = fill_ring(rt, &pool, &mut root);
+    let seen = seen_of(alloc, 1, Ran::Over, pool, root);
+    Ok(is_filled && seen.is_legal && seen.posted as u64 == RING)
 }
 
 #[test]
 fn a_full_ring_refuses_until_a_leader_drains_it(rt: HostRuntime) -> Result<(), Fail> {
-    let alloc = rt.alloc();
-    let (pool, mut root) = one(alloc, 1, &[], &[])?;
-    fill(&rt, &pool, &mut root, 1, 0);
-    fill_ring(&rt, &pool, &mut root);
-    let journal = journal_of(&rt, alloc, 1, pool, root);
-    let posted = journal
-        .as_slice()
-        .iter()
-        .filter(|entry| matches!(entry, Entry::Posted { .. }))
-        .count();
-    assert_eq!(rt; posted, 256);
+    assert!(rt; is_drained(&rt, rt.alloc())?);
     Ok(())
 }

@@ -77,6 +77,14 @@ pub(crate) enum Step {
     Settle(u64),
 }
 
+/// Which steps are taken, and which entries stand in the end, first and rest, where that is said.
+#[derive(Clone, Copy)]
+pub(crate) struct Run {
+    pub(crate) name: &'static str,
+    pub(crate) steps: &'static [(Who, Step)],
+    pub(crate) entries: Option<(&'static [Entry<u64>], &'static [Entry<u64>])>,
+}
+
 // A pool for at most so many members over a net with these moments and reports, its root, and a worker that it hired.
 pub(crate) fn two(
     alloc: Global,
@@ -134,7 +142,7 @@ fn member(role: Role) -> Member {
 }
 
 // What became of a registration, without the member that comes back.
-fn registered(
+pub(crate) fn registered(
     answered: Result<Handle, (Member, RegisterRefused)>,
 ) -> Result<Handle, RegisterRefused> {
     match answered {
@@ -143,101 +151,96 @@ fn registered(
     }
 }
 
-// Makes a call of a user, and finds its answer.
-fn ask<R: Abort + Wait>(rt: &R, pool: &PlayPool, worker: &mut PlayWorker, step: Step)
+// Makes a call of a user, and tells whether it answered so.
+fn ask<R: Wait>(rt: &R, pool: &PlayPool, worker: &mut PlayWorker, step: Step) -> bool
     requires { IsFree pool.now worker.old }
     ensures free { IsFree pool.now worker.new }
     ensures rank { SameRank worker.old worker.new }
 {
     match step {
         Step::Register(role, wanted) => {
-            let answered = register(rt, pool, worker, member(role), READ);
-            assert_eq!(rt; registered(answered), wanted)
+            registered(register(rt, pool, worker, member(role), READ)) == wanted
         }
-        Step::Remove(handle, wanted) => assert_eq!(rt; remove(rt, pool, worker, handle), wanted),
-        Step::Suspend(handle, wanted) => assert_eq!(rt; suspend(rt, pool, worker, handle), wanted),
-        Step::Resume(handle, wanted) => assert_eq!(rt; resume(rt, pool, worker, handle), wanted),
+        Step::Remove(handle, wanted) => remove(rt, pool, worker, handle) == wanted,
+        Step::Suspend(handle, wanted) => suspend(rt, pool, worker, handle) == wanted,
+        Step::Resume(handle, wanted) => resume(rt, pool, worker, handle) == wanted,
         Step::Schedule(handle, wanted) => {
             let (first, every) = STEP_TIMER;
-            assert_eq!(rt; schedule(rt, pool, worker, handle, first, every), wanted)
+            schedule(rt, pool, worker, handle, first, every) == wanted
         }
-        Step::Cancel(timer, wanted) => assert_eq!(rt; cancel(rt, pool, worker, timer), wanted),
-        Step::Post(handle, kind, wanted) => {
-            assert!(rt;
-                matches!(post(pool, worker, handle, kind), Some(Ok(number)) if number == wanted)
-            )
+        Step::Cancel(timer, wanted) => cancel(rt, pool, worker, timer) == wanted,
+        Step::Post(handle, kind, wanted) => post(pool, worker, handle, kind) == Some(Ok(wanted)),
+        Step::Stop => {
+            stop(rt, pool, worker);
+            true
         }
-        Step::Stop => stop(rt, pool, worker),
-        Step::Lead(_) | Step::Serve(_, _) | Step::Settle(_) => panic!(rt; "no call of a user"),
+        Step::Lead(_) | Step::Serve(_, _) | Step::Settle(_) => false,
     }
 }
 
-// Makes a call of a free worker, and finds its answer. It gives the upcall that the worker made, if it did.
-fn call_free<R: Abort + Wait>(
-    rt: &R,
+// Whether a lead answered as this step says.
+fn is_led(led: &Result<Done<Member>, Answered>, step: Step) -> bool {
+    match (led, step) {
+        (Ok(done), Step::Serve(event, handle)) => (done.event(), done.handle()) == (event, handle),
+        (Err(answered), Step::Lead(wanted)) => *answered == wanted,
+        _ => false,
+    }
+}
+
+// Leads, and tells whether the answer is the step's. It gives the upcall that the worker made, if it did.
+fn lead_as(
+    rt: &impl Wait,
     pool: &PlayPool,
     worker: &mut PlayWorker,
     step: Step,
-) -> Option<Done<Member>>
+) -> (Option<Done<Member>>, bool)
     requires { IsFree pool.now worker.old }
-    ensures out { IsOutOrFree pool.now worker.new result }
+    ensures out { IsOutOrFree pool.now worker.new result.0 }
     ensures rank { SameRank worker.old worker.new }
 {
-    match step {
-        Step::Lead(wanted) => match lead(rt, pool, worker, None) {
-            Ok(done) => Some(done),
-            Err(answered) => {
-                assert_eq!(rt; answered, wanted);
-                None
-            }
-        },
-        Step::Serve(event, handle) => match lead(rt, pool, worker, None) {
-            Ok(done) => {
-                assert_eq!(rt; (done.event(), done.handle()), (event, handle));
-                Some(done)
-            }
-            Err(_) => panic!(rt; "there was no job"),
-        },
-        step => {
-            ask(rt, pool, worker, step);
-            None
-        }
+    let led = lead(rt, pool, worker, None);
+    let is_right = is_led(&led, step);
+    match led {
+        Ok(done) => (Some(done), is_right),
+        Err(_) => (None, is_right),
     }
 }
 
-// Makes a call of a worker that has made this upcall, or none, and finds its answer.
-fn call<R: Abort + Wait>(
+// Makes a call of a worker that has made this upcall, or none, and tells whether it answered so. It gives the upcall that the worker has
+// made then, if it has.
+fn call<R: Wait>(
     rt: &R,
     pool: &PlayPool,
     worker: &mut PlayWorker,
     out: Option<Done<Member>>,
     step: Step,
-) -> Option<Done<Member>>
+) -> (Option<Done<Member>>, bool)
     requires { IsOutOrFree pool.now worker.old out }
-    ensures out { IsOutOrFree pool.now worker.new result }
+    ensures out { IsOutOrFree pool.now worker.new result.0 }
     ensures rank { SameRank worker.old worker.new }
 {
-    match out {
-        None => call_free(rt, pool, worker, step),
-        Some(done) => {
+    match (out, step) {
+        (Some(done), step) => {
             let settled = settle(rt, pool, worker, done);
-            match step {
-                Step::Settle(closed) => assert_eq!(rt; settled.closed, closed),
-                _ => panic!(rt; "the upcall is not settled yet"),
-            }
-            None
+            (
+                None,
+                matches!(step, Step::Settle(closed) if closed == settled.closed),
+            )
         }
+        (None, Step::Lead(_) | Step::Serve(_, _)) => lead_as(rt, pool, worker, step),
+        (None, step) => (None, ask(rt, pool, worker, step)),
     }
 }
 
-// Makes these calls one behind another. In the end each upcall was settled.
-fn play<R: Abort + Wait>(
+// Makes these calls one behind another, up to one that does not answer so, and gives its place, or that behind the last one where an
+// upcall was not settled. In the end each was.
+fn play<R: Wait>(
     rt: &R,
     pool: &PlayPool,
     root: &mut PlayWorker,
     hired: &mut PlayWorker,
     steps: &[(Who, Step)],
-)
+) -> Option<usize>
     requires { IsFree pool.now root.old × IsFree pool.now hired.old }
     ensures free { IsFree pool.now root.new × IsFree pool.now hired.new }
     ensures root { SameRank root.old root.new }
@@ -245,42 +248,77 @@ fn play<R: Abort + Wait>(
 {
     let mut first = None;
     let mut second = None;
-    for (who, step) in steps {
+    let mut wrong = None;
+    for (at, (who, step)) in steps.iter().enumerate() {
+        let is_right;
         match who {
-            Who::Root => first = call(rt, pool, root, first, *step),
-            Who::Hired => second = call(rt, pool, hired, second, *step),
+            Who::Root => (first, is_right) = call(rt, pool, root, first, *step),
+            Who::Hired => (second, is_right) = call(rt, pool, hired, second, *step),
+        }
+        if !is_right {
+            wrong = Some(at);
+            break;
         }
     }
-    is_settled(rt, pool, root, first);
-    is_settled(rt, pool, hired, second);
+    let is_first_settled = settle_rest(rt, pool, root, first);
+    let is_second_settled = settle_rest(rt, pool, hired, second);
+    match wrong {
+        None if !(is_first_settled && is_second_settled) => Some(steps.len()),
+        wrong => wrong,
+    }
 }
 
-// Finds that no upcall is on its way.
-fn is_settled<R: Abort + Wait>(
+// Settles the upcall that a worker has made, if it has, and tells whether there was none.
+fn settle_rest<R: Wait>(
     rt: &R,
     pool: &PlayPool,
     worker: &mut PlayWorker,
     out: Option<Done<Member>>,
-)
+) -> bool
     requires { IsOutOrFree pool.now worker.old out }
     ensures free { IsFree pool.now worker.new }
     ensures rank { SameRank worker.old worker.new }
 {
-    if let Some(done) = out {
-        settle(rt, pool, worker, done);
-        panic!(rt; "an upcall was not settled")
+    match out {
+        Some(done) => {
+            settle(rt, pool, worker, done);
+            false
+        }
+        None => true,
     }
 }
 
-// Plays the steps on a new pool, and gives the journal that stands in the end, which is legal.
-pub(crate) fn run<R: Abort + Wait>(
+// Whether the first of these entries are those, and the others the rest.
+fn are_entries(entries: &[Entry<u64>], first: &[Entry<u64>], rest: &[Entry<u64>]) -> bool {
+    match entries.split_at_checked(first.len()) {
+        Some((before, behind)) => before == first && behind == rest,
+        None => false,
+    }
+}
+
+// Whether a journal is legal for at most so many members.
+pub(crate) fn is_legal(alloc: Global, most: u64, entries: &[Entry<u64>]) -> bool {
+    check(alloc, entries, most) == Ok(())
+}
+
+// Whether the entries of a journal are as a run says.
+fn is_wanted(entries: &[Entry<u64>], run: &Run) -> bool {
+    match run.entries {
+        Some((first, rest)) => are_entries(entries, first, rest),
+        None => true,
+    }
+}
+
+// Plays the steps of a run on a new pool. It gives the place of a step that answered otherwise, if one did, and tells whether the journal
+// that stands in the end is legal, and whether it is the run's.
+fn played<R: Wait>(
     rt: &R,
     alloc: Global,
     most: u64,
     moments: &[u64],
     reports: &[(usize, Report)],
-    steps: &[(Who, Step)],
-) -> Result<Journal<u64>, Fail>
+    run: &Run,
+) -> Result<(Option<usize>, bool, bool), Fail>
     requires least { 1 ≤ most }
     requires greatest { most ≤ 4097 }
     requires rising { do_not_fall 0 moments.now ≡ true }
@@ -288,19 +326,39 @@ pub(crate) fn run<R: Abort + Wait>(
     requires few { length reports.now ≤ 256 }
 {
     let (pool, mut root, mut hired) = two(alloc, most, moments, reports)?;
-    play(rt, &pool, &mut root, &mut hired, steps);
+    let wrong = play(rt, &pool, &mut root, &mut hired, run.steps);
     dismiss(&pool, &mut root, hired);
-    Ok(journal_of(rt, alloc, most, pool, root))
+    let journal = journal_of(pool, root);
+    let is_legal = is_legal(alloc, most, journal.as_slice());
+    Ok((wrong, is_legal, is_wanted(journal.as_slice(), run)))
 }
 
-// The journal of a pool that its root takes apart. It is legal.
-pub(crate) fn journal_of<R: Abort>(
+// Plays the steps of a run on a new pool for at most so many members over a net with these moments and reports.
+pub(crate) fn take<R: Abort + Wait>(
     rt: &R,
     alloc: Global,
     most: u64,
-    pool: PlayPool,
-    root: PlayWorker,
-) -> Journal<u64>
+    moments: &[u64],
+    reports: &[(usize, Report)],
+    run: &Run,
+) -> Result<(), Fail>
+    requires least { 1 ≤ most }
+    requires greatest { most ≤ 4097 }
+    requires rising { do_not_fall 0 moments.now ≡ true }
+    requires bounded { are_bounded moments.now ≡ true }
+    requires few { length reports.now ≤ 256 }
+{
+    let (wrong, is_legal, is_wanted) = played(rt, alloc, most, moments, reports, run)?;
+    if let Some(at) = wrong {
+        panic!(rt; "{}: step {at}", run.name)
+    }
+    assert!(rt; is_legal, "{}: the journal is not legal", run.name);
+    assert!(rt; is_wanted, "{}: other entries", run.name);
+    Ok(())
+}
+
+// The journal of a pool that its root takes apart.
+pub(crate) fn journal_of(pool: PlayPool, root: PlayWorker) -> Journal<u64>
     requires free { IsFree pool root }
     requires root { (known_by root).root ≡ true }
     requires alone { (known_by root).children ≡ 0 }
@@ -313,7 +371,6 @@ pub(crate) fn journal_of<R: Abort>(
         watch: _,
         volumes: _,
     } = close(pool, root);
-    assert_eq!(rt; check(alloc, journal.as_slice(), most), Ok(()));
     journal
 }
 
@@ -324,44 +381,4 @@ pub(crate) fn ready_at(wait: usize, handle: u64) -> (usize, Report) {
         kind: Kind::Read,
     };
     (wait, report)
-}
-
-// The entries of a journal, by the numbers of handles and events.
-pub(crate) fn opened(handle: u64) -> Entry<u64> {
-    Entry::Opened {
-        handle: Handle(handle),
-        mask: READ,
-    }
-}
-
-pub(crate) fn ready(handle: u64) -> Entry<u64> {
-    Entry::Ready {
-        handle: Handle(handle),
-        kind: Kind::Read,
-    }
-}
-
-pub(crate) fn started(event: u64) -> Entry<u64> {
-    Entry::Started { event }
-}
-
-pub(crate) fn returned(event: u64, answer: Answer) -> Entry<u64> {
-    Entry::Returned {
-        event,
-        answer,
-        note: 0,
-    }
-}
-
-pub(crate) fn removed(handle: u64) -> Entry<u64> {
-    Entry::Removed {
-        handle: Handle(handle),
-    }
-}
-
-pub(crate) fn closed(handle: u64) -> Entry<u64> {
-    Entry::Closed {
-        handle: Handle(handle),
-        note: 0,
-    }
 }

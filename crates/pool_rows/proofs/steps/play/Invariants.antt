@@ -1,8 +1,8 @@
 use Rattle.tp_rows.specs.Callers.{IsOutOrFree, SameRank}
 use Rattle.pool_rows.proofs.steps.play.Given as goal
 
-abbrev pub invariant-loop-who : goal.invariant-loop-who
-invariant-loop-who g l = record {
+abbrev pub invariant-loop-at : goal.invariant-loop-at
+invariant-loop-at g l = record {
   first : IsOutOrFree l.fn.pool l.root l.first;
   second : IsOutOrFree l.fn.pool l.hired l.second;
   root : SameRank l.fn.root l.root;
