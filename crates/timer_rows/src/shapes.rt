@@ -1,7 +1,7 @@
 ghost use Rattle.std.specs.Prelude.{◌≡◌, []};
 
-use ev_types::Handle;
-use std::process::Abort;
+use ev_types::{Handle, NoMemory};
+use std::alloc::Global;
 use std::test::Fail;
 use timer_heap::HeapTimers;
 use timer_queue::{SortedTimers, Timer, TimerQueue};
@@ -18,70 +18,115 @@ fn timer(deadline: u64, timer: u64, handle: u64) -> Timer
     }
 }
 
-// The same calls through the bound.
-fn leave_in_order<Q: TimerQueue>(rt: &impl Abort, queue: &mut Q) -> Result<(), Fail>
+// Three timers, of which two have one deadline.
+fn schedule_three<Q: TimerQueue>(queue: &mut Q) -> Result<(), NoMemory>
     requires { Q.timers queue.old ≡ [] }
 {
     queue.reserve(3)?;
     queue.schedule(timer(5, 0, 7));
     queue.schedule(timer(3, 1, 8));
     queue.schedule(timer(5, 2, 7));
-    assert_eq!(rt; queue.pop_due(4), Some(timer(3, 1, 8)));
-    assert_eq!(rt; queue.pop_due(4), None);
-    assert_eq!(rt; queue.earliest(), Some(5));
-    assert_eq!(rt; queue.pop_due(5), Some(timer(5, 0, 7)));
-    assert_eq!(rt; queue.pop_due(5), Some(timer(5, 2, 7)));
-    assert_eq!(rt; queue.pop_due(5), None);
-    assert_eq!(rt; queue.earliest(), None);
     Ok(())
+}
+
+// Whether they leave in order, and leave nothing behind.
+fn leave_in_order<Q: TimerQueue>(queue: &mut Q) -> bool {
+    let mut is_right = queue.pop_due(4) == Some(timer(3, 1, 8));
+    is_right &= queue.pop_due(4) == None;
+    is_right &= queue.earliest() == Some(5);
+    is_right &= queue.pop_due(5) == Some(timer(5, 0, 7));
+    is_right &= queue.pop_due(5) == Some(timer(5, 2, 7));
+    is_right &= queue.pop_due(5) == None;
+    is_right & (queue.earliest() == None)
+}
+
+// Whether three timers leave a queue in order.
+fn is_in_order<Q: TimerQueue + Drop>(queue: Q) -> Result<bool, NoMemory>
+    requires { Q.timers queue ≡ [] }
+{
+    let mut queue = queue;
+    schedule_three(&mut queue)?;
+    Ok(leave_in_order(&mut queue))
 }
 
 #[test]
 fn timers_of_one_deadline_leave_by_number(rt: HostRuntime) -> Result<(), Fail> {
-    let mut sorted = SortedTimers::new(rt.alloc());
-    leave_in_order(&rt, &mut sorted)?;
-    let mut heap = HeapTimers::new(rt.alloc());
-    leave_in_order(&rt, &mut heap)?;
-    let mut four = WheelTimers::<4>::new(rt.alloc(), 2)?;
-    leave_in_order(&rt, &mut four)?;
-    let mut one = WheelTimers::<1>::new(rt.alloc(), 1)?;
-    leave_in_order(&rt, &mut one)
+    let alloc = rt.alloc();
+    assert!(rt; is_in_order(SortedTimers::new(alloc))?, "sorted");
+    assert!(rt; is_in_order(HeapTimers::new(alloc))?, "heap");
+    assert!(rt;
+        is_in_order(WheelTimers::<4>::new(alloc, 2)?)?,
+        "four spokes"
+    );
+    assert!(rt; is_in_order(WheelTimers::<1>::new(alloc, 1)?)?, "one spoke");
+    Ok(())
+}
+
+// Whether three timers leave a queue where they are cancelled.
+fn is_cancelled(queue: &mut SortedTimers) -> bool {
+    let first = queue.cancel(1);
+    let again = queue.cancel(1);
+    queue.cancel_all(Handle(7));
+    first && !again && queue.earliest() == None
+}
+
+// The same of a list of its own.
+fn are_cancelled(alloc: Global) -> Result<bool, NoMemory> {
+    let mut queue = SortedTimers::new(alloc);
+    schedule_three(&mut queue)?;
+    Ok(is_cancelled(&mut queue))
 }
 
 #[test]
 fn cancelled_timers_do_not_leave(rt: HostRuntime) -> Result<(), Fail> {
-    let mut queue = SortedTimers::new(rt.alloc());
-    queue.reserve(3)?;
-    queue.schedule(timer(5, 0, 7));
-    queue.schedule(timer(3, 1, 8));
-    queue.schedule(timer(5, 2, 7));
-    assert!(rt; queue.cancel(1));
-    assert!(rt; !queue.cancel(1));
-    queue.cancel_all(Handle(7));
-    assert_eq!(rt; queue.earliest(), None);
+    assert!(rt; are_cancelled(rt.alloc())?);
     Ok(())
 }
-
-#[test]
-fn the_earliest_rises_to_the_first_slot(rt: HostRuntime) -> Result<(), Fail> {
-    let mut queue = HeapTimers::new(rt.alloc());
+// Puts four timers into a heap.
+fn insert_four(queue: &mut HeapTimers) -> Result<(), NoMemory>
+    requires { ⟦<HeapTimers as TimerQueue>⟧.timers queue.old ≡ [] }
+{
     queue.reserve(4)?;
     queue.insert(timer(2, 0, 7));
     queue.insert(timer(3, 1, 7));
     queue.insert(timer(4, 2, 7));
     queue.insert(timer(1, 3, 7));
+    Ok(())
+}
+
+// Whether the earliest of them stands in the first slot.
+fn is_risen(queue: &HeapTimers) -> bool {
     let slots = [
         timer(1, 3, 7),
         timer(2, 0, 7),
         timer(4, 2, 7),
         timer(3, 1, 7),
     ];
-    assert_eq!(rt; queue.slots(), slots.as_slice());
-    assert!(rt; queue.cancel(0));
-    assert!(rt; !queue.cancel(0));
-    assert_eq!(rt; queue.earliest(), Some(1));
+    queue.slots() == slots.as_slice()
+}
+
+// Whether they leave the heap where they are cancelled.
+fn leave_slots(queue: &mut HeapTimers) -> bool {
+    let first = queue.cancel(0);
+    let again = queue.cancel(0);
+    let earliest = queue.earliest();
     queue.cancel_all(Handle(7));
-    assert_eq!(rt; queue.earliest(), None);
+    first && !again && earliest == Some(1) && queue.earliest() == None
+}
+
+// Whether four timers rise in a heap, and leave it.
+fn are_in_slots(alloc: Global) -> Result<(bool, bool), NoMemory> {
+    let mut queue = HeapTimers::new(alloc);
+    insert_four(&mut queue)?;
+    let is_risen = is_risen(&queue);
+    Ok((is_risen, leave_slots(&mut queue)))
+}
+
+#[test]
+fn the_earliest_rises_to_the_first_slot(rt: HostRuntime) -> Result<(), Fail> {
+    let (is_risen, leave) = are_in_slots(rt.alloc())?;
+    assert!(rt; is_risen, "the earliest is not in the first slot");
+    assert!(rt; leave, "they do not leave their slots");
     Ok(())
 }
 
@@ -99,22 +144,36 @@ fn chain<const SPOKES: usize>(wheel: &WheelTimers<SPOKES>, spoke: usize) -> (u64
     (numbers[0], numbers[1], numbers[2])
 }
 
+// Whether three timers stand in the spokes of their ticks.
+fn stand_in_spokes(wheel: &WheelTimers<4>) -> bool {
+    wheel.heads().len() == 4
+        && chain(wheel, 0) == (99, 99, 99)
+        && chain(wheel, 1) == (1, 99, 99)
+        && chain(wheel, 2) == (0, 2, 99)
+        && chain(wheel, 3) == (99, 99, 99)
+}
+
+// Whether they leave their spokes where they are cancelled.
+fn leave_spokes(wheel: &mut WheelTimers<4>) -> bool {
+    let first = wheel.cancel(0);
+    let again = wheel.cancel(0);
+    let left = chain(wheel, 2);
+    wheel.cancel_all(Handle(7));
+    first && !again && left == (2, 99, 99) && wheel.earliest() == Some(3)
+}
+
+// Whether three timers stand in the spokes of a wheel, and leave them.
+fn are_in_spokes(alloc: Global) -> Result<(bool, bool), NoMemory> {
+    let mut wheel = WheelTimers::<4>::new(alloc, 2)?;
+    schedule_three(&mut wheel)?;
+    let stand = stand_in_spokes(&wheel);
+    Ok((stand, leave_spokes(&mut wheel)))
+}
+
 #[test]
 fn a_timer_stands_in_the_spoke_of_its_tick(rt: HostRuntime) -> Result<(), Fail> {
-    let mut wheel = WheelTimers::<4>::new(rt.alloc(), 2)?;
-    wheel.reserve(3)?;
-    wheel.schedule(timer(5, 0, 7));
-    wheel.schedule(timer(3, 1, 8));
-    wheel.schedule(timer(5, 2, 7));
-    assert_eq!(rt; wheel.heads().len(), 4);
-    assert_eq!(rt; chain(&wheel, 0), (99, 99, 99));
-    assert_eq!(rt; chain(&wheel, 1), (1, 99, 99));
-    assert_eq!(rt; chain(&wheel, 2), (0, 2, 99));
-    assert_eq!(rt; chain(&wheel, 3), (99, 99, 99));
-    assert!(rt; wheel.cancel(0));
-    assert!(rt; !wheel.cancel(0));
-    assert_eq!(rt; chain(&wheel, 2), (2, 99, 99));
-    wheel.cancel_all(Handle(7));
-    assert_eq!(rt; wheel.earliest(), Some(3));
+    let (stand, leave) = are_in_spokes(rt.alloc())?;
+    assert!(rt; stand, "they do not stand in their spokes");
+    assert!(rt; leave, "they do not leave their spokes");
     Ok(())
 }

@@ -1,6 +1,5 @@
 use super::*;
 use std::alloc::{AllocError, Global};
-use std::process::Abort;
 use std::test::Fail;
 use timer_heap::HeapTimers;
 use timer_queue::SortedTimers;
@@ -95,40 +94,41 @@ fn call_of(seed: &mut u64) -> Call {
     }
 }
 
-// So many calls, each answered as plain timers answer it.
-fn answers_as_plain_timers<Q: TimerQueue>(
-    rt: &impl Abort,
-    alloc: Global,
+// The turn of so many calls that is not answered as plain timers answer it, if one is not.
+fn differing_turn<Q: TimerQueue>(
+    plain: &mut PlainTimers,
     queue: &mut Q,
-) -> Result<(), Fail> {
-    let mut plain = PlainTimers {
-        timers: Vec::new(alloc),
-    };
+) -> Result<Option<u32>, Fail> {
     let mut seed = 7;
     for turn in 0..4000 {
         let call = call_of(&mut seed);
         let want = plain.reply_to(call)?;
-        assert_eq!(rt; reply_to(queue, call)?, want, "{turn}");
+        if reply_to(queue, call)? != want {
+            return Ok(Some(turn));
+        }
     }
+    Ok(None)
+}
+
+// The same of a queue that is let go.
+fn differs<Q: TimerQueue + Drop>(alloc: Global, queue: Q) -> Result<Option<u32>, Fail> {
+    let mut plain = PlainTimers {
+        timers: Vec::new(alloc),
+    };
+    let mut queue = queue;
+    differing_turn(&mut plain, &mut queue)
+}
+
+#[test]
+fn queues_answer_as_plain_timers(rt: HostRuntime) -> Result<(), Fail> {
+    let alloc = rt.alloc();
+    let list = differs(alloc, SortedTimers::new(alloc))?;
+    assert_eq!(rt; list, None, "the list");
+    let heap = differs(alloc, HeapTimers::new(alloc))?;
+    assert_eq!(rt; heap, None, "the heap");
+    let wheel = differs(alloc, WheelTimers::<8>::new(alloc, 5)?)?;
+    assert_eq!(rt; wheel, None, "the wheel of eight spokes");
+    let narrow = differs(alloc, WheelTimers::<1>::new(alloc, 1)?)?;
+    assert_eq!(rt; narrow, None, "the wheel of one spoke");
     Ok(())
-}
-
-#[test]
-fn the_list_answers_as_plain_timers(rt: HostRuntime) -> Result<(), Fail> {
-    let mut queue = SortedTimers::new(rt.alloc());
-    answers_as_plain_timers(&rt, rt.alloc(), &mut queue)
-}
-
-#[test]
-fn the_heap_answers_as_plain_timers(rt: HostRuntime) -> Result<(), Fail> {
-    let mut queue = HeapTimers::new(rt.alloc());
-    answers_as_plain_timers(&rt, rt.alloc(), &mut queue)
-}
-
-#[test]
-fn wheels_answer_as_plain_timers(rt: HostRuntime) -> Result<(), Fail> {
-    let mut wheel = WheelTimers::<8>::new(rt.alloc(), 5)?;
-    answers_as_plain_timers(&rt, rt.alloc(), &mut wheel)?;
-    let mut narrow = WheelTimers::<1>::new(rt.alloc(), 1)?;
-    answers_as_plain_timers(&rt, rt.alloc(), &mut narrow)
 }
