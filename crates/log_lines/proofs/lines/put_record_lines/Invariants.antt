@@ -1,4 +1,4 @@
-use Rattle.std.proofs.Common.{◌≡◌, ◌++◌, map}
+use Rattle.std.proofs.Common.{map}
 use Rattle.cdr_record.specs.Borrowed.{owned}
 use Rattle.log_lines.specs.Texts.{record_lines}
 use Rattle.sink_buffer.specs.Texts.{Puts}
