@@ -19,7 +19,7 @@ use Rattle.notify_ring.specs.Postings.{flag, by_poster, handle_at, gate_at, code
 use Rattle.list_lemmas.specs.Sums.{total}
 use Rattle.notify_ring.specs.Passes.{owns}
 use Rattle.notify_ring.specs.Rule.{pends_of, claimed, good, pends, poster, rooted, kids, drainer, FlightFits, StageFits, IsStored, RingHolds}
-use Rattle.notify_ring.specs.Steps.{loaded_view, GateLoaded, HandleLoaded, got_after, cleared_view, released_view}
+use Rattle.notify_ring.specs.Steps.{loaded_view, GateLoaded, GatePeeked, HandleLoaded, got_after, cleared_view, released_view}
 use Rattle.list_lemmas.proofs.Sums.{term_le, terms_le, total-same}
 use Rattle.notify_ring.proofs.Lists.{of-append, of-one, of-other, below-le, spread}
 use Rattle.notify_ring.proofs.Keeps.{Me', Rule, same_fits, below_length, apart_places, in_window}
@@ -133,6 +133,16 @@ looks id n v rest drains s o wide at _ =
     up_to : {a b : ℕ} → Dec (b ≤ a) → (b ≤ a → ⊥) → a < b
     up_to {a} {b} (yes p) h = absurd (h p)
     up_to {a} {b} (no q) h = omega arith
+
+pub peeks : (id n : ℕ) (v : View) → v.stage ≡ Resting → v.drains ≡ true → Allows Rule n id (v, []) (gate_at (length v.got)) (λ x. x) (GatePeeked (v, []))
+peeks id n v rest drains s o wide at low =
+    let ws = s.words in
+    let i = gate_at (length v.got) in
+    let g = get_or ws i 0 in
+    let w = loaded_view v g Resting in
+    let d : StageFits ws o.all o.cleared o.freed v.got Resting = subst (λ (t : Stage). StageFits ws o.all o.cleared o.freed v.got t) rest ((o.fits id v at).drain drains) in
+    let same : RingHolds ws (set s.views id w) = rests ws s.views o id v at (v.loads + 1) g Resting d in
+    (w, keeps, tt, subst (λ (l : List ℕ). RingHolds l (set s.views id w)) (sym (set-get_or ws i 0)) same, refl)
 
 pub reads : (id n : ℕ) (v : View) (x : Posting) → v.stage ≡ Seen x → v.drains ≡ true → Allows Rule n id (v, []) (handle_at (length v.got)) (λ y. y) (HandleLoaded (v, []))
 reads id n v x seen drains s o wide at _ =
@@ -285,6 +295,10 @@ frees id n v was drains s o wide at low =
 pub looks_at : (id n i : ℕ) (m : Me') → m.0.stage ≡ Resting → m.0.drains ≡ true → m.1 ≡ [] → i ≡ gate_at (length m.0.got) → Allows Rule n id m i (λ x. x) (GateLoaded m)
 looks_at id n i m rest drains bare index = subst (λ (j : ℕ). Allows Rule n id m j (λ x. x) (GateLoaded m)) (sym index)
     (subst (λ (c : List (ℕ × Unit {0})). Allows Rule n id (m.0, c) (gate_at (length m.0.got)) (λ x. x) (GateLoaded (m.0, c))) (sym bare) (looks id n m.0 rest drains))
+
+pub peeks_at : (id n i : ℕ) (m : Me') → m.0.stage ≡ Resting → m.0.drains ≡ true → m.1 ≡ [] → i ≡ gate_at (length m.0.got) → Allows Rule n id m i (λ x. x) (GatePeeked m)
+peeks_at id n i m rest drains bare index = subst (λ (j : ℕ). Allows Rule n id m j (λ x. x) (GatePeeked m)) (sym index)
+    (subst (λ (c : List (ℕ × Unit {0})). Allows Rule n id (m.0, c) (gate_at (length m.0.got)) (λ x. x) (GatePeeked (m.0, c))) (sym bare) (peeks id n m.0 rest drains))
 
 pub reads_at : (id n i : ℕ) (m : Me') (x : Posting) → m.0.stage ≡ Seen x → m.0.drains ≡ true → m.1 ≡ [] → i ≡ handle_at (length m.0.got) → Allows Rule n id m i (λ y. y) (HandleLoaded m)
 reads_at id n i m x seen drains bare index = subst (λ (j : ℕ). Allows Rule n id m j (λ y. y) (HandleLoaded m)) (sym index)

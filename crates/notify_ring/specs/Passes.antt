@@ -1,5 +1,5 @@
 -- What a poster and a drainer know before and after each call.
-use Rattle.std.specs.Prelude.{◌≡◌, ℕ, ◌+◌, ◌-◌, ◌^◌, ◌≤◌, ◌<◌, List, [], ◌∷◌, ◌++◌, length, take, cond, ◌==◌, nat_lt, true, false, Result, Ok, Err, Option, Some, None}
+use Rattle.std.specs.Prelude.{◌≡◌, ℕ, ◌+◌, ◌-◌, ◌^◌, ◌≤◌, ◌<◌, List, [], ◌∷◌, ◌++◌, length, take, cond, ◌==◌, nat_lt, Bool, true, false, Result, Ok, Err, Option, Some, None}
 use mathlib.Core.Option.{some}
 use lib.ListN.{get_elem?}
 use Rattle.ev_types.specs.declared.upcall.Handle.{Handle}
@@ -58,6 +58,10 @@ pub record IsNext (got : List Posting) (x : Posting) : Type 0 where
 abbrev pub HasTaken : View → Option Posting → View → Type 0
 HasTaken v None w = w ≡ record v { loads = v.loads + 1; gate = 0 }
 HasTaken v (Some x) w = IsNext v.got x × (w ≡ record v { got = v.got ++ x ∷ []; loads = v.loads + 1; gate = code x })
+
+-- A drainer with view v loaded the gate of the next number once, took nothing, and has view w from then on, which keeps what the load found: 0 for an empty gate.
+abbrev pub HasLooked : View → Bool → View → Type 0
+HasLooked v empty w = (empty ≡ (w.gate == 0)) × (w ≡ record v { loads = v.loads + 1; gate = w.gate })
 
 -- How often the view has the list of poster p: as its own, or of a poster that was joined.
 abbrev pub owns : ℕ → View → ℕ

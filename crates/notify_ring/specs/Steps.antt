@@ -57,6 +57,10 @@ loaded_view v r t = record v { loads = v.loads + 1; gate = r; stage = t }
 abbrev pub GateLoaded : Mine → ℕ → Mine → Type 0
 GateLoaded m r n = (r ≡ 0 → n ≡ (loaded_view m.0 r Resting, [])) × (¬ (r ≡ 0) → (x : Posting) × (r ≡ code x) × IsNext m.0.got x × (n ≡ (loaded_view m.0 r (Seen x), [])))
 
+-- The drainer looked at that gate, found r, and took nothing. The view counts the look and keeps what it found.
+abbrev pub GatePeeked : Mine → ℕ → Mine → Type 0
+GatePeeked m r n = n ≡ (loaded_view m.0 r Resting, [])
+
 -- The drainer found that posting's handle in the handle word. No view changes.
 abbrev pub HandleLoaded : Mine → ℕ → Mine → Type 0
 HandleLoaded m r n = (n ≡ m) × ((x : Posting) → m.0.stage ≡ Seen x → r ≡ x.handle.0)

@@ -90,6 +90,15 @@ impl Play<(), View> for LoadGate {
     ghost then = { λ st m r n. GateLoaded m r n };
 }
 
+/// The drainer looks whether the gate of the next number is empty.
+pub struct PeekGate;
+
+impl Play<(), View> for PeekGate {
+    ghost use Rattle.notify_ring.specs.Steps.{GatePeeked};
+
+    ghost then = { λ st m r n. GatePeeked m r n };
+}
+
 /// The drainer loads the handle.
 pub struct LoadHandle;
 

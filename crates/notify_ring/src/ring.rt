@@ -1,8 +1,8 @@
 // The calls of a ring, and its steps.
 ghost use Rattle.std.specs.Prelude.{◌≡◌, ◌≢◌, ◌+◌, ◌-◌, ◌*◌, ◌%◌, ◌^◌, ◌<◌, ◌≤◌, ◌++◌, [], ◌∷◌, true, false, length, IfOk, ℕ};
 ghost use Rattle.notify_ring.specs.Postings.{code};
-ghost use Rattle.notify_ring.specs.Passes.{root_poster, new_drainer, split_left, split_right, joined, HasPosted, HasTaken, IsMerged};
-ghost use Rattle.notify_ring.specs.Steps.{IsPosterSeat, IsDrainerSeat, ClaimMade, FlightMoved, NumberDrawn, GateLoaded, HandleLoaded, GateCleared, PlaceReleased};
+ghost use Rattle.notify_ring.specs.Passes.{root_poster, new_drainer, split_left, split_right, joined, HasLooked, HasPosted, HasTaken, IsMerged};
+ghost use Rattle.notify_ring.specs.Steps.{IsPosterSeat, IsDrainerSeat, ClaimMade, FlightMoved, NumberDrawn, GateLoaded, GatePeeked, HandleLoaded, GateCleared, PlaceReleased};
 ghost use Rattle.notify_ring.specs.Words.{id_of, IsSeatOf, IsSameSeat, poster_ring, poster_view, drainer_ring, drainer_view};
 ghost use Rattle.notify_ring.specs.declared.posting.Posting.{Posting as PostingOf};
 ghost use Rattle.notify_ring.specs.declared.view.Stage.TheVariants.{Resting, Seen, Cleared};
@@ -10,8 +10,8 @@ ghost use Rattle.notify_ring.specs.declared.view.Flight.TheVariants.{Idle, Claim
 
 use crate::parts::{Drainer, Poster, Ring};
 use crate::plays::{
-    Claim, ClearGate, DrainerPass, Draw, LoadGate, LoadHandle, NextFlight, Posted, PosterPass,
-    Release,
+    Claim, ClearGate, DrainerPass, Draw, LoadGate, LoadHandle, NextFlight, PeekGate, Posted,
+    PosterPass, Release,
 };
 use crate::posting::{Full, Posting, code_of, kind_of};
 use crate::start::{count, zeros};
@@ -79,6 +79,16 @@ impl Ring {
         );
         poster.made += 1;
         Ok(number)
+    }
+
+    /// Looks once whether no posting is there to be taken, and takes none. It neither waits nor takes memory.
+    pub fn finds_none(&self, drainer: &mut Drainer) -> bool
+        requires ring { drainer_ring drainer.old ≡ id_of self.now }
+        ensures ring { drainer_ring drainer.new ≡ drainer_ring drainer.old }
+        ensures looked { HasLooked (drainer_view drainer.old) result (drainer_view drainer.new) }
+    {
+        let place = drainer.taken % PLACES;
+        self.peek_gate(&mut drainer.seat, place) == 0
     }
 
     /// Takes the next posting, or None where its gate was empty at this call's one look. It neither waits nor
@@ -255,6 +265,17 @@ impl Ring {
     {
         let word = (3 + 2 * place) as usize;
         self.table.shared.load::<LoadGate>(seat, word)
+    }
+
+    fn peek_gate(&self, seat: &mut Seat<(), View>, place: u64) -> u64
+        requires table { IsSeatOf self.now seat.old }
+        requires rests { (seat.old.me.0.stage ≡ Resting) × IsDrainerSeat seat.old.me }
+        requires place { place ≡ length seat.old.me.0.got % 256 }
+        ensures table { IsSameSeat seat.old seat.new }
+        ensures told { GatePeeked seat.old.me result seat.new.me }
+    {
+        let word = (3 + 2 * place) as usize;
+        self.table.shared.load::<PeekGate>(seat, word)
     }
 
     fn load_handle(&self, seat: &mut Seat<(), View>, place: u64) -> u64

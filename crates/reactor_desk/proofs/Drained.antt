@@ -1,11 +1,13 @@
 -- One posting taken from the ring is one entry.
-use Rattle.std.proofs.Common.{ℕ, ◌≡◌, ◌+◌, Bool, true, false, ◌&&◌, if◌then◌else◌, List, [], ◌∷◌, ◌++◌, filter, refl, sym, ap, ◌∙◌, subst, arith, Some, None, Ok}
+use Rattle.std.proofs.Common.{ℕ, ◌≡◌, ◌+◌, Bool, true, false, ◌&&◌, if◌then◌else◌, List, [], ◌∷◌, ◌++◌, filter, refl, sym, ap, ◌∙◌, subst, arith, Some, None, Result, Ok, Err}
+use Rattle.std.proofs.lemmas.Bool.{eqb-true}
 use Rattle.std.proofs.lemmas.List.Elements.{filter-append}
+use Rattle.ev_types.specs.declared.refusal.NoMemory.{NoMemory}
 use Rattle.reactor_journal.specs.declared.entry.Entry.{Entry}
 use Rattle.reactor_journal.specs.declared.entry.Entry.TheVariants.{Posted, Stale}
 use Rattle.reactor_journal.specs.Past.{past_of, count}
 use Rattle.reactor_summary.specs.Summary.{summary, is_alive}
-use Rattle.notify_ring.specs.Passes.{HasTaken}
+use Rattle.notify_ring.specs.Passes.{HasLooked, HasTaken}
 use Rattle.notify_ring.specs.Words.{drainer_ring, drainer_view}
 use Rattle.notify_ring.specs.declared.parts.Drainer.{Drainer}
 use Rattle.notify_ring.specs.declared.posting.Posting.{Posting}
@@ -51,7 +53,7 @@ module _ {H M Q W V N E : Type 0} (m : Meaning H M Q W V N E) (q : DeskTerms) (F
       let loads : (drainer_view drainer).loads ≡ (drainer_view old.drainer).loads + 1 = ap (λ (v : View). v.loads) taken.1 in
       let none_polled : count is_polled (e ∷ []) ≡ 0 = ap (λ (b : Bool). if b then 1 else 0) is.polled in
       let none_started : count is_started (e ∷ []) ≡ 0 = ap (λ (b : Bool). if b then 1 else 0) is.started in (
-        loads,
+        omega (arith, loads),
         record {
           notice = e;
           is = is.notice;
@@ -74,7 +76,7 @@ module _ {H M Q W V N E : Type 0} (m : Meaning H M Q W V N E) (q : DeskTerms) (F
       → DrainsOne m q F h (Ok false) old (record { core = core; drainer = drainer })
   found_empty o stands ring taken =
       let loads : (drainer_view drainer).loads ≡ (drainer_view old.drainer).loads + 1 = ap (λ (v : View). v.loads) taken in (
-        loads,
+        omega (arith, loads),
         ap (λ (v : View). v.gate) taken,
         record {
           core = stands;
@@ -89,3 +91,25 @@ module _ {H M Q W V N E : Type 0} (m : Meaning H M Q W V N E) (q : DeskTerms) (F
   -- the core alone changed, and stands as before
   pub stands_still : DeskStands m q F old h → Stands m q.run core F h → DeskStands m q F (record { core = core; drainer = old.drainer }) h
   stands_still o stands = record { core = stands; by_turn = o.by_turn; ring = o.ring; recorded = o.recorded; waits = o.waits; starts = o.starts }
+
+-- ---- a look that takes nothing
+
+-- one that found the gate empty is that of a `next` that answers None
+pub looked_none : (v w : View) → HasLooked v true w → HasTaken v None w
+looked_none v w look = look.1 ∙ ap (λ g. record v { loads = v.loads + 1; gate = g }) (eqb-true w.gate 0 (sym look.0))
+
+module _ {H M Q W V N E : Type 0} (m : Meaning H M Q W V N E) (q : DeskTerms) (F : ℕ) (h : List (Entry N)) (old mid : Desk H M Q W V N E) where
+  pub has_looked : mid.core ≡ old.core → drainer_ring mid.drainer ≡ drainer_ring old.drainer → HasLooked (drainer_view old.drainer) false (drainer_view mid.drainer) → DeskStands m q F old h → DeskStands m q F mid h
+  has_looked core ring look o = record {
+    core = subst (λ c. Stands m q.run c F h) (sym core) o.core;
+    by_turn = o.by_turn;
+    ring = ring ∙ o.ring;
+    recorded = subst (AreRecorded (filter is_notice h)) (sym (ap (λ (v : View). v.got) look.1)) o.recorded;
+    waits = omega (arith, o.waits, ap (λ (v : View). v.loads) look.1);
+    starts = omega (arith, o.starts, ap (λ (v : View). v.loads) look.1);
+  }
+
+  pub then_drains : (result : Result Bool NoMemory) (new : Desk H M Q W V N E) → HasLooked (drainer_view old.drainer) false (drainer_view mid.drainer) → DrainsOne m q F h result mid new → DrainsOne m q F h result old new
+  then_drains (Ok true) new look one = (omega (arith, one.0, ap (λ (v : View). v.loads) look.1), one.1)
+  then_drains (Ok false) new look one = (omega (arith, one.0, ap (λ (v : View). v.loads) look.1), one.1, one.2)
+  then_drains (Err refused) new look one = (omega (arith, one.0, ap (λ (v : View). v.loads) look.1), one.1)

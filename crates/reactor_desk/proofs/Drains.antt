@@ -1,5 +1,5 @@
 -- A whole drain.
-use Rattle.std.proofs.Common.{ℕ, ◌≡◌, ◌≤◌, ◌<◌, ◌+◌, Bool, true, false, List, [], ◌∷◌, ◌++◌, refl, sym, ap, ◌∙◌, subst, arith, append-nil, length-append, inl, inr, Ok, Err}
+use Rattle.std.proofs.Common.{ℕ, ◌≡◌, ◌≤◌, ◌<◌, ◌+◌, Bool, true, false, List, [], ◌∷◌, ◌++◌, refl, sym, ◌∙◌, subst, arith, append-nil, length-append, inl, inr, Ok, Err}
 use Rattle.std.proofs.lemmas.Bool.{and_from, false≢true}
 use Rattle.std.proofs.lemmas.List.{append_assoc}
 use Rattle.std.proofs.lemmas.List.Folds.{list_all-append}
@@ -7,7 +7,6 @@ use Rattle.std.specs.List.{list_all}
 use Rattle.ev_types.specs.declared.refusal.NoMemory.{NoMemory}
 use Rattle.reactor_journal.specs.declared.entry.Entry.{Entry}
 use Rattle.notify_ring.specs.Words.{drainer_view}
-use Rattle.notify_ring.specs.declared.parts.Drainer.{Drainer}
 use Rattle.reactor_core.specs.Marks.{is_polled}
 use Rattle.reactor_core.specs.Stands.{Meaning}
 use Rattle.reactor_desk.specs.Notices.{is_notice}
@@ -62,7 +61,7 @@ module _ {H M Q W V N E : Type 0} (m : Meaning H M Q W V N E) (q : DeskTerms) (F
   drained_until taken refused mid new low d one = record {
     taken = taken;
     few = omega arith;
-    some = record { notices = d.notices; are = d.are; many = d.many; stands = one.1; looks = omega (arith, d.looks, ap (λ (x : Drainer). (drainer_view x).loads) one.0) };
+    some = record { notices = d.notices; are = d.are; many = d.many; stands = one.1; looks = omega (arith, d.looks, one.0) };
     answer = tt;
   }
 

@@ -33,23 +33,23 @@ pub record DrainsSome {H M Q W V N E : Type 0} (m : Meaning H M Q W V N E) (q : 
   pub stands : DeskStands m q F new (h ++ notices)
   pub looks : looks_of old + taken ≤ looks_of new
 
--- One posting was taken and is recorded; or the ring was found empty. Either is one look.
+-- One posting was taken and is recorded; or the ring was found empty. Either is a look, or several.
 pub record RecordsOne {H M Q W V N E : Type 0} (m : Meaning H M Q W V N E) (q : DeskTerms) (F : ℕ) (h : List (Entry N)) (new : Desk H M Q W V N E) : Type 0 where
   pub notice : Entry N
   pub is : is_notice notice ≡ true
   pub stands : DeskStands m q F new (h ++ notice ∷ [])
 
-abbrev pub LooksOnce : {H M Q W V N E : Type 0} → Desk H M Q W V N E → Desk H M Q W V N E → Type 0
-LooksOnce old new = looks_of new ≡ looks_of old + 1
+abbrev pub Looks : {H M Q W V N E : Type 0} → Desk H M Q W V N E → Desk H M Q W V N E → Type 0
+Looks old new = looks_of old + 1 ≤ looks_of new
 
 -- the last look found the ring empty
 abbrev pub FoundEmpty : {H M Q W V N E : Type 0} → Desk H M Q W V N E → Type 0
 FoundEmpty desk = (drainer_view (drainer_of desk)).gate ≡ 0
 
 abbrev pub DrainsOne : {H M Q W V N E : Type 0} → Meaning H M Q W V N E → DeskTerms → ℕ → List (Entry N) → Result Bool NoMemory → Desk H M Q W V N E → Desk H M Q W V N E → Type 0
-DrainsOne m q F h (Ok true) old new = LooksOnce old new × RecordsOne m q F h new
-DrainsOne m q F h (Ok false) old new = LooksOnce old new × FoundEmpty new × DeskStands m q F new h
-DrainsOne m q F h (Err refused) old new = (drainer_of new ≡ drainer_of old) × DeskStands m q F new h
+DrainsOne m q F h (Ok true) old new = Looks old new × RecordsOne m q F h new
+DrainsOne m q F h (Ok false) old new = Looks old new × FoundEmpty new × DeskStands m q F new h
+DrainsOne m q F h (Err refused) old new = (looks_of old ≤ looks_of new) × DeskStands m q F new h
 
 -- The answer tells how many were taken, of which there are 256, or the last look found the ring empty. Want of memory leaves what was
 -- recorded.

@@ -187,8 +187,23 @@ impl<
         Ok(MOST_TAKEN)
     }
 
-    /// Takes one posting and records it, or says that the ring was found empty.
+    /// Takes one posting and records it, or says that the ring was found empty. Room is made only where a posting is there.
     fn drain_one(&mut self, ring: &Ring) -> Result<bool, NoMemory>
+        requires stands { DeskWith ⟦<Self as Means>⟧.m (λ q h. IsRunning h) self.old }
+        requires ring { drainer_ring (drainer_of self.old) ≡ id_of ring.now }
+        ensures drains { FromDesk ⟦<Self as Means>⟧.m self.old (λ q F h. IsRunning h
+            → DrainsOne ⟦<Self as Means>⟧.m q F h result self.old self.new) }
+        ensures ring { drainer_ring (drainer_of self.new) ≡ drainer_ring (drainer_of self.old) }
+        ensures rest { LeavesDrained ⟦<Self as Means>⟧.m self.old self.new }
+    {
+        if ring.finds_none(&mut self.drainer) {
+            return Ok(false);
+        }
+        self.record_one(ring)
+    }
+
+    /// Makes room for one posting, takes it and records it, or says that the ring was found empty.
+    fn record_one(&mut self, ring: &Ring) -> Result<bool, NoMemory>
         requires stands { DeskWith ⟦<Self as Means>⟧.m (λ q h. IsRunning h) self.old }
         requires ring { drainer_ring (drainer_of self.old) ≡ id_of ring.now }
         ensures drains { FromDesk ⟦<Self as Means>⟧.m self.old (λ q F h. IsRunning h

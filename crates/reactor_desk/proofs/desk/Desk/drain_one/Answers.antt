@@ -1,37 +1,15 @@
-use Rattle.reactor_core.proofs.Frames.{rest_goes_on}
-use Rattle.ev_base.specs.Net.{Reserves}
-use Rattle.std.proofs.Common.{refl, sym, subst}
-use Rattle.reactor_desk.proofs.Drained.{drained_one, found_empty, stands_still}
+use Rattle.std.proofs.Common.{refl, subst}
+use Rattle.notify_ring.specs.Passes.{HasLooked}
+use Rattle.notify_ring.specs.Words.{drainer_view}
+use Rattle.reactor_desk.proofs.Drained.{found_empty, has_looked, looked_none, then_drains}
 use Rattle.reactor_desk.proofs.desk.Desk.drain_one.Goals as goal
 
-pub returns-in-Some-clause-drains : goal.returns-in-Some-clause-drains
-returns-in-Some-clause-drains g c q F h o running =
-    let kept = c.in-Ok.ensures.stands q.run F h o.core in
-    drained_one _ q F h c.args.self.now _ _ c.in-Some.posting o (c.post_reserved.ensures.stands q.run F h kept (c.in-Ok.ensures.room q.run F h o.core) running) c.next.ensures.ring c.in-Some.ensures.taken
+pub returns-then-finds_none-clause-drains : goal.returns-then-finds_none-clause-drains
+returns-then-finds_none-clause-drains g c q F h o running =
+    let look = subst (λ b. HasLooked (drainer_view c.args.self.now.drainer) b (drainer_view c.finds_none.new.drainer)) c.if-finds_none.true c.finds_none.ensures.looked in
+    found_empty _ q F h c.args.self.now _ _ o o.core c.finds_none.ensures.ring (looked_none (drainer_view c.args.self.now.drainer) (drainer_view c.finds_none.new.drainer) look)
 
-pub post_reserved-requires : goal.post_reserved-requires
-post_reserved-requires g c = let o = c.requires.stands in record { stands = (o.0.run, o.1, o.2, c.in-Ok.ensures.stands o.0.run o.1 o.2 o.3.core, (c.in-Ok.ensures.room o.0.run o.1 o.2 o.3.core, o.4)) }
-
-pub returns-in-Some-clause-ring : goal.returns-in-Some-clause-ring
-returns-in-Some-clause-ring g c = c.next.ensures.ring
-
-pub returns-in-Some-clause-rest : goal.returns-in-Some-clause-rest
-returns-in-Some-clause-rest g c = record { net = subst (λ n. Reserves (g.M.Net.facts c.args.self.now.core.net) (g.M.Net.facts n)) (sym c.post_reserved.ensures.net) c.reserve_post.ensures.kept.net; rest = rest_goes_on c.reserve_post.ensures.rest c.post_reserved.ensures.rest }
-
-pub returns-in-None-clause-drains : goal.returns-in-None-clause-drains
-returns-in-None-clause-drains g c q F h o running = found_empty _ q F h c.args.self.now _ _ o (c.in-Ok.ensures.stands q.run F h o.core) c.next.ensures.ring c.in-None.ensures.taken
-
-pub returns-in-None-clause-ring : goal.returns-in-None-clause-ring
-returns-in-None-clause-ring g c = c.next.ensures.ring
-
-pub returns-in-None-clause-rest : goal.returns-in-None-clause-rest
-returns-in-None-clause-rest g c = record { net = c.reserve_post.ensures.kept.net; rest = c.reserve_post.ensures.rest }
-
-pub returns-in-Err-clause-drains : goal.returns-in-Err-clause-drains
-returns-in-Err-clause-drains g c q F h o running = (refl, stands_still _ q F h c.args.self.now _ c.args.self.now.drainer o (c.in-Err.ensures.stands q.run F h o.core))
-
-pub returns-in-Err-clause-ring : goal.returns-in-Err-clause-ring
-returns-in-Err-clause-ring g c = refl
-
-pub returns-in-Err-clause-rest : goal.returns-in-Err-clause-rest
-returns-in-Err-clause-rest g c = record { net = c.reserve_post.ensures.kept.net; rest = c.reserve_post.ensures.rest }
+pub returns-clause-drains : goal.returns-clause-drains
+returns-clause-drains g c q F h o running =
+    let look = subst (λ b. HasLooked (drainer_view c.args.self.now.drainer) b (drainer_view c.finds_none.new.drainer)) c.if-finds_none.false c.finds_none.ensures.looked in
+    then_drains _ q F h c.args.self.now _ _ _ look (c.record_one.ensures.drains q F h (has_looked _ q F h c.args.self.now _ refl c.finds_none.ensures.ring look o) running)
