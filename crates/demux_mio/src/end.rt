@@ -82,6 +82,23 @@ impl MioEnd {
     {
         self.state.socket.unwatch();
     }
+
+    /// Gives it up: its connection is closed soon, and a listener at once.
+    pub(crate) fn retire(self) {
+        let MioEnd { state } = self;
+        let EndState {
+            socket,
+            listener: _,
+            reads: _,
+            last_read: _,
+            writes: _,
+            last_write: _,
+            faults: _,
+            gave: _,
+            over: _,
+        } = Box::into_inner(state);
+        socket.retire();
+    }
 }
 
 /// Takes the next connection into the end that was made for it. Where there was no memory to make one, the system is not asked, so the

@@ -2,7 +2,7 @@
 ghost use Rattle.std.specs.Prelude.{◌≡◌};
 
 use crate::net::WAKER;
-use crate::shared::{Shared, Sharing};
+use crate::shared::{Retired, Shared, Sharing, room_for_retired};
 use crate::socket::Socket;
 use crate::{MioEnd, MioNet};
 use ev_base::{Host, ListenRefused, Wake};
@@ -53,10 +53,10 @@ impl<R: Sockets + Clock + Copy> MioHost<R> {
     }
 
     /// Asks the system for all that a listener wants.
-    fn open(&self, port: u16) -> io::Result<Opened> {
+    fn open(&self, port: u16, retired: Retired) -> io::Result<Opened> {
         let poll = Poll::new(&self.rt)?;
         let waker = Waker::new(poll.registry(), WAKER)?;
-        let shared = Shared::new(poll.registry().try_clone()?, waker);
+        let shared = Shared::new(poll.registry().try_clone()?, waker, retired);
         let address = SocketAddr::from((Ipv4Addr::LOCALHOST, port));
         let listener = TcpListener::bind(&self.rt, address)?;
         let start = Instant::now(&self.rt)?;
@@ -88,7 +88,10 @@ impl<R: Sockets + Clock + Copy> Host for MioHost<R> {
         alloc: Global,
         port: u16,
     ) -> Result<(MioNet<R>, MioEnd, MioWake), ListenRefused> {
-        let Ok(opened) = self.open(port) else {
+        let Ok(retired) = room_for_retired(alloc) else {
+            return Err(ListenRefused::NoMemory);
+        };
+        let Ok(opened) = self.open(port, retired) else {
             self.faults = self.faults.saturating_add(1);
             return Err(ListenRefused::Failed);
         };

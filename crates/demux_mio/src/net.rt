@@ -104,7 +104,7 @@ impl<R: Clock + Copy> MioNet<R> {
 
     /// How long to wait at most, where the caller names a limit or none.
     fn limit(&self, most_ms: Option<u64>) -> Option<Duration> {
-        if self.watching.is_owing() {
+        if self.watching.is_owing() || self.shared.has_retired() {
             return Some(Duration::ZERO);
         }
         let until_retry = self.retry.map(|retry| retry.saturating_sub(self.last));
@@ -236,6 +236,7 @@ impl<R: Clock + Copy> Net for MioNet<R> {
         ensures wanted { GivesWanted result (asked_of self.old) (mio_net_facts self.new).reports }
     {
         self.note_failed_accepts();
+        self.shared.close_retired();
         let limit = self.limit(most_ms);
         if self.wait_for_events(limit).is_err() {
             self.failed_waits = self.failed_waits.saturating_add(1);
@@ -302,7 +303,7 @@ impl<R: Clock + Copy> Net for MioNet<R> {
         ensures asked { asked_of self.new ≡ Retires handle.0 ∷ asked_of self.old }
     {
         self.watching.remove(handle);
-        drop(end);
+        end.retire();
     }
 
     fn turn_away(&mut self, end: MioEnd) {

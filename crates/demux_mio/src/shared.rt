@@ -1,15 +1,30 @@
 //! What a net, its ends and its waker share.
 
+use ev_types::NoMemory;
+use mio::net::TcpStream;
 use mio::{Registry, Waker};
 use std::alloc::Global;
+use std::collections::VecDeque;
 use std::hint::spin_loop;
-use std::sync::Arc;
 use std::sync::atomic::{AtomicBool, Ordering};
+use std::sync::{Arc, Mutex};
 
 /// How often a look at the system is followed by one at the wakes.
 const TURNS: u32 = 50;
 
-/// The set of watched sockets, whether an accept failed since the net looked, and how the net's wait stands.
+/// How many retired connections wait for their close at most.
+const MOST_RETIRED: usize = 64;
+
+/// Connections that wait for their close, the first that was retired in front.
+pub(crate) type Retired = VecDeque<TcpStream>;
+
+/// Room for those.
+pub(crate) fn room_for_retired(alloc: Global) -> Result<Retired, NoMemory> {
+    Ok(VecDeque::with_capacity(alloc, MOST_RETIRED)?)
+}
+
+/// The set of watched sockets, whether an accept failed since the net looked, how the net's wait stands, and the connections that were retired and
+/// are not closed yet.
 #[derive(Drop)]
 pub(crate) struct Shared {
     pub(crate) registry: Registry,
@@ -17,20 +32,68 @@ pub(crate) struct Shared {
     accept_failed: AtomicBool,
     waits: AtomicBool,
     woken: AtomicBool,
+    // To close a connection takes longer than to read from one, and a reactor retires under its token. So the next call of any end closes it, or the
+    // next wait. It is noted whether there are any, so that a call has to look no further where there are none.
+    retired: Mutex<Retired>,
+    has_retired: AtomicBool,
 }
 
 /// An owner of it.
 pub(crate) type Sharing = Arc<Shared, Global>;
 
 impl Shared {
-    pub(crate) fn new(registry: Registry, waker: Waker) -> Shared {
+    pub(crate) fn new(registry: Registry, waker: Waker, retired: Retired) -> Shared {
         Shared {
             registry,
             waker,
             accept_failed: AtomicBool::new(false),
             waits: AtomicBool::new(false),
             woken: AtomicBool::new(false),
+            retired: Mutex::new(retired),
+            has_retired: AtomicBool::new(false),
         }
+    }
+
+    /// Keeps a connection to be closed soon. Where there is no place for it, it is closed here.
+    pub(crate) fn retire(&self, stream: TcpStream) {
+        let Some(mut retired) = self.retired.try_lock() else {
+            return;
+        };
+        if retired.len() < MOST_RETIRED {
+            let _ = retired.push_back(stream);
+            self.has_retired.store(true, Ordering::SeqCst);
+        }
+    }
+
+    // Takes the next connection that waits for its close. None comes also where another thread takes one just now.
+    fn next_retired(&self) -> Option<TcpStream> {
+        let mut retired = self.retired.try_lock()?;
+        let stream = retired.pop_front();
+        self.has_retired
+            .store(!retired.is_empty(), Ordering::SeqCst);
+        stream
+    }
+
+    /// Closes one of the connections that were retired, if there are any.
+    pub(crate) fn close_one_retired(&self) {
+        if self.has_retired() {
+            drop(self.next_retired());
+        }
+    }
+
+    /// Closes the connections that were retired. Some may be left where another thread takes one just now.
+    pub(crate) fn close_retired(&self) {
+        for _ in 0..MOST_RETIRED {
+            if !self.has_retired() {
+                return;
+            }
+            drop(self.next_retired());
+        }
+    }
+
+    /// Whether connections that were retired are not closed yet.
+    pub(crate) fn has_retired(&self) -> bool {
+        self.has_retired.load(Ordering::SeqCst)
     }
 
     /// An accept failed, as where too many files are open.

@@ -144,6 +144,25 @@ impl Socket {
         }
     }
 
+    /// Gives it up: a connection that was watched is closed soon, by whoever makes the next call, and else at once.
+    pub(crate) fn retire(self) {
+        let Socket {
+            opened,
+            place,
+            in_a_row: _,
+        } = self;
+        if let (Opened::Stream(stream), Some(place)) = (opened, place) {
+            place.shared.retire(stream);
+        }
+    }
+
+    /// Closes a connection of the same net that was retired, if there is one.
+    fn close_one_retired(&self) {
+        if let Some(place) = &self.place {
+            place.shared.close_one_retired();
+        }
+    }
+
     /// Reads once. Behind so many reads in a row that gave bytes one pauses, and the net reports the socket again.
     pub(crate) fn read(&mut self, buf: &mut [u8]) -> Got
         ensures { GotWithin result buf.new }
@@ -151,6 +170,7 @@ impl Socket {
         if self.ends_row() {
             return Got::Pause;
         }
+        self.close_one_retired();
         self.begin(Kind::Read);
         let got = read_once(&mut self.opened, buf);
         self.count(got);
@@ -195,6 +215,7 @@ impl Socket {
 
     /// Accepts once. The net hears of a failure, and reports the listener again after a while.
     pub(crate) fn accept(&mut self) -> Accepted {
+        self.close_one_retired();
         self.begin(Kind::Read);
         let Opened::Listener(listener) = &self.opened else {
             return Accepted::Failed;
