@@ -2,8 +2,8 @@
 # Loads `logd serve` and a plain server on epoll that makes the same reads and writes (`plain_epoll.c`), each with 1 and with 4 workers, and checks
 # every line that they print. For each load it prints the rate of ours by that of the plain server (above 1 ours is faster), and the processor
 # time of ours by that of the plain one (below 1 ours is cheaper): the medians of nine runs of each, which take turns; and how many times as fast as
-# one worker it was. Behind that come loads that only ours gets: 4,096 connections at once, peers that send a byte a second, and 10,000 hostile
-# streams beside an honest one. Needs rt, cc and python3.
+# one worker it was. Then it prints how long a record's line takes to come: the medians of three runs of each. Behind that come loads that only ours
+# gets: 4,096 connections at once, peers that send a byte a second, and 10,000 hostile streams beside an honest one. Needs rt, cc and python3.
 root=$(cd "$(dirname "$0")/.." && pwd)
 work=$(mktemp -d) || exit 1
 trap 'rm -rf "$work"' EXIT
@@ -84,7 +84,11 @@ for name, until, load in [
     ("a record every 5 ms beside an endless stream for each worker", lambda workers: workers + 1, lambda workers: ["beside", str(workers), "400"]),
 ]:
     for workers in 1, 2, 4:
-        a, b = (latency(server, until(workers), workers, load(workers)) for server in (plain, ours))
+        runs = {plain: [], ours: []}
+        for _ in range(3):
+            for server, told in runs.items():
+                told.append(latency(server, until(workers), workers, load(workers)))
+        a, b = ([statistics.median(each) for each in zip(*told)] for told in runs.values())
         print(f"{name}, {workers} workers: median {b[0]} us, 99 % {b[1]} us (plain server {a[0]} us, {a[1]} us)", flush=True)
 for workers in 1, 4:
     for name, until, load, groups in [

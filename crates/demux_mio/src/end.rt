@@ -83,7 +83,7 @@ impl MioEnd {
         self.state.socket.unwatch();
     }
 
-    /// Gives it up: its connection is closed soon, and a listener at once.
+    /// Gives it up: its connection is closed at once or soon, and a listener at once.
     pub(crate) fn retire(self) {
         let MioEnd { state } = self;
         let EndState {

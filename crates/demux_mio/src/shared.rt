@@ -6,7 +6,7 @@ use mio::{Registry, Waker};
 use std::alloc::Global;
 use std::collections::VecDeque;
 use std::hint::spin_loop;
-use std::sync::atomic::{AtomicBool, Ordering};
+use std::sync::atomic::{AtomicBool, AtomicU32, Ordering};
 use std::sync::{Arc, Mutex};
 
 /// How often a look at the system is followed by one at the wakes.
@@ -14,6 +14,9 @@ const TURNS: u32 = 50;
 
 /// How many retired connections wait for their close at most.
 const MOST_RETIRED: usize = 64;
+
+/// Behind a wake, so many connections that are retired wait for their close.
+const DEFERRED: u32 = 256;
 
 /// Connections that wait for their close, the first that was retired in front.
 pub(crate) type Retired = VecDeque<TcpStream>;
@@ -32,10 +35,13 @@ pub(crate) struct Shared {
     accept_failed: AtomicBool,
     waits: AtomicBool,
     woken: AtomicBool,
-    // To close a connection takes longer than to read from one, and a reactor retires under its token. So the next call of any end closes it, or the
-    // next wait. It is noted whether there are any, so that a call has to look no further where there are none.
+    // To close a connection takes longer than to read from one, and a reactor retires under its token. So where others wanted that lately, as wakes
+    // tell, the next call of any end closes it, or the next wait. It is noted whether there are any, so that a call has to look no further where
+    // there are none.
     retired: Mutex<Retired>,
     has_retired: AtomicBool,
+    // How many connections more that are retired wait for their close. Else they are closed at once, so that their peers hear of it soon.
+    deferred: AtomicU32,
 }
 
 /// An owner of it.
@@ -51,11 +57,18 @@ impl Shared {
             woken: AtomicBool::new(false),
             retired: Mutex::new(retired),
             has_retired: AtomicBool::new(false),
+            deferred: AtomicU32::new(0),
         }
     }
 
-    /// Keeps a connection to be closed soon. Where there is no place for it, it is closed here.
+    /// Closes a connection, or keeps it to be closed soon, where the net was woken lately and there is a place for it.
     pub(crate) fn retire(&self, stream: TcpStream) {
+        let deferred = self.deferred.load(Ordering::SeqCst);
+        if deferred == 0 {
+            return;
+        }
+        self.deferred
+            .store(deferred.saturating_sub(1), Ordering::SeqCst);
         let Some(mut retired) = self.retired.try_lock() else {
             return;
         };
@@ -132,6 +145,7 @@ impl Shared {
     /// The wait that is under way, or else the next, is not to last. The system is called only where a wait is under way that nobody woke
     /// yet: a wait that begins meanwhile sees that it is woken, or is seen here to have begun.
     pub(crate) fn wake(&self) {
+        self.deferred.store(DEFERRED, Ordering::SeqCst);
         if !self.woken.swap(true, Ordering::SeqCst) && self.waits.load(Ordering::SeqCst) {
             let _ = self.waker.wake();
         }

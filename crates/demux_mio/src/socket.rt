@@ -144,7 +144,7 @@ impl Socket {
         }
     }
 
-    /// Gives it up: a connection that was watched is closed soon, by whoever makes the next call, and else at once.
+    /// Gives it up: it is closed at once, or, where it is a connection that was watched, soon, by whoever makes the next call.
     pub(crate) fn retire(self) {
         let Socket {
             opened,

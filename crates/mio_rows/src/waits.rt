@@ -1,10 +1,10 @@
 //! What ends a wait, and what fails.
 
 use crate::courses::Course;
-use crate::stand::Stand;
+use crate::stand::{READ, Stand};
 use crate::steps::{Step, take};
 use demux_mio::MioWake;
-use ev_base::Wake;
+use ev_base::{Got, Wake};
 use ev_types::Kind;
 use std::alloc::Global;
 use std::sync::Arc;
@@ -70,6 +70,24 @@ fn a_wait_ends_with_its_limit_or_by_the_waker(rt: HostRuntime) -> Result<(), Fai
     drop(stand);
     assert!(rt; is_watched && lasts && is_woken_before);
     assert!(rt; is_woken?);
+    Ok(())
+}
+
+/// A read of another end closes one that was retired, and a wait the other.
+#[test]
+fn behind_a_wake_what_is_retired_is_closed_soon(rt: HostRuntime) -> Result<(), Fail> {
+    let (mut stand, waker) = Stand::open(rt, rt.alloc())?;
+    let mut room = [0; 100];
+    let joined = stand.watch() && stand.join(READ) && stand.join(READ) && stand.join(READ);
+    waker.wake();
+    let retired = stand.is_quiet(0) && stand.retire(0) && stand.retire(1);
+    let paused = stand.read(2, &mut room) == Got::Pause;
+    let closed = stand.receive(0, &mut room) == Some(0);
+    let quiet = stand.is_quiet(0);
+    let other_closed = stand.receive(1, &mut room) == Some(0);
+    drop(stand);
+    assert!(rt; joined && retired && paused);
+    assert!(rt; closed && quiet && other_closed);
     Ok(())
 }
 
