@@ -1,5 +1,5 @@
 //! How the entries that a reactor holds are handed over: a long run cannot keep its whole journal.
-ghost use Rattle.std.specs.Prelude.{◌≡◌, true, IfOk, IfErr, OnErr};
+ghost use Rattle.std.specs.Prelude.{◌≡◌, ◌≤◌, true, IfOk, IfErr, OnErr};
 ghost use Rattle.reactor_core.specs.Stands.{From, IsStanding, StandsAsBefore};
 ghost use Rattle.reactor_core.specs.HandingOver.{is_due, HandsOver, HandsNothing, HasCause, refusal_of};
 
@@ -11,6 +11,12 @@ use reactor_journal::Journal;
 use reactor_model::{EventHandler, TakeRefused, Volumes, Watch};
 use std::mem;
 use timer_queue::TimerQueue;
+
+/// For how many entries a journal is given room at most as its volume begins. Where a volume has more, it grows.
+const MOST_AHEAD: u64 = 4_096;
+
+/// How many entries more than a volume has it may come to hold before it is handed over, in the usual run of things.
+const BEYOND_VOLUME: u64 = 64;
 
 /// Why no volume was handed over.
 #[derive(Clone, Copy, PartialEq, Eq, Debug)]
@@ -48,7 +54,7 @@ impl<
         }
         let held = self.journal.len();
         let mut fresh = Journal::new(self.alloc);
-        match fresh.reserve(self.state.owed()) {
+        match fresh.reserve(room_ahead(self.state.owed(), self.volume)) {
             Ok(()) => {}
             Err(_) => {
                 fresh.into_vec().destroy_empty();
@@ -76,6 +82,14 @@ impl<
     {
         self.journal.len() >= self.volume && self.state.entries() < MOST_ENTRIES
     }
+}
+
+// For how many entries a journal is given room as its volume begins: for those that are owed, and for those of a volume.
+fn room_ahead(owed: usize, volume: u64) -> usize
+    ensures { owed ≤ result }
+{
+    let ahead = volume.min(MOST_AHEAD).saturating_add(BEYOND_VOLUME);
+    owed.saturating_add(ahead as usize)
 }
 
 // The refusal, by what the volumes answered.

@@ -28,7 +28,7 @@ returns-in-Ok-take-clause-ok g c t F h o =
       count = c.len-held.ensures;
       first = refl;
       entries = ap (λ journal. journal.entries) fresh ∙ (c.in-Ok.ensures.entries ∙ c.new-fresh.ensures);
-      owed = subst (λ journal. owed (summary (past_of h)) ≤ journal.spare) (sym fresh) (subst (λ (n : ℕ). n ≤ c.reserve.new.self.spare) owed_is c.in-Ok.ensures.room);
+      owed = subst (λ journal. owed (summary (past_of h)) ≤ journal.spare) (sym fresh) (subst (λ (n : ℕ). n ≤ c.reserve.new.self.spare) owed_is (let ahead : c.owed.result ≤ c.room_ahead.result = c.room_ahead.ensures in let room : c.room_ahead.result ≤ c.reserve.new.self.spare = c.in-Ok.ensures.room in omega (arith, ahead, room)));
       taken = subst (λ journal. AddsEntries (g.V.Volumes.facts c.args.self.now.volumes).taken journal.entries (g.V.Volumes.facts c.take.new.self).taken) c.replace-volume.ensures.value c.in-Ok-take.ensures.takes.taken;
       next = subst (λ journal. (g.V.Volumes.facts c.take.new.self).next ≡ option_map (λ k. k + length journal.entries) (g.V.Volumes.facts c.args.self.now.volumes).next) c.replace-volume.ensures.value c.in-Ok-take.ensures.takes.next;
       faults = c.in-Ok-take.ensures.takes.faults;
