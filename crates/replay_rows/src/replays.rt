@@ -9,7 +9,7 @@ type Row = (&'static str, &'static str, ReplayEnd, &'static str);
 /// A record that comes in two pieces is read whole, by any queue of timers and by two workers. Of two connections the lines come in order, or
 /// the first one's first; of one, the journal is written. A notice ends the run. A failed accept ends nothing, a connection may fail or be left open;
 /// and a text that is none of a script's is served nobody.
-const ROWS: [Row; 15] = [
+static ROWS: [Row; 15] = [
     ("replay --workers=2", "", ReplayEnd::Done, ""),
     (
         "replay",
@@ -95,7 +95,7 @@ const ROWS: [Row; 15] = [
 #[test]
 fn scripts_are_replayed(rt: HostRuntime) -> Result<(), Fail> {
     let alloc = rt.alloc();
-    for (line, script, end, output) in ROWS {
+    for &(line, script, end, output) in &ROWS {
         let script = Vec::from_slice(alloc, script.as_bytes())?;
         let played = replay_line(&rt, alloc, line, script, 4_096)?;
         assert_eq!(rt; played.output.bytes(), output.as_bytes(), "{line}");

@@ -7,7 +7,7 @@ const EACH_LINE: &str =
     "open 0\ndata 0 00fF\nat 5\ndata 0 68\nquiet\nshut 0\nat 5\nfail listener\nopen 1\ndata 1 Aa\nat 4294967295\nfail 1\n";
 
 /// Texts, each with the number of its first bad line, or 0 where it is a script.
-const TEXTS: [(&str, u64); 64] = [
+static TEXTS: [(&str, u64); 64] = [
     ("", 0),
     (EACH_LINE, 0),
     ("quiet", 0),
@@ -82,7 +82,7 @@ const TEXTS: [(&str, u64); 64] = [
 
 #[test]
 fn names_the_first_bad_line(rt: HostRuntime) {
-    for (text, bad) in TEXTS {
+    for &(text, bad) in &TEXTS {
         let found = match parse_script(rt.alloc(), text.as_bytes(), 0) {
             Ok(_) => Some(0),
             Err(ScriptRefused::BadScript { line }) => Some(line),

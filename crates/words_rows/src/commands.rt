@@ -4,7 +4,7 @@ use std::alloc::{AllocError, Global};
 use std::test::Fail;
 
 /// Words that are parted by one space, each line with its command.
-const LINES: [(&str, &str); 26] = [
+static LINES: [(&str, &str); 26] = [
     ("one", "Some(One)"),
     ("one x", "None"),
     ("display", "Some(Display)"),
@@ -58,7 +58,7 @@ const LINES: [(&str, &str); 26] = [
 fn lines_of_words_call_their_commands(rt: HostRuntime) -> Result<(), Fail> {
     let none: Vec<String> = Vec::new(rt.alloc());
     assert_eq!(rt; Command::of(rt.alloc(), &none)?, None);
-    for (line, expected) in LINES {
+    for &(line, expected) in &LINES {
         let words = words_of(rt.alloc(), line)?;
         let command = Command::of(rt.alloc(), &words)?;
         let text = format!(in rt.alloc(); "{command:?}")?;
