@@ -1,7 +1,8 @@
 -- The event that is picked, and where it stands.
 use Rattle.std.proofs.Common.{ℕ, zero, suc, ◌≡◌, ◌==◌, Bool, true, false, ◌&&◌, List, [], ◌∷◌, refl, sym, ap, ◌∙◌, cond, Option, Some, None}
 use Rattle.std.proofs.lemmas.Bool.{eqb-true}
-use Rattle.std.specs.Prelude.{slice_get, IfSome}
+use Rattle.std.proofs.lemmas.List.{nil_from_length}
+use Rattle.std.specs.Prelude.{slice_get, IfSome, length}
 use Rattle.std.specs.List.{find, filter}
 use Rattle.ev_types.specs.declared.upcall.Upcall.{Upcall}
 use Rattle.ev_types.specs.declared.upcall.Upcall.TheVariants.{Input, Output, Except, Timeout, Notice}
@@ -20,6 +21,10 @@ find-filter p q (x ∷ xs) = step (p x) (find-filter p q xs)
     step : (b : Bool) → find q (filter p xs) ≡ find (λ y. p y && q y) xs → find q (cond b (x ∷ filter p xs) (filter p xs)) ≡ cond (b && q x) (Some x) (find (λ y. p y && q y) xs)
     step true rest = ap (λ o. cond (q x) (Some x) o) rest
     step false rest = rest
+
+-- nothing is found in a list that is empty
+pub none_in : {A : Type 0} (p : A → Bool) (xs : List A) (b : Bool) → b ≡ (length xs == 0) → b ≡ true → ◌≡◌ {A = Option A} None (find p xs)
+none_in p xs b e t = sym (ap (find p) (nil_from_length xs (eqb-true (length xs) 0 (sym e ∙ t))))
 
 -- what stands among those that pass does
 pub passes_at : {A : Type 0} (p : A → Bool) (xs : List A) (i : ℕ) (a : A) → slice_get (filter p xs) i ≡ Some a → p a ≡ true

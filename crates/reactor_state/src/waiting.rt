@@ -1,6 +1,6 @@
 //! The waiting events, in a queue for each class.
 
-ghost use Rattle.std.specs.Prelude.{◌≡◌, ◌<◌, ◌≤◌, ◌==◌, not, ℕ, [], length, filter, OnOk, IsOk, IfSome, slice_get, Some};
+ghost use Rattle.std.specs.Prelude.{◌≡◌, ◌<◌, ◌≤◌, ◌==◌, ◌+◌, not, true, ℕ, [], length, filter, OnOk, IsOk, IfSome, slice_get, Some};
 ghost use Rattle.std.specs.List.{list_any, find, remove};
 ghost use Rattle.std.specs.Option.{option_map};
 ghost use Rattle.std.specs.VecDeque.{deque_items, deque_capacity};
@@ -53,6 +53,13 @@ fn first_free(
     None
 }
 
+/// Whether a queue has no event.
+fn is_empty(queue: &VecDeque<WaitingEvent>) -> bool
+    ensures { result ≡ (length (deque_items queue.now) == 0) }
+{
+    queue.is_empty()
+}
+
 /// Takes the events of the handle out of a queue.
 fn drop_of(queue: &mut VecDeque<WaitingEvent>, handle: Handle)
     ensures items { deque_items queue.new ≡ filter (λ w. not (handle.0 == w.handle.0)) (deque_items queue.old) }
@@ -99,7 +106,18 @@ fn take_at(queue: &mut VecDeque<WaitingEvent>, place: usize)
     ensures items { deque_items queue.new ≡ remove (deque_items queue.old) place }
     ensures capacity { deque_capacity queue.new ≡ deque_capacity queue.old }
 {
-    let _ = queue.remove(place);
+    if place == 0 {
+        let _ = queue.pop_front();
+    } else {
+        let _ = queue.remove(place);
+    }
+}
+
+/// Whether there is room for so many more in a queue.
+fn fits(queue: &VecDeque<WaitingEvent>, more: usize) -> bool
+    ensures { result ≡ true → length (deque_items queue.now) + more ≤ deque_capacity queue.now }
+{
+    more <= queue.capacity() - queue.len()
 }
 
 impl Waiting {
@@ -123,12 +141,26 @@ impl Waiting {
         ensures kept { (n m : ℕ) → HasRoom (capacities self.old) n m (queues self.old) → HasRoom (capacities self.new) n m (queues self.new) }
         ensures at_once { HasRoom (capacities self.old) timeouts events (queues self.old) → IsOk result }
     {
+        if self.has_room(timeouts, events) {
+            return Ok(());
+        }
         self.timeouts.reserve(timeouts)?;
         self.notices.reserve(events)?;
         self.outputs.reserve(events)?;
         self.excepts.reserve(events)?;
         self.inputs.reserve(events)?;
         Ok(())
+    }
+
+    /// Whether there is room for so many more timeouts, and for so many more events in each other queue.
+    fn has_room(&self, timeouts: usize, events: usize) -> bool
+        ensures { result ≡ true → HasRoom (capacities self.now) timeouts events (queues self.now) }
+    {
+        fits(&self.timeouts, timeouts)
+            && fits(&self.notices, events)
+            && fits(&self.outputs, events)
+            && fits(&self.excepts, events)
+            && fits(&self.inputs, events)
     }
 
     /// Adds an event at the end of the queue of its class.
@@ -151,17 +183,25 @@ impl Waiting {
         ensures first { (s : S.Summary) (hi : ℕ) → RisesIn handle_number 0 hi handles.now → s.handles ≡ handles.now → s.opens ≡ opens.now → queues self.now ≡ by_class s.waiting → option_map (λ p. p.event) result ≡ S.pick s }
         ensures placed { (s : S.Summary) → queues self.now ≡ by_class s.waiting → IfSome result (λ p. slice_get (queue_of p.event.upcall (queues self.now)) p.place ≡ Some p.event) }
     {
-        if let Some(p) = first_free(&self.timeouts, handles, opens) {
-            return Some(p);
+        if !is_empty(&self.timeouts) {
+            if let Some(p) = first_free(&self.timeouts, handles, opens) {
+                return Some(p);
+            }
         }
-        if let Some(p) = first_free(&self.notices, handles, opens) {
-            return Some(p);
+        if !is_empty(&self.notices) {
+            if let Some(p) = first_free(&self.notices, handles, opens) {
+                return Some(p);
+            }
         }
-        if let Some(p) = first_free(&self.outputs, handles, opens) {
-            return Some(p);
+        if !is_empty(&self.outputs) {
+            if let Some(p) = first_free(&self.outputs, handles, opens) {
+                return Some(p);
+            }
         }
-        if let Some(p) = first_free(&self.excepts, handles, opens) {
-            return Some(p);
+        if !is_empty(&self.excepts) {
+            if let Some(p) = first_free(&self.excepts, handles, opens) {
+                return Some(p);
+            }
         }
         first_free(&self.inputs, handles, opens)
     }
