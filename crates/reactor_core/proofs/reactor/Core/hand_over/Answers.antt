@@ -23,12 +23,15 @@ pub returns-in-Ok-take-clause-ok : goal.returns-in-Ok-take-clause-ok
 returns-in-Ok-take-clause-ok g c t F h o =
     let owed_is : c.owed.result ≡ owed (summary (past_of h)) = c.owed.ensures (summary (past_of h)) o.tracks.state in
     let fresh = c.replace-volume.ensures.after in
+    let ahead : c.owed.result ≤ c.room_ahead.result = c.room_ahead.ensures in
+    let room : c.room_ahead.result ≤ c.reserve.new.self.spare = c.in-Ok.ensures.room in
+    let spare : owed (summary (past_of h)) ≤ c.reserve.new.self.spare = subst (λ (n : ℕ). n ≤ c.reserve.new.self.spare) owed_is (omega (arith, ahead, room)) in
     hands _ t c.args.self.now _ F h c.len-held.result (record {
       others = record { most = refl; volume = refl; state = refl; repo = refl; net = refl; watch = refl; marks = refl };
       count = c.len-held.ensures;
       first = refl;
       entries = ap (λ journal. journal.entries) fresh ∙ (c.in-Ok.ensures.entries ∙ c.new-fresh.ensures);
-      owed = subst (λ journal. owed (summary (past_of h)) ≤ journal.spare) (sym fresh) (subst (λ (n : ℕ). n ≤ c.reserve.new.self.spare) owed_is (let ahead : c.owed.result ≤ c.room_ahead.result = c.room_ahead.ensures in let room : c.room_ahead.result ≤ c.reserve.new.self.spare = c.in-Ok.ensures.room in omega (arith, ahead, room)));
+      owed = subst (λ journal. owed (summary (past_of h)) ≤ journal.spare) (sym fresh) spare;
       taken = subst (λ journal. AddsEntries (g.V.Volumes.facts c.args.self.now.volumes).taken journal.entries (g.V.Volumes.facts c.take.new.self).taken) c.replace-volume.ensures.value c.in-Ok-take.ensures.takes.taken;
       next = subst (λ journal. (g.V.Volumes.facts c.take.new.self).next ≡ option_map (λ k. k + length journal.entries) (g.V.Volumes.facts c.args.self.now.volumes).next) c.replace-volume.ensures.value c.in-Ok-take.ensures.takes.next;
       faults = c.in-Ok-take.ensures.takes.faults;
