@@ -89,6 +89,26 @@ impl<
         self.lead_now(rt, worker, most_ms)
     }
 
+    // Leads as `lead` does behind an upcall that was settled, as a follower where the worker is to become one.
+    pub(crate) fn lead_next<R: Wait>(
+        &self,
+        rt: &R,
+        worker: &mut Worker<H, M, Q, W, V>,
+        most_ms: Option<u64>,
+    ) -> Led<H>
+        requires of { IsOf worker.old self.now }
+        requires free { ((known_by worker.old).base ≡ None) × ((known_by worker.old).mine ≡ None) }
+        requires limit { FitsLimit (known_by worker.old).terms.run most_ms }
+        ensures of { IsOf worker.new self.now }
+        ensures led { IsLed ⟦<Self as Means>⟧.m (known_by worker.old) most_ms result (known_by worker.new) }
+        ensures poster { poster_of worker.new ≡ poster_of worker.old }
+    {
+        if self.turns.dismisses() {
+            return self.lead(rt, worker, most_ms);
+        }
+        self.lead_now(rt, worker, most_ms)
+    }
+
     // Leads as `lead` does, and passes by the gate.
     pub(crate) fn lead_now<R: Wait>(
         &self,
@@ -108,7 +128,7 @@ impl<
         let counted = self.turns.begin();
         self.heed_callers();
         let led = held.value().lead(&self.ring, most_ms);
-        self.end_turn(counted, matches!(&led, Led::Job(_)), held.seen());
+        self.end_turn(counted, started_at(&led), held.seen());
         self.token.put(&mut worker.pass, held);
         self.turns.rouse();
         led
@@ -215,29 +235,29 @@ impl<
         let mut held = self.take(rt, worker);
         let counted = self.turns.begin();
         let settled = held.value().settle(done);
-        if is_reached(pause_at, settled.closed) {
-            self.end_turn(counted, false, held.seen());
+        if is_reached(pause_at, settled.closed) || self.turns.has_surplus() {
+            self.end_turn(counted, None, held.seen());
             self.token.put(&mut worker.pass, held);
             self.turns.rouse();
             return (settled, None);
         }
         self.heed_callers();
         let led = held.value().lead_on(&self.ring, most_ms);
-        self.end_turn(counted, matches!(&led, Some(Led::Job(_))), held.seen());
+        self.end_turn(counted, led.as_ref().and_then(started_at), held.seen());
         self.token.put(&mut worker.pass, held);
         self.turns.rouse();
         (settled, led)
     }
 
     // Ends a counted turn of a leader, and says to a follower that asks whether upcalls wait.
-    fn end_turn(&self, counted: bool, started: bool, desk: &Desk<H, M, Q, W, V>) {
+    fn end_turn(&self, counted: bool, started: Option<u64>, desk: &Desk<H, M, Q, W, V>) {
         if !counted {
             return;
         }
-        if started && self.turns.is_asked() && desk.has_next() {
+        if started.is_some() && self.turns.is_asked() && desk.has_next() {
             self.turns.tell_waiting();
         }
-        self.turns.end();
+        self.turns.end(started);
     }
 
     // Lets the next wait end at once where calls want the token.
@@ -264,6 +284,14 @@ impl<
         let posted = self.ring.post(&mut worker.poster, handle, kind);
         self.waker.wake();
         posted
+    }
+}
+
+// At which moment a lead started an upcall, where it did.
+fn started_at<H: EventHandler>(led: &Led<H>) -> Option<u64> {
+    match led {
+        Led::Job(job) => Some(job.now()),
+        _ => None,
     }
 }
 

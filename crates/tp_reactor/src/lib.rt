@@ -3,6 +3,7 @@
 
 mod asking;
 mod crew;
+mod gains;
 mod leading;
 mod pool;
 mod promoting;

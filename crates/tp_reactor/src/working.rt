@@ -147,7 +147,7 @@ impl<
         self.tell(worker, until, settled, waits);
         match led {
             Some(led) => led,
-            None => self.lead_now(rt, worker, most_ms),
+            None => self.lead_next(rt, worker, most_ms),
         }
     }
 
