@@ -2,9 +2,15 @@
 //! hands one out while an upcall on it is open.
 #![tactic(auto)]
 
+mod cell;
+mod cells;
 mod index;
+mod lending;
+mod placed;
 mod repository;
 mod seat;
 
+pub use cell::Placed;
+pub use placed::PlacedRepo;
 pub use repository::Repo;
 pub use seat::Seat;

@@ -35,3 +35,28 @@ fn a_handler_leaves_and_comes_back(rt: HostRuntime) -> Result<(), Fail> {
     assert_eq!(rt; (first, second, third, fourth), (7, 0, 9, 0));
     Ok(())
 }
+
+#[test]
+fn a_handler_leaves_its_cell_for_good(rt: HostRuntime) -> Result<(), Fail> {
+    let mut repo = PlacedRepo::new(rt.alloc());
+    match repo.reserve(1) {
+        Ok(()) => {}
+        Err(refused) => {
+            repo.close();
+            return Err(refused.into());
+        }
+    }
+    repo.put(Handle(0), Connection(7));
+    let Some(mut first) = repo.take(Handle(0)) else {
+        unreachable!()
+    };
+    first.get_mut().0 += 1;
+    repo.give_back(Handle(0), first);
+    let Some(again) = repo.take(Handle(0)) else {
+        unreachable!()
+    };
+    let last = number(repo.drop_out(Handle(0), again));
+    repo.close();
+    assert_eq!(rt; last, 8);
+    Ok(())
+}

@@ -10,6 +10,7 @@ use crate::append::append;
 use crate::means::Means;
 use ev_base::Net;
 use ev_types::{Handle, Why};
+use handler_repo::Placed;
 use reactor_model::{Entry, EventHandler, Volumes, Watch};
 use timer_queue::TimerQueue;
 
@@ -21,7 +22,7 @@ impl<
     V: Volumes<H::Note>,
 > Core<H, M, Q, W, V> {
     /// Closes the handler in hand, whose handle waits for its close, and retires its end. It takes no memory.
-    pub(crate) fn close_handler(&mut self, handle: Handle, handler: H, why: Why)
+    pub(crate) fn close_handler(&mut self, handle: Handle, handler: Placed<H>, why: Why)
         requires may { Somewhere (MayClose ⟦<Self as Means>⟧.m handle handler why) self.old }
         requires room { 1 ≤ self.old.journal.spare }
         ensures tracks { Each (MayClose ⟦<Self as Means>⟧.m handle handler why) self.old (λ t F h.
@@ -31,9 +32,9 @@ impl<
         ensures room { SpendsRoom ⟦<Self as Means>⟧.m 1 self.old self.new }
         ensures rest { LeavesRest ⟦<Self as Means>⟧.m self.old self.new }
     {
+        let handler = self.repo.drop_out(handle, handler);
         let (end, note) = handler.handle_close(why);
         self.net.retire(handle, end);
-        self.repo.drop_out(handle);
         self.state.close::<H::Note>(handle);
         append(
             &mut self.journal,

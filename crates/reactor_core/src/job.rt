@@ -6,6 +6,7 @@ ghost use Rattle.reactor_core.specs.Upcalls.{JobFits, DoneFits, IsRunOf};
 ghost use Rattle.reactor_core.specs.Views.{job_event, job_handle, job_upcall, job_moment, done_event, done_handle, done_answer, done_note};
 
 use ev_types::{Answer, Handle, Upcall};
+use handler_repo::Placed;
 use reactor_model::{EventHandler, Turn};
 
 /// An upcall that is to be made. It owns the event handler, so no other thread can call that handler meanwhile.
@@ -14,7 +15,7 @@ pub struct Job<H: EventHandler> {
     pub(crate) handle: Handle,
     pub(crate) upcall: Upcall,
     pub(crate) now: u64,
-    pub(crate) handler: H,
+    pub(crate) handler: Placed<H>,
 }
 
 /// An upcall that was made. It is to be given to `Core::settle`.
@@ -23,7 +24,7 @@ pub struct Done<H: EventHandler> {
     pub(crate) handle: Handle,
     pub(crate) upcall: Upcall,
     pub(crate) now: u64,
-    pub(crate) handler: H,
+    pub(crate) handler: Placed<H>,
     pub(crate) turn: Turn<H>,
 }
 
@@ -72,7 +73,7 @@ impl<H: EventHandler> Job<H> {
             handler,
         } = self;
         let mut handler = handler;
-        let turn = handler.upcall(upcall, now);
+        let turn = handler.get_mut().upcall(upcall, now);
         Done {
             event,
             handle,

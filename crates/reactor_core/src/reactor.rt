@@ -15,7 +15,7 @@ use crate::marks::WaitMarks;
 use crate::means::Means;
 use ev_base::Net;
 use ev_types::NoMemory;
-use handler_repo::Repo;
+use handler_repo::PlacedRepo;
 use reactor_journal::Journal;
 use reactor_model::{EventHandler, Volumes, Watch};
 use reactor_state::ReactorState;
@@ -40,7 +40,7 @@ pub struct Core<
     pub(crate) first: u64,
     pub(crate) journal: Journal<H::Note>,
     pub(crate) state: ReactorState<Q>,
-    pub(crate) repo: Repo<H>,
+    pub(crate) repo: PlacedRepo<H>,
     pub(crate) net: M,
     pub(crate) watch: W,
     pub(crate) volumes: V,
@@ -115,7 +115,7 @@ impl<
             first: 0,
             journal,
             state: ReactorState::new(alloc, timers),
-            repo: Repo::new(alloc),
+            repo: PlacedRepo::new(alloc),
             net,
             watch,
             volumes,

@@ -17,6 +17,7 @@ use crate::append::append;
 use crate::means::Means;
 use ev_base::Net;
 use ev_types::{Answer, Handle, Why};
+use handler_repo::Placed;
 use reactor_model::{Entry, EventHandler, Volumes, Watch};
 use reactor_summary::OpenEvent;
 use timer_queue::TimerQueue;
@@ -41,7 +42,7 @@ impl<
         settled: OpenEvent,
         answer: Answer,
         note: H::Note,
-        handler: H,
+        handler: Placed<H>,
     )
         requires stands { StandsWith ⟦<Self as Means>⟧.m
             (λ t h. IsSettling H.means t (past_of h) settled answer note handler) self.old }
@@ -87,7 +88,7 @@ impl<
     }
 
     /// The handler in hand goes home where its handle is alive, and is closed else.
-    fn take_back(&mut self, handle: Handle, handler: H, why: Why)
+    fn take_back(&mut self, handle: Handle, handler: Placed<H>, why: Why)
         requires may { Somewhere (MayTakeBack ⟦<Self as Means>⟧.m handle handler why) self.old }
         requires room { 1 ≤ self.old.journal.spare }
         ensures takes { Each (MayTakeBack ⟦<Self as Means>⟧.m handle handler why) self.old (λ t F h.
