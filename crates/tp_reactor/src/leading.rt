@@ -68,12 +68,13 @@ impl<
         led
     }
 
-    // Leads as `lead` does once more, as a follower where others are none.
-    pub(crate) fn lead_again<R: Wait>(
+    // Leads as `lead` does, where it is said as a follower, and else at once.
+    pub(crate) fn lead_on<R: Wait>(
         &self,
         rt: &R,
         worker: &mut Worker<H, M, Q, W, V>,
         most_ms: Option<u64>,
+        follows: bool,
     ) -> Led<H>
         requires of { IsOf worker.old self.now }
         requires free { ((known_by worker.old).base ≡ None) × ((known_by worker.old).mine ≡ None) }
@@ -82,31 +83,19 @@ impl<
         ensures led { IsLed ⟦<Self as Means>⟧.m (known_by worker.old) most_ms result (known_by worker.new) }
         ensures poster { poster_of worker.new ≡ poster_of worker.old }
     {
-        if !self.turns.is_alone() {
+        if follows {
             return self.lead(rt, worker, most_ms);
         }
-        self.step_aside(rt);
         self.lead_now(rt, worker, most_ms)
     }
 
-    // Leads as `lead` does behind an upcall that was settled, as a follower where the worker is to become one.
-    pub(crate) fn lead_next<R: Wait>(
-        &self,
-        rt: &R,
-        worker: &mut Worker<H, M, Q, W, V>,
-        most_ms: Option<u64>,
-    ) -> Led<H>
-        requires of { IsOf worker.old self.now }
-        requires free { ((known_by worker.old).base ≡ None) × ((known_by worker.old).mine ≡ None) }
-        requires limit { FitsLimit (known_by worker.old).terms.run most_ms }
-        ensures of { IsOf worker.new self.now }
-        ensures led { IsLed ⟦<Self as Means>⟧.m (known_by worker.old) most_ms result (known_by worker.new) }
-        ensures poster { poster_of worker.new ≡ poster_of worker.old }
-    {
-        if self.turns.dismisses() {
-            return self.lead(rt, worker, most_ms);
+    // Whether a worker whose lead came to nothing is to follow: where others lead too. Else it lets calls that want the token have it first.
+    pub(crate) fn follows_others<R: Wait>(&self, rt: &R) -> bool {
+        if !self.turns.is_alone() {
+            return true;
         }
-        self.lead_now(rt, worker, most_ms)
+        self.step_aside(rt);
+        false
     }
 
     // Leads as `lead` does, and passes by the gate.
@@ -214,7 +203,7 @@ impl<
 
     // Settles the worker's own upcall as `settle` does, and leads in the same hold of the token, so that a worker that goes on takes the token once
     // for each upcall. It does not lead where as many handlers were closed as `pause_at` says, so that the caller can post that first, nor where
-    // a volume is to be handed over.
+    // a volume is to be handed over, nor where a worker is to become a follower again.
     pub(crate) fn settle_on<R: Wait>(
         &self,
         rt: &R,

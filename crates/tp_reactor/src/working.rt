@@ -108,7 +108,7 @@ impl<
     {
         match led {
             Led::Job(job) => Ok(self.serve(rt, worker, job, most_ms, until, waits)),
-            Led::Quiet => Ok(self.lead_again(rt, worker, most_ms)),
+            Led::Quiet => Ok(self.lead_on(rt, worker, most_ms, self.follows_others(rt))),
             Led::Over => Err(Ran::Over),
             Led::Stopped => Err(Ran::Stopped),
             Led::Broken => Err(Ran::Broken),
@@ -147,7 +147,7 @@ impl<
         self.tell(worker, until, settled, waits);
         match led {
             Some(led) => led,
-            None => self.lead_next(rt, worker, most_ms),
+            None => self.lead_on(rt, worker, most_ms, self.turns.dismisses()),
         }
     }
 

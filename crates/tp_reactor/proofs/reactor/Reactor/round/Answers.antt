@@ -13,14 +13,14 @@ returns-in-Job-clause-kin g c = serves_kin _ c.args.most_ms c.args.until _ _ _ _
 pub returns-in-Job-clause-goes : goal.returns-in-Job-clause-goes
 returns-in-Job-clause-goes g c v led = serves_round _ c.args.most_ms c.args.until c.args.led _ v _ _ _ _ c.serve.result c.in-Job.is led c.serve.ensures.serves
 
-pub lead_again-requires-clause-free : goal.lead_again-requires-clause-free
-lead_again-requires-clause-free g c = quiet_free _ _ c.args.most_ms c.args.led c.in-Quiet.is c.requires.led
+pub lead_on-requires-clause-free : goal.lead_on-requires-clause-free
+lead_on-requires-clause-free g c = quiet_free _ _ c.args.most_ms c.args.led c.in-Quiet.is c.requires.led
 
 pub returns-in-Quiet-clause-kin : goal.returns-in-Quiet-clause-kin
-returns-in-Quiet-clause-kin g c = led_kin _ _ _ c.args.most_ms c.lead_again.result c.lead_again.ensures.led
+returns-in-Quiet-clause-kin g c = led_kin _ _ _ c.args.most_ms c.lead_on.result c.lead_on.ensures.led
 
 pub returns-in-Quiet-clause-goes : goal.returns-in-Quiet-clause-goes
-returns-in-Quiet-clause-goes g c v led = idles_round _ c.args.most_ms c.args.until c.args.led v _ _ _ _ c.lead_again.result c.in-Quiet.is led c.lead_again.ensures.led (ap poster_view c.lead_again.ensures.poster)
+returns-in-Quiet-clause-goes g c v led = idles_round _ c.args.most_ms c.args.until c.args.led v _ _ _ _ c.lead_on.result c.in-Quiet.is led c.lead_on.ensures.led (ap poster_view c.lead_on.ensures.poster)
 
 pub returns-in-Over-clause-kin : goal.returns-in-Over-clause-kin
 returns-in-Over-clause-kin g c = kin_same _
