@@ -1,5 +1,5 @@
 -- How many entries a map has after each change of it.
-use Rattle.std.proofs.Common.{ℕ, ◌≡◌, ◌≤◌, ◌+◌, ◌==◌, List, [], ◌∷◌, length, Some, None, refl, arith, cond, true, false, Bool, not, nat_lt}
+use Rattle.std.proofs.Common.{ℕ, ◌≡◌, ◌≤◌, ◌+◌, ◌==◌, List, [], ◌∷◌, length, Some, refl, arith, cond, true, false, Bool, not, nat_lt}
 use Rattle.handler_repo.specs.declared.seat.Seat.{Seat}
 use Rattle.handler_repo.specs.Seats.{Entry, seat_of, with_entry, with_seat, without_handle}
 
