@@ -55,7 +55,7 @@ impl<
     /// itself where its own answer ended its life and else as it was removed, and `Closed` follows; else the handler goes home. Then
     /// the act of the turn is done. It takes no memory and cannot fail.
     pub fn settle(&mut self, done: Done<H>) -> Settled
-        requires { StandsWith ⟦<Self as Means>⟧.m
+        requires stands { StandsWith ⟦<Self as Means>⟧.m
             (λ t h. DoneFits H.means t (past_of h) done) self.old }
         ensures stands { From ⟦<Self as Means>⟧.m self.old (λ t F h.
             DoneFits H.means t (past_of h) done
@@ -92,7 +92,7 @@ impl<
 
     /// Does the act of a turn of the handle's handler.
     fn act(&mut self, handle: Handle, act: Option<Act<H>>)
-        requires { RoomWith ⟦<Self as Means>⟧.m 4 act_places
+        requires stands { RoomWith ⟦<Self as Means>⟧.m 4 act_places
             (λ t h. FitsAct H.means t (past_of h) act) self.old }
         ensures stands { FromRoom ⟦<Self as Means>⟧.m 4 act_places self.old (λ t F h.
             FitsAct H.means t (past_of h) act
@@ -147,7 +147,7 @@ impl<
 
     /// Closes a handler that is not registered, and turns its end away.
     fn refuse(&mut self, handler: H, fault: bool)
-        requires { Somewhere (MayTurnAway ⟦<Self as Means>⟧.m handler fault) self.old }
+        requires may { Somewhere (MayTurnAway ⟦<Self as Means>⟧.m handler fault) self.old }
         ensures stands { Each (MayTurnAway ⟦<Self as Means>⟧.m handler fault) self.old (λ t F h.
             (note : H.Note) × Stands ⟦<Self as Means>⟧.m t self.new F
             (h ++ Entry.Refused (live (summary (past_of h))) fault note ∷ [])) }
@@ -166,7 +166,7 @@ impl<
 
     /// Changes the mask of a handle where it is alive.
     fn mask_mine(&mut self, handle: Handle, mask: Mask)
-        requires { Somewhere (StandsWithRoom ⟦<Self as Means>⟧.m 4 act_places) self.old }
+        requires stands { Somewhere (StandsWithRoom ⟦<Self as Means>⟧.m 4 act_places) self.old }
         ensures stands { FromRoom ⟦<Self as Means>⟧.m 4 act_places self.old (λ t F h.
             Stands ⟦<Self as Means>⟧.m t self.new F
             (h ++ mask_mine (is_alive (summary (past_of h)) handle.0) handle mask)) }
@@ -186,7 +186,7 @@ impl<
 
     /// Takes a timer away where it is one of the handle.
     fn cancel_mine(&mut self, handle: Handle, timer: u64)
-        requires { Somewhere (StandsWithRoom ⟦<Self as Means>⟧.m 4 act_places) self.old }
+        requires stands { Somewhere (StandsWithRoom ⟦<Self as Means>⟧.m 4 act_places) self.old }
         ensures stands { FromRoom ⟦<Self as Means>⟧.m 4 act_places self.old (λ t F h.
             Stands ⟦<Self as Means>⟧.m t self.new F
             (h ++ cancel_mine (is_mine (summary (past_of h)) handle.0 timer) timer)) }

@@ -171,7 +171,7 @@ impl<
 
     /// Makes one wait, with so many armed timers, and appends its entries. None comes exactly where the wait failed.
     fn take_events(&mut self, limit: Option<u64>, armed: usize) -> Option<Polled>
-        requires { Somewhere (MayWait ⟦<Self as Means>⟧.m armed limit) self.old }
+        requires may { Somewhere (MayWait ⟦<Self as Means>⟧.m armed limit) self.old }
         ensures waits { IfSome result (λ polled.
             Each (MayWait ⟦<Self as Means>⟧.m armed limit) self.old (λ t F h.
             WaitsOnce ⟦<Self as Means>⟧.m t F h limit polled (M.facts self.old.net) self.new)) }
@@ -193,7 +193,7 @@ impl<
 
     /// Makes one wait, and appends its `Polled` where it did not fail.
     fn wait_for(&mut self, limit: Option<u64>) -> Waited
-        requires { (armed : ℕ) × Somewhere (MayWait ⟦<Self as Means>⟧.m armed limit) self.old }
+        requires may { (armed : ℕ) × Somewhere (MayWait ⟦<Self as Means>⟧.m armed limit) self.old }
         ensures waits { NetWaits (M.facts self.old.net) limit result (M.facts self.new.net) }
         ensures gives { (armed : ℕ) → Each (MayWait ⟦<Self as Means>⟧.m armed limit) self.old
             (λ t F h. WaitGives ⟦<Self as Means>⟧.m armed t F h (moment_of result) self.new) }
@@ -217,7 +217,7 @@ impl<
 
     /// Appends a `Due` for each timer whose deadline is reached, of which there are at most so many.
     fn take_dues(&mut self, most: usize)
-        requires { (t : Terms) × (F : ℕ) × (h : List (Entry H.Note)) × (s : Summary)
+        requires taking { (t : Terms) × (F : ℕ) × (h : List (Entry H.Note)) × (s : Summary)
             × (events : ℕ) × (pending : List Report)
             × IsTakingDues ⟦<Self as Means>⟧.m s most events t self.old F h pending }
         ensures dues { (t : Terms) (F : ℕ) (h : List (Entry H.Note)) (s : Summary) (events : ℕ)

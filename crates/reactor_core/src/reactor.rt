@@ -175,7 +175,7 @@ impl<
     /// Takes apart a reactor that was stopped and whose handlers were all closed. The net, the watch and the volumes are its own, so
     /// their counts of faults are those of its last call.
     pub fn into_parts(self) -> Parts<H::Note, M, Q, W, V>
-        requires { StandsWith ⟦<Self as Means>⟧.m (λ t h. IsOver (summary (past_of h))) self }
+        requires stands { StandsWith ⟦<Self as Means>⟧.m (λ t h. IsOver (summary (past_of h))) self }
         ensures stands { From ⟦<Self as Means>⟧.m self
             (λ t F h. PartsStand ⟦<Self as Means>⟧.m Q.timers t F h result) }
         ensures net { result.net ≡ net_of self }

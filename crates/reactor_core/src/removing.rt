@@ -29,7 +29,7 @@ impl<
     /// closed at once, and `Closed` follows. It takes no memory. `NotLive` comes exactly where the handle is not alive, and
     /// leaves all as it was.
     pub fn remove(&mut self, handle: Handle) -> Result<(), NotLive>
-        requires { IsStanding ⟦<Self as Means>⟧.m self.old }
+        requires stands { IsStanding ⟦<Self as Means>⟧.m self.old }
         ensures not_live { From ⟦<Self as Means>⟧.m self.old (λ t F h.
             IsErr result ↔ (is_alive (summary (past_of h)) handle.0 ≡ false)) }
         ensures ok { OnOk result (From ⟦<Self as Means>⟧.m self.old
@@ -46,7 +46,7 @@ impl<
 
     /// Removes the handler of a handle that is alive.
     pub(crate) fn remove_alive(&mut self, handle: Handle)
-        requires { QuietWith ⟦<Self as Means>⟧.m
+        requires stands { QuietWith ⟦<Self as Means>⟧.m
             (λ t h. is_alive (summary (past_of h)) handle.0 ≡ true) self.old }
         ensures stands { FromQuiet ⟦<Self as Means>⟧.m self.old (λ t F h.
             is_alive (summary (past_of h)) handle.0 ≡ true
@@ -68,7 +68,7 @@ impl<
     /// Stops the reactor: the journal has `Ended`, and each handler whose handle is alive is removed, in rising order. It takes no
     /// memory, and does nothing where the reactor was stopped before.
     pub fn stop(&mut self)
-        requires { IsStanding ⟦<Self as Means>⟧.m self.old }
+        requires stands { IsStanding ⟦<Self as Means>⟧.m self.old }
         ensures stands { From ⟦<Self as Means>⟧.m self.old (λ t F h.
             StopsOnce ⟦<Self as Means>⟧.m t F h self.new (summary (past_of h)).ended) }
         ensures rest { LeavesRest ⟦<Self as Means>⟧.m self.old self.new }
@@ -83,7 +83,7 @@ impl<
 
     /// Removes all handlers whose handles are alive.
     fn remove_all(&mut self)
-        requires { QuietWith ⟦<Self as Means>⟧.m (λ t h. Unit {0}) self.old }
+        requires stands { QuietWith ⟦<Self as Means>⟧.m (λ t h. Unit {0}) self.old }
         ensures stands { FromQuiet ⟦<Self as Means>⟧.m self.old
             (λ t F h. RemovesAll ⟦<Self as Means>⟧.m t F h self.new) }
         ensures rest { LeavesRest ⟦<Self as Means>⟧.m self.old self.new }
@@ -97,7 +97,7 @@ impl<
 
     /// Removes the first handler whose handle is alive, and tells whether there was one.
     fn remove_first(&mut self) -> bool
-        requires { QuietWith ⟦<Self as Means>⟧.m (λ t h. Unit {0}) self.old }
+        requires stands { QuietWith ⟦<Self as Means>⟧.m (λ t h. Unit {0}) self.old }
         ensures some { result ≡ true → FromQuiet ⟦<Self as Means>⟧.m self.old
             (λ t F h. RemovesFirst ⟦<Self as Means>⟧.m t F h self.new) }
         ensures none { result ≡ false → FromQuiet ⟦<Self as Means>⟧.m self.old

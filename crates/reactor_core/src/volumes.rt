@@ -39,7 +39,7 @@ impl<
     /// is 0 and nothing has changed. A refusal comes only where it is due, and changes nothing but, with `Failed`, the volumes'
     /// count of faults.
     pub fn hand_over(&mut self) -> Result<u64, HandOverRefused>
-        requires { IsStanding ⟦<Self as Means>⟧.m self.old }
+        requires stands { IsStanding ⟦<Self as Means>⟧.m self.old }
         ensures ok { IfOk result (λ n. From ⟦<Self as Means>⟧.m self.old
             (λ t F h. HandsOver ⟦<Self as Means>⟧.m t F h n self.old self.new)) }
         ensures due { OnErr result (From ⟦<Self as Means>⟧.m self.old

@@ -52,7 +52,7 @@ impl<
     /// Removes a handler (`Core::remove`); where it is not out for an upcall it is closed at once. It takes no memory. `NotLive` comes
     /// exactly where the handle is not alive, and leaves all as it was.
     pub fn remove(&mut self, handle: Handle) -> Result<(), NotLive>
-        requires { IsAskable ⟦<Self as Means>⟧.m self.old }
+        requires stands { IsAskable ⟦<Self as Means>⟧.m self.old }
         ensures not_live { WhereDesk ⟦<Self as Means>⟧.m self.old
             (λ s. IsErr result ↔ (is_alive s handle.0 ≡ false)) }
         ensures ok { OnOk result (WhereAsked ⟦<Self as Means>⟧.m self.old
@@ -67,7 +67,7 @@ impl<
     /// alive, and `Same` exactly where it is alive and suspended already; after a refusal nothing has changed but, with `NoMemory`, the
     /// room.
     pub fn suspend(&mut self, handle: Handle) -> Result<(), StateRefused>
-        requires { IsAskable ⟦<Self as Means>⟧.m self.old }
+        requires stands { IsAskable ⟦<Self as Means>⟧.m self.old }
         ensures ok { OnOk result (DeskGoesOnBy ⟦<Self as Means>⟧.m self.old
             (λ s. Entry.Suspended handle) self.new) }
         ensures err { OnErr result (DeskAsBefore ⟦<Self as Means>⟧.m self.old self.new) }
@@ -83,7 +83,7 @@ impl<
     /// Ends the suspension of a handle (`Core::resume`). `NotLive` comes exactly where the handle is not alive, and `Same` exactly where
     /// it is alive and not suspended; after a refusal nothing has changed but, with `NoMemory`, the room.
     pub fn resume(&mut self, handle: Handle) -> Result<(), StateRefused>
-        requires { IsAskable ⟦<Self as Means>⟧.m self.old }
+        requires stands { IsAskable ⟦<Self as Means>⟧.m self.old }
         ensures ok { OnOk result (DeskGoesOnBy ⟦<Self as Means>⟧.m self.old
             (λ s. Entry.Resumed handle) self.new) }
         ensures err { OnErr result (DeskAsBefore ⟦<Self as Means>⟧.m self.old self.new) }
@@ -119,7 +119,7 @@ impl<
     /// Takes a timer away, and the event of it that waits to be started (`Core::cancel`). `NotArmed` comes exactly where the timer is
     /// not armed and no event of it waits; after a refusal nothing has changed but, with `NoMemory`, the room.
     pub fn cancel(&mut self, timer: u64) -> Result<(), CancelRefused>
-        requires { IsAskable ⟦<Self as Means>⟧.m self.old }
+        requires stands { IsAskable ⟦<Self as Means>⟧.m self.old }
         ensures ok { OnOk result (DeskGoesOnBy ⟦<Self as Means>⟧.m self.old
             (λ s. Entry.Cancelled timer) self.new) }
         ensures err { OnErr result (DeskAsBefore ⟦<Self as Means>⟧.m self.old self.new) }
@@ -135,7 +135,7 @@ impl<
     /// Stops the reactor (`Core::stop`): each handler whose handle is alive is removed, in rising order. It takes no memory, and does
     /// nothing where the reactor was stopped before.
     pub fn stop(&mut self)
-        requires { IsAskable ⟦<Self as Means>⟧.m self.old }
+        requires stands { IsAskable ⟦<Self as Means>⟧.m self.old }
         ensures stops { WhereAsked ⟦<Self as Means>⟧.m self.old
             (λ q F h. DeskStops ⟦<Self as Means>⟧.m q F h self.new) }
         ensures marks { KeepsMarks ⟦<Self as Means>⟧.m self.old self.new }

@@ -126,7 +126,7 @@ impl<
 
     /// Starts the next upcall, or waits once and looks again.
     fn dispatch(&mut self, most_ms: Option<u64>) -> Led<H>
-        requires { DeskWith ⟦<Self as Means>⟧.m
+        requires stands { DeskWith ⟦<Self as Means>⟧.m
             (λ q h. HasLooked q self.old h × IsRunning h × FitsLimit q.run most_ms) self.old }
         ensures gives { FromDesk ⟦<Self as Means>⟧.m self.old (λ q F h.
             HasLooked q self.old h → IsRunning h → FitsLimit q.run most_ms
@@ -151,7 +151,7 @@ impl<
 
     /// Starts the next upcall once a wait found this.
     fn start_polled(&mut self, polled: Polled) -> Led<H>
-        requires { StartsFrom ⟦<Self as Means>⟧.m self.old }
+        requires starts { StartsFrom ⟦<Self as Means>⟧.m self.old }
         ensures gives { FromStart ⟦<Self as Means>⟧.m self.old (λ q F h.
             GivesBehind ⟦<Self as Means>⟧.m q F h polled result self.new) }
         ensures drainer { drainer_of self.new ≡ drainer_of self.old }

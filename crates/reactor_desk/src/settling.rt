@@ -20,7 +20,7 @@ impl<
     /// Settles an upcall that was made (`Core::settle`): its turn is recorded, its handler goes home or is closed, and its act is done.
     /// It takes no memory and cannot fail.
     pub fn settle(&mut self, done: Done<H>) -> Settled
-        requires { DeskWith ⟦<Self as Means>⟧.m
+        requires stands { DeskWith ⟦<Self as Means>⟧.m
             (λ q h. DoneFits H.means q.run (past_of h) done) self.old }
         ensures settles { FromDesk ⟦<Self as Means>⟧.m self.old (λ q F h.
             DoneFits H.means q.run (past_of h) done

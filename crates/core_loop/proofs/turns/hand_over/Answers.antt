@@ -2,7 +2,7 @@ use Rattle.core_loop.proofs.Idling.{hands_over}
 use Rattle.core_loop.proofs.turns.hand_over.Goals as goal
 
 pub hand_over-requires : goal.hand_over-requires
-hand_over-requires g c = let i = c.requires in (i.terms, i.first, i.history, i.stands)
+hand_over-requires g c = let i = c.requires in record { stands = (i.terms, i.first, i.history, i.stands) }
 
 pub returns-in-Ok-clause-idle : goal.returns-in-Ok-clause-idle
 returns-in-Ok-clause-idle g c = let i = c.requires in hands_over c.args.core.now c.hand_over.new.self _ i (c.in-Ok.ensures.ok i.terms i.first i.history i.stands)

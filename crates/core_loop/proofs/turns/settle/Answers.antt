@@ -2,7 +2,7 @@ use Rattle.core_loop.proofs.Upcalls.{settles_closed}
 use Rattle.core_loop.proofs.turns.settle.Goals as goal
 
 pub settle-requires : goal.settle-requires
-settle-requires g c = let i = c.requires in (i.terms, i.first, i.history, i.stands, i.fits)
+settle-requires g c = let i = c.requires in record { stands = (i.terms, i.first, i.history, i.stands, i.fits) }
 
 pub returns-clause-closed : goal.returns-clause-closed
 returns-clause-closed g c =

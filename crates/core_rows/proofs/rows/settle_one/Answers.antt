@@ -2,7 +2,7 @@ use Rattle.core_rows.proofs.TwoOut.{settles_one}
 use Rattle.core_rows.proofs.rows.settle_one.Goals as goal
 
 pub settle-requires : goal.settle-requires
-settle-requires g c = let i = c.requires in (i.terms, i.first, i.history, i.stands, i.fits)
+settle-requires g c = let i = c.requires in record { stands = (i.terms, i.first, i.history, i.stands, i.fits) }
 
 pub returns : goal.returns
 returns g c =

@@ -8,7 +8,7 @@ pub into_parts-journal-requires : goal.into_parts-journal-requires
 into_parts-journal-requires g c =
     let o = c.requires in
     let s = c.stop.ensures.stands o.0 o.1 [] (at_nothing _ o.0 _ o.1 o.2 o.4.1 o.3) in
-    (o.0, o.1, ([] ++ Ended ∷ []) ++ s.entries, s.stands, over_at_once _ (only_ended _ o.0 o.1 _ s))
+    record { stands = (o.0, o.1, ([] ++ Ended ∷ []) ++ s.entries, s.stands, over_at_once _ (only_ended _ o.0 o.1 _ s)) }
 
 pub returns-clause-left : goal.returns-clause-left
 returns-clause-left g c t F stands =

@@ -9,7 +9,7 @@ pub into_parts-requires : goal.into_parts-requires
 into_parts-requires g c =
     let o = c.requires in
     let s = stops _ o.0 o.1 o.2 _ o.4.1 (c.stop.ensures.stands o.0 o.1 o.2 o.3) in
-    (o.0, o.1, (o.2 ++ Ended ∷ []) ++ s.entries, s.stands, is_over _ (finishes _ o.0 o.1 o.2 _ o.4.1 s))
+    record { stands = (o.0, o.1, (o.2 ++ Ended ∷ []) ++ s.entries, s.stands, is_over _ (finishes _ o.0 o.1 o.2 _ o.4.1 s)) }
 
 pub returns-clause-ends : goal.returns-clause-ends
 returns-clause-ends g c t F h stands terms may =

@@ -31,7 +31,7 @@ settle-requires g c =
     let over = c.in-Ok.ensures.stands q.0 q.1 q.2 q.3 in
     let gives = gave_job _ q.0 over.0 q.2 _ _ _ c.in-Ok-Some.field-0-is (c.in-Ok-Some.ensures.ok q.0 over.0 q.2 over.1) in
     let fits = c.run-done.ensures.fits q.0 (Started c.in-Ok-Some.job.event ∷ past_of q.2) gives.1 in
-    (q.0, over.0, q.2 ++ Started c.in-Ok-Some.job.event ∷ [], gives.0, fits_behind _ q.0 q.2 c.in-Ok-Some.job.event _ fits)
+    record { stands = (q.0, over.0, q.2 ++ Started c.in-Ok-Some.job.event ∷ [], gives.0, fits_behind _ q.0 q.2 c.in-Ok-Some.job.event _ fits) }
 
 pub returns-then-is_broken-clause-err : goal.returns-then-is_broken-clause-err
 returns-then-is_broken-clause-err g c t F h stands terms r =

@@ -7,7 +7,7 @@ pub settle-requires : goal.settle-requires
 settle-requires g c =
     let o = c.requires in
     let gives = gave_some _ o.0 _ o.1 o.2 c.in-Ok-Some.job _ c.in-Ok-Some.field-0-is (c.in-Ok-Some.ensures.ok o.0 o.1 o.2 o.3) in
-    (o.0, o.1, o.2 ++ Started c.in-Ok-Some.job.event ∷ [], gives.1, fits_started _ o.0 o.2 c.in-Ok-Some.job.event _ (c.run-done.ensures.fits o.0 _ gives.2))
+    record { stands = (o.0, o.1, o.2 ++ Started c.in-Ok-Some.job.event ∷ [], gives.1, fits_started _ o.0 o.2 c.in-Ok-Some.job.event _ (c.run-done.ensures.fits o.0 _ gives.2)) }
 
 pub returns-in-Ok-Some-clause-leads : goal.returns-in-Ok-Some-clause-leads
 returns-in-Ok-Some-clause-leads g c t F h stands none =

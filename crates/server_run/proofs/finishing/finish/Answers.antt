@@ -6,7 +6,7 @@ pub into_parts-requires : goal.into_parts-requires
 into_parts-requires g c =
     let o = c.requires in
     let s = stopped _ o.0 o.1 o.2 _ _ o.4 refl (c.stop.ensures.stands o.0 o.1 o.2 o.3) in
-    (o.0, o.1, s.journal, s.stands, s.over)
+    record { stands = (o.0, o.1, s.journal, s.stands, s.over) }
 
 pub returns-clause-stands : goal.returns-clause-stands
 returns-clause-stands g c t first list stands none =

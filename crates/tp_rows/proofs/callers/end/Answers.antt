@@ -5,4 +5,4 @@ use Rattle.tp_rows.proofs.callers.end.Goals as goal
 pub into_parts-requires : goal.into_parts-requires
 into_parts-requires g c =
     let i = c.requires in
-    stopped _ i.terms i.first _ i.history _ (none_open i.terms.most _ i.stands.tracks.legal i.closed) refl (c.stop.ensures.stands i.terms i.first i.history i.stands)
+    record { stands = stopped _ i.terms i.first _ i.history _ (none_open i.terms.most _ i.stands.tracks.legal i.closed) refl (c.stop.ensures.stands i.terms i.first i.history i.stands) }

@@ -9,12 +9,12 @@ use Rattle.reactor_core.proofs.reactor.Core.hand_over.Goals as goal
 
 pub take-requires : goal.take-requires
 take-requires g c =
-    let tracks = c.requires.3.tracks in
+    let tracks = c.requires.stands.3.tracks in
     record { next = subst (λ (first : ℕ). IsNext (g.V.Volumes.facts c.args.self.now.volumes).next first) (sym tracks.journal.first) tracks.volumes.next }
 
 pub overflow_add-self : goal.overflow_add-self
 overflow_add-self g c =
-    let o = c.requires in
+    let o = c.requires.stands in
     let first : c.args.self.now.first + c.len-held.result ≡ length o.2 = first_is c.args.self.now o.1 o.2 c.len-held.result c.len-held.ensures o.3.tracks.journal in
     let few : length o.2 < 2 ^ 62 = few_are c.args.self.now o.1 o.2 (sym {A = Bool} (c.if-not-is_volume_due.ensures o.0 o.1 o.2 o.3)) in
     omega (arith, first, few)

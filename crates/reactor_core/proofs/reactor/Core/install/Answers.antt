@@ -10,7 +10,7 @@ pub refuse-requires : goal.refuse-requires
 refuse-requires g c =
     let o = c.requires.stands in
     let cause = subst (CanInstall o.0.most (summary (past_of o.2))) c.if-not-can_install.true (c.can_install.ensures o.0 o.1 o.2 o.3.tracks) in
-    (o.0, o.1, o.2, record { stands = o.3; offered = o.4; may = cause })
+    record { may = (o.0, o.1, o.2, record { stands = o.3; offered = o.4; may = cause }) }
 
 pub returns-then-not-can_install-clause-stands : goal.returns-then-not-can_install-clause-stands
 returns-then-not-can_install-clause-stands g c t F h st offered =
@@ -29,7 +29,7 @@ refuse-requires-in-Err g c =
     let o = c.requires.stands in
     let place = subst (CanInstall o.0.most (summary (past_of o.2))) c.if-not-can_install.false (c.can_install.ensures o.0 o.1 o.2 o.3.tracks) in
     let gives = c.in-Err.ensures.stands o.0 o.1 o.2 (record { stands = o.3; place = place; offered = o.4 }) in
-    (o.0, o.1, o.2, record { stands = gives.0; offered = gives.1; may = may_after _ o.0 c.args.self.now c.args.self.now o.1 o.2 c.admit.new.self c.in-Err.ensures.leaves.1.0.rose o.3 })
+    record { may = (o.0, o.1, o.2, record { stands = gives.0; offered = gives.1; may = may_after _ o.0 c.args.self.now c.args.self.now o.1 o.2 c.admit.new.self c.in-Err.ensures.leaves.1.0.rose o.3 }) }
 
 pub returns-in-Ok-clause-stands : goal.returns-in-Ok-clause-stands
 returns-in-Ok-clause-stands g c t F h st offered =

@@ -5,7 +5,7 @@ use Rattle.reactor_core.proofs.reactor.Core.into_parts.Goals as goal
 
 pub close-requires : goal.close-requires
 close-requires g c =
-    let o = c.requires in
+    let o = c.requires.stands in
     over_no_seat _ o.0 c.args.self o.1 o.2 o.3 o.4
 
 pub returns-clause-stands : goal.returns-clause-stands

@@ -19,7 +19,7 @@ returns-then-not-is_alive-clause-stands g c t F h st =
 
 pub set_mask-requires : goal.set_mask-requires
 set_mask-requires g c =
-    let o = c.requires in
+    let o = c.requires.stands in
     alive_attached _ o.0 c.args.self.now o.1 o.2 c.args.handle.0 o.3.tracks (sym (c.is_alive.ensures (summary (past_of o.2)) o.3.tracks.state) ∙ c.if-not-is_alive.false)
 
 pub returns-clause-stands : goal.returns-clause-stands

@@ -14,13 +14,15 @@ take_events-requires g c =
     let o = c.requires.stands in
     let s : Summary = summary (past_of o.2) in
     let shows = o.3.tracks.state in
-    let limit = c.least_limit-limit.ensures ∙ limit_is s c.args.most_ms c.time_to_deadline.result (c.time_to_deadline.ensures s (c.in-Ok.ensures.kept.shows s shows)) in (
-      o.0,
-      o.1,
-      o.2,
-      may_wait _ o.0 c.args.self.now _ o.1 o.2 c.armed_count-armed.result c.args.most_ms c.least_limit-limit.result c.in-Ok.ensures.kept
-          (sym (c.is_ended.ensures s shows) ∙ c.if-is_ended.false) (c.armed_count-armed.ensures s shows) limit o.4 (c.in-Ok.ensures.room o.0 o.1 o.2 o.3) o.3,
-    )
+    let limit = c.least_limit-limit.ensures ∙ limit_is s c.args.most_ms c.time_to_deadline.result (c.time_to_deadline.ensures s (c.in-Ok.ensures.kept.shows s shows)) in record {
+      may = (
+        o.0,
+        o.1,
+        o.2,
+        may_wait _ o.0 c.args.self.now _ o.1 o.2 c.armed_count-armed.result c.args.most_ms c.least_limit-limit.result c.in-Ok.ensures.kept
+            (sym (c.is_ended.ensures s shows) ∙ c.if-is_ended.false) (c.armed_count-armed.ensures s shows) limit o.4 (c.in-Ok.ensures.room o.0 o.1 o.2 o.3) o.3,
+      );
+    }
 
 pub returns-in-Some-clause-ok : goal.returns-in-Some-clause-ok
 returns-in-Some-clause-ok g c t F h o fits =

@@ -8,7 +8,7 @@ use Rattle.reactor_core.proofs.reactor.Core.refuse.Goals as goal
 
 pub turn_away-requires : goal.turn_away-requires
 turn_away-requires g c =
-    let o = c.requires in
+    let o = c.requires.may in
     omega (arith, o.3.stands.room.net)
 
 pub returns-clause-stands : goal.returns-clause-stands

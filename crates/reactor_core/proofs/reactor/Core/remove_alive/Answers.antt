@@ -19,7 +19,7 @@ returns-in_default-clause-stands g c t F h st alive =
 
 pub close_handler-requires-clause-room : goal.close_handler-requires-clause-room
 close_handler-requires-clause-room g c =
-    let o = c.requires in
+    let o = c.requires.stands in
     let two = both_owed (past_of o.2) c.args.handle o.4 in
     let r = o.3.room.journal in
     let s = c.append.ensures.spare in
@@ -27,7 +27,7 @@ close_handler-requires-clause-room g c =
 
 pub close_handler-requires-clause-may : goal.close_handler-requires-clause-may
 close_handler-requires-clause-may g c =
-    let o = c.requires in
+    let o = c.requires.stands in
     let n = closes_now _ o.0 c.args.self.now (record c.args.self.now { journal = c.append.new.journal; state = c.remove.new.self; watch = c.append.new.watch }) (record c.args.self.now { journal = c.append.new.journal; state = c.remove.new.self; watch = c.append.new.watch; repo = c.take.new.self }) o.1 o.2 c.args.handle c.in-Some.handler (record {
       appends = record { most = refl; first = refl; journal = c.append.ensures.entries; watch = c.append.ensures.watch; volumes = refl; marks = (refl, refl) };
       state = λ s shows n. c.remove.ensures.steps s shows n;

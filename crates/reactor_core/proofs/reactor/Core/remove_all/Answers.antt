@@ -10,9 +10,9 @@ loop-removed-init g c = record { stands = λ t F h st. removes_none _ t c.args.s
 
 pub remove_first-requires : goal.remove_first-requires
 remove_first-requires g c =
-    let o = c.requires in
+    let o = c.requires.stands in
     let r = c.loop-removed.invariant.stands o.0 o.1 o.2 o.3 in
-    (o.0, o.1, _, r.stands, tt)
+    record { stands = (o.0, o.1, _, r.stands, tt) }
 
 pub loop-removed-preserved : goal.loop-removed-preserved
 loop-removed-preserved g c = record {

@@ -8,9 +8,9 @@ returns-in_default-clause-none g c q t F h st = next_is_none (summary (past_of h
 
 pub remove_alive-requires : goal.remove_alive-requires
 remove_alive-requires g c =
-    let o = c.requires in
+    let o = c.requires.stands in
     let n = next_is (summary (past_of o.2)) c.next_alive.result (c.next_alive.ensures (summary (past_of o.2)) o.3.tracks.state) c.in-Some.handle c.in-Some.is in
-    (o.0, o.1, o.2, o.3, alive_first (summary (past_of o.2)) n.0 n.1 c.in-Some.handle n.2 n.3)
+    record { stands = (o.0, o.1, o.2, o.3, alive_first (summary (past_of o.2)) n.0 n.1 c.in-Some.handle n.2 n.3) }
 
 pub returns-clause-some : goal.returns-clause-some
 returns-clause-some g c q t F h st =

@@ -5,9 +5,9 @@ use Rattle.reactor_core.proofs.reactor.Core.settle.Goals as goal
 
 pub act-requires : goal.act-requires
 act-requires g c =
-    let o = c.requires in
+    let o = c.requires.stands in
     let e = c.settle_event.ensures.settles o.0 o.1 o.2 o.3 (settling_of g.H.EventHandler.means o.0 (past_of o.2) c.args.done o.4) in
-    (o.0, o.1, _, e.stands, act_fits _ o.0 o.1 o.2 c.args.done _ o.3.tracks.legal o.4 e)
+    record { stands = (o.0, o.1, _, e.stands, act_fits _ o.0 o.1 o.2 c.args.done _ o.3.tracks.legal o.4 e) }
 
 pub returns-clause-stands : goal.returns-clause-stands
 returns-clause-stands g c t F h st d =

@@ -9,20 +9,22 @@ returns-then-is_ended-clause-stands g c t F h st = stops_once _ t c.args.self.no
 
 pub remove_all-requires : goal.remove_all-requires
 remove_all-requires g c =
-    let o = c.requires in (
-      o.0,
-      o.1,
-      _,
-      ended_on _ o.0 c.args.self.now _ o.1 o.2 (record {
-        appends = record { most = refl; first = refl; journal = c.append.ensures.entries; watch = c.append.ensures.watch; volumes = refl; marks = (refl, refl) };
-        spare = c.append.ensures.spare;
-        state = λ s shows n. c.end.ensures.steps s shows n;
-        places = c.end.ensures.places;
-        repo = refl;
-        net = refl;
-      }) (sym (c.is_ended.ensures (summary (past_of o.2)) o.3.tracks.state) ∙ c.if-is_ended.false) o.3,
-      tt,
-    )
+    let o = c.requires.stands in record {
+      stands = (
+        o.0,
+        o.1,
+        _,
+        ended_on _ o.0 c.args.self.now _ o.1 o.2 (record {
+          appends = record { most = refl; first = refl; journal = c.append.ensures.entries; watch = c.append.ensures.watch; volumes = refl; marks = (refl, refl) };
+          spare = c.append.ensures.spare;
+          state = λ s shows n. c.end.ensures.steps s shows n;
+          places = c.end.ensures.places;
+          repo = refl;
+          net = refl;
+        }) (sym (c.is_ended.ensures (summary (past_of o.2)) o.3.tracks.state) ∙ c.if-is_ended.false) o.3,
+        tt,
+      );
+    }
 
 pub returns-clause-stands : goal.returns-clause-stands
 returns-clause-stands g c t F h st =

@@ -9,17 +9,17 @@ loop-left-init g c = record { dues = λ t F h s events pending k. dues_begin _ t
 
 pub due-requires-clause-can : goal.due-requires-clause-can
 due-requires-clause-can g c =
-    let o = c.requires in
+    let o = c.requires.taking in
     (dues_may _ o.0 c.loop-left.self o.1 o.3 c.loop-left.left o.4 o.2 o.5 (has_fewer g.Q.TimerQueue.spare) (omega (arith, c.loop-left-test.true)) (c.loop-left.invariant.dues o.0 o.1 o.2 o.3 o.4 o.5 o.6)).can
 
 pub due-requires-clause-room : goal.due-requires-clause-room
 due-requires-clause-room g c =
-    let o = c.requires in
+    let o = c.requires.taking in
     (dues_may _ o.0 c.loop-left.self o.1 o.3 c.loop-left.left o.4 o.2 o.5 (has_fewer g.Q.TimerQueue.spare) (omega (arith, c.loop-left-test.true)) (c.loop-left.invariant.dues o.0 o.1 o.2 o.3 o.4 o.5 o.6)).place
 
 pub append-requires : goal.append-requires
 append-requires g c =
-    let o = c.requires in
+    let o = c.requires.taking in
     (dues_may _ o.0 c.loop-left.self o.1 o.3 c.loop-left.left o.4 o.2 o.5 (has_fewer g.Q.TimerQueue.spare) (omega (arith, c.loop-left-test.true)) (c.loop-left.invariant.dues o.0 o.1 o.2 o.3 o.4 o.5 o.6)).spare
 
 pub returns-in_default-clause-dues : goal.returns-in_default-clause-dues

@@ -13,17 +13,17 @@ pub returns-in_default-clause-fails : goal.returns-in_default-clause-fails
 returns-in_default-clause-fails g c = c.wait_for-answer.ensures.fails (named_none c.wait_for-answer.result (sym c.name_of.ensures ∙ c.in_default.is))
 
 pub wait_for-answer-requires : goal.wait_for-answer-requires
-wait_for-answer-requires g c = (c.args.armed, c.requires)
+wait_for-answer-requires g c = record { may = (c.args.armed, c.requires.may) }
 
 pub take_dues-requires : goal.take_dues-requires
 take_dues-requires g c =
-    let o = c.requires in
+    let o = c.requires.may in
     let w = is_waited _ o.0 o.1 o.2 c.args.armed c.args.limit c.wait_for-answer.result c.in-Some.polled _ c.wait_for-answer.new.self (sym c.name_of.ensures ∙ c.in-Some.is) c.wait_for-answer.ensures.waits (c.wait_for-answer.ensures.gives c.args.armed o.0 o.1 o.2 o.3) in
-    (o.0, o.1, _, summary (past_of o.2), 256, _, w.taking)
+    record { taking = (o.0, o.1, _, summary (past_of o.2), 256, _, w.taking) }
 
 pub take_reports-requires-clause-stands : goal.take_reports-requires-clause-stands
 take_reports-requires-clause-stands g c =
-    let o = c.requires in
+    let o = c.requires.may in
     let s : Summary = summary (past_of o.2) in
     let w = is_waited _ o.0 o.1 o.2 c.args.armed c.args.limit c.wait_for-answer.result c.in-Some.polled _ c.wait_for-answer.new.self (sym c.name_of.ensures ∙ c.in-Some.is) c.wait_for-answer.ensures.waits (c.wait_for-answer.ensures.gives c.args.armed o.0 o.1 o.2 o.3) in
     let k = c.take_dues.ensures.dues o.0 o.1 _ s 256 _ w.taking in
@@ -32,7 +32,7 @@ take_reports-requires-clause-stands g c =
 
 pub take_reports-requires-clause-all : goal.take_reports-requires-clause-all
 take_reports-requires-clause-all g c =
-    let o = c.requires in
+    let o = c.requires.may in
     let w = is_waited _ o.0 o.1 o.2 c.args.armed c.args.limit c.wait_for-answer.result c.in-Some.polled _ c.wait_for-answer.new.self (sym c.name_of.ensures ∙ c.in-Some.is) c.wait_for-answer.ensures.waits (c.wait_for-answer.ensures.gives c.args.armed o.0 o.1 o.2 o.3) in
     (counts_reports g.M.Net.facts _ c.wait_for-answer.new.self.net c.take_dues.new.self.net c.args.limit c.wait_for-answer.result w.now c.count_of.result c.take_dues.ensures.net c.count_of.ensures w.answers).all
 

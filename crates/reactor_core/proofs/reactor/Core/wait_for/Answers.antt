@@ -32,19 +32,19 @@ returns-clause-fails g c q = absurd (some_none (sym (sym c.moment_of.ensures ∙
 
 pub poll-requires : goal.poll-requires
 poll-requires g c =
-    let o = c.requires.1 in (
+    let o = c.requires.may.1 in (
       summary (past_of o.2),
       o.3.stands.tracks.state,
-      may_poll _ o.0 c.args.self.now o.1 o.2 c.requires.0 c.args.limit c.wait-answer.result c.in-Some.now _ (answered _ _ c.args.limit c.wait-answer.result c.in-Some.now (sym c.moment_of.ensures ∙ c.in-Some.is) c.wait-answer.ensures.waits) o.3,
+      may_poll _ o.0 c.args.self.now o.1 o.2 c.requires.may.0 c.args.limit c.wait-answer.result c.in-Some.now _ (answered _ _ c.args.limit c.wait-answer.result c.in-Some.now (sym c.moment_of.ensures ∙ c.in-Some.is) c.wait-answer.ensures.waits) o.3,
     )
 
 pub append-requires : goal.append-requires
-append-requires g c = let room = c.requires.1.3.room.journal in omega (arith, room)
+append-requires g c = let room = c.requires.may.1.3.room.journal in omega (arith, room)
 
 pub marked-self-requires : goal.marked-self-requires
 marked-self-requires g c =
-    let o = c.requires.1 in
-    may_mark _ o.0 c.args.self.now o.1 o.2 c.requires.0 c.args.limit o.3
+    let o = c.requires.may.1 in
+    may_mark _ o.0 c.args.self.now o.1 o.2 c.requires.may.0 c.args.limit o.3
 
 pub returns-clause-marks : goal.returns-clause-marks
 returns-clause-marks g c = c.marked-self.ensures ∙ after_answer c.wait-answer.result c.in-Some.now _ (sym c.moment_of.ensures ∙ c.in-Some.is)

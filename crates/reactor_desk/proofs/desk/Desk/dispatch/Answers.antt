@@ -20,19 +20,19 @@ returns-in-Err-clause-marks g c = desk_keeps _ _ _ (core_rests _ _ _ c.start.ens
 
 pub poll-requires : goal.poll-requires
 poll-requires g c =
-    let o = c.requires in
+    let o = c.requires.stands in
     let s = none_started _ o.0 o.1 o.2 _ _ c.in-Ok-None.field-0-is (c.in-Ok-None.ensures.ok o.0.run o.1 o.2 o.3.core) in
     record { stands = (o.0.run, o.1, o.2, s, o.4.2) }
 
 pub start_polled-requires : goal.start_polled-requires
 start_polled-requires g c =
-    let o = c.requires in
+    let o = c.requires.stands in
     let b = brought _ o.0 o.1 o.2 c.args.most_ms c.args.self.now _ _ _ c.in-Ok.polled o.3 o.4.0 c.in-Ok-None.field-0-is (c.in-Ok-None.ensures.ok o.0.run o.1 o.2 o.3.core) c.start.ensures.net (λ s. c.in-Ok.ensures.ok o.0.run o.1 o.2 s o.4.2) in
-    (o.0, o.1, o.2 ++ b.entries, b.stands)
+    record { starts = (o.0, o.1, o.2 ++ b.entries, b.stands) }
 
 pub unreachable-requires : goal.unreachable-requires
 unreachable-requires g c =
-    let o = c.requires in
+    let o = c.requires.stands in
     let s = none_started _ o.0 o.1 o.2 _ _ c.in-Ok-None.field-0-is (c.in-Ok-None.ensures.ok o.0.run o.1 o.2 o.3.core) in
     false≢true (sym o.4.1 ∙ (c.in-Err-Stopped.ensures.stopped o.0.run o.1 o.2 s).0 (ap Err c.in-Err-Stopped.field-0-is))
 
@@ -43,7 +43,7 @@ returns-in-Ok-clause-gives g c q F h o looked running fits =
 
 pub returns-in-Ok-clause-tells : goal.returns-in-Ok-clause-tells
 returns-in-Ok-clause-tells g c =
-    let o = c.requires in
+    let o = c.requires.stands in
     let b = brought _ o.0 o.1 o.2 c.args.most_ms c.args.self.now _ _ _ c.in-Ok.polled o.3 o.4.0 c.in-Ok-None.field-0-is (c.in-Ok-None.ensures.ok o.0.run o.1 o.2 o.3.core) c.start.ensures.net (λ s. c.in-Ok.ensures.ok o.0.run o.1 o.2 s o.4.2) in
     tells_behind _ o.0 o.1 (o.2 ++ b.entries) c.in-Ok.polled c.start_polled.result _ c.args.self.now _ (c.start_polled.ensures.gives o.0 o.1 (o.2 ++ b.entries) b.stands) (c.start_polled.ensures.rest.rest.marks ∙ c.in-Ok.ensures.marks) (ap (λ (k : WaitMarks). k.over) c.start.ensures.rest.marks)
 
@@ -69,7 +69,7 @@ pub returns-in-Err-NoMemory-clause-marks : goal.returns-in-Err-NoMemory-clause-m
 returns-in-Err-NoMemory-clause-marks g c = desk_keeps _ _ _ (core_then _ _ _ _ (core_rests _ _ _ c.start.ensures.rest) (core_waits _ _ _ c.poll.ensures.counts c.poll.ensures.over c.poll.ensures.volumes))
 
 pub start-requires : goal.start-requires
-start-requires g c = let o = c.requires in record { stands = (o.0.run, o.1, o.2, o.3.core) }
+start-requires g c = let o = c.requires.stands in record { stands = (o.0.run, o.1, o.2, o.3.core) }
 
 pub returns-in-Ok-Some-clause-tells : goal.returns-in-Ok-Some-clause-tells
 returns-in-Ok-Some-clause-tells g c = tt

@@ -14,7 +14,7 @@ pub dispatch-requires : goal.dispatch-requires
 dispatch-requires g c =
     let o = c.requires.stands in
     let d = c.in-Ok.ensures.drains o.0 o.1 o.2 o.3 o.4.0 in
-    (o.0, o.1, o.2 ++ d.some.notices, d.some.stands, (d.answer.2, notices_ended o.2 d.some.notices d.some.are ∙ o.4.0, o.4.1))
+    record { stands = (o.0, o.1, o.2 ++ d.some.notices, d.some.stands, (d.answer.2, notices_ended o.2 d.some.notices d.some.are ∙ o.4.0, o.4.1)) }
 
 pub returns-in-Ok-clause-gives : goal.returns-in-Ok-clause-gives
 returns-in-Ok-clause-gives g c q F h o running fits =

@@ -5,7 +5,7 @@ use Rattle.reactor_desk.proofs.Marks.{core_hands_same, core_hands_none, core_the
 use Rattle.reactor_desk.proofs.desk.Desk.lead.Goals as goal
 
 pub hand_over-requires : goal.hand_over-requires
-hand_over-requires g c = let o = c.requires.stands in (o.0.run, o.1, o.2, o.3.core)
+hand_over-requires g c = let o = c.requires.stands in record { stands = (o.0.run, o.1, o.2, o.3.core) }
 
 pub go_on-requires-clause-stands : goal.go_on-requires-clause-stands
 go_on-requires-clause-stands g c =

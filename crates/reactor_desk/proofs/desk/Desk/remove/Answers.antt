@@ -10,7 +10,7 @@ pub returns-clause-marks : goal.returns-clause-marks
 returns-clause-marks g c = desk_keeps _ _ _ (core_rests _ _ _ c.remove.ensures.rest)
 
 pub remove-requires : goal.remove-requires
-remove-requires g c = let o = c.requires in (o.0.run, o.1, o.2, o.3.core)
+remove-requires g c = let o = c.requires.stands in record { stands = (o.0.run, o.1, o.2, o.3.core) }
 
 pub returns-clause-not_live : goal.returns-clause-not_live
 returns-clause-not_live g c q F h o = c.remove.ensures.not_live q.run F h o.core

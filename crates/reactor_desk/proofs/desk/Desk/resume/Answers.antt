@@ -16,7 +16,7 @@ pub returns-clause-marks : goal.returns-clause-marks
 returns-clause-marks g c = desk_keeps _ _ _ (core_rests _ _ _ c.resume.ensures.rest)
 
 pub resume-requires : goal.resume-requires
-resume-requires g c = let o = c.requires in record { stands = (o.0.run, o.1, o.2, o.3.core) }
+resume-requires g c = let o = c.requires.stands in record { stands = (o.0.run, o.1, o.2, o.3.core) }
 
 pub returns-clause-refused : goal.returns-clause-refused
 returns-clause-refused g c = c.resume.ensures.refused

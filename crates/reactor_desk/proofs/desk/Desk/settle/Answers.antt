@@ -9,4 +9,4 @@ pub returns-clause-marks : goal.returns-clause-marks
 returns-clause-marks g c = desk_keeps _ _ _ (core_attaches _ _ _ c.settle.ensures.rest)
 
 pub settle-requires : goal.settle-requires
-settle-requires g c = let o = c.requires in (o.0.run, o.1, o.2, o.3.core, o.4)
+settle-requires g c = let o = c.requires.stands in record { stands = (o.0.run, o.1, o.2, o.3.core, o.4) }

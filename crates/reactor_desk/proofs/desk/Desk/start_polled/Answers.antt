@@ -31,7 +31,7 @@ pub returns-in-Err-clause-rest : goal.returns-in-Err-clause-rest
 returns-in-Err-clause-rest g c = record { net = c.start.ensures.net; rest = c.start.ensures.rest }
 
 pub start-requires : goal.start-requires
-start-requires g c = let o = c.requires in record { stands = (o.0.run, o.1, o.2, o.3.stands.core) }
+start-requires g c = let o = c.requires.starts in record { stands = (o.0.run, o.1, o.2, o.3.stands.core) }
 
 pub returns-in-Ok-Some-clause-drainer : goal.returns-in-Ok-Some-clause-drainer
 returns-in-Ok-Some-clause-drainer g c = refl

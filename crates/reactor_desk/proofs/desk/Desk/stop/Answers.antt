@@ -9,4 +9,4 @@ pub returns-clause-marks : goal.returns-clause-marks
 returns-clause-marks g c = desk_keeps _ _ _ (core_rests _ _ _ c.stop.ensures.rest)
 
 pub stop-requires : goal.stop-requires
-stop-requires g c = let o = c.requires in (o.0.run, o.1, o.2, o.3.core)
+stop-requires g c = let o = c.requires.stands in record { stands = (o.0.run, o.1, o.2, o.3.core) }

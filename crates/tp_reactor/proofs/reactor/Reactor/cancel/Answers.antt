@@ -13,7 +13,7 @@ use Rattle.tp_reactor.proofs.reactor.Reactor.cancel.Goals as goal
 pub cancel-answer-requires : goal.cancel-answer-requires
 cancel-answer-requires g c =
     let got = c.take-held.ensures.got in
-    (_, got.first, got.list, stood_of _ _ _ _ c.value.result.now got c.value.ensures.value, c.requires.ask)
+    record { stands = (_, got.first, got.list, stood_of _ _ _ _ c.value.result.now got c.value.ensures.value, c.requires.ask) }
 
 pub put-requires-clause-may : goal.put-requires-clause-may
 put-requires-clause-may g c =

@@ -7,7 +7,7 @@ use Rattle.tp_reactor.proofs.reactor.Reactor.settle.Goals as goal
 pub settle-settled-requires : goal.settle-settled-requires
 settle-settled-requires g c =
     let got = c.take-held.ensures.got in
-    (_, got.first, got.list, stood_of _ _ _ _ c.value.result.now got c.value.ensures.value, fits_now _ _ _ _ got c.args.done c.requires.own c.requires.fits)
+    record { stands = (_, got.first, got.list, stood_of _ _ _ _ c.value.result.now got c.value.ensures.value, fits_now _ _ _ _ got c.args.done c.requires.own c.requires.fits) }
 
 pub put-requires-clause-may : goal.put-requires-clause-may
 put-requires-clause-may g c =

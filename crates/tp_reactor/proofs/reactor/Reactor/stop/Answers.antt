@@ -9,7 +9,7 @@ use Rattle.tp_reactor.proofs.reactor.Reactor.stop.Goals as goal
 pub stop-requires : goal.stop-requires
 stop-requires g c =
     let got = c.take-held.ensures.got in
-    (_, got.first, got.list, stood_of _ _ _ _ c.value.result.now got c.value.ensures.value, c.requires.ask)
+    record { stands = (_, got.first, got.list, stood_of _ _ _ _ c.value.result.now got c.value.ensures.value, c.requires.ask) }
 
 pub put-requires-clause-may : goal.put-requires-clause-may
 put-requires-clause-may g c =
