@@ -1,9 +1,12 @@
 #!/bin/sh
 # Loads `logd serve` and a plain server on epoll that makes the same reads and writes (`plain_epoll.c`), each with 1 and with 4 workers, and checks
 # every line that they print. For each load it prints the rate of ours by that of the plain server (above 1 ours is faster), and the processor
-# time of ours by that of the plain one (below 1 ours is cheaper): the medians of nine runs of each, which take turns; and how many times as fast as
-# one worker it was. Then it prints how long a record's line takes to come: the medians of three runs of each. Behind that come loads that only ours
-# gets: 4,096 connections at once, peers that send a byte a second, and 10,000 hostile streams beside an honest one. Needs rt, cc and python3.
+# time of ours by that of the plain one (below 1 ours is cheaper): the medians of nine runs of each, which take turns; how many times as fast as
+# one worker it was; and what part of the machine's processor time its host took away meanwhile (steal). A load of short connections leaves tens of
+# thousands of sockets behind that the system keeps for a minute, and that slow both servers: before each of these it rests so long, and they have
+# 15 runs, since one takes less than a tenth of a second. Then it prints how long a record's line takes to come: the medians of three runs of each.
+# Behind that come loads that only ours gets: 4,096 connections at once, peers that send a byte a second, and 10,000 hostile streams beside an honest
+# one. Needs rt, cc and python3.
 root=$(cd "$(dirname "$0")/.." && pwd)
 work=$(mktemp -d) || exit 1
 trap 'rm -rf "$work"' EXIT
@@ -43,28 +46,45 @@ def ours(port, until, workers):
 def plain(port, until, workers):
     return [work + "/plain", str(port), str(until), str(workers)]
 
-def medians(until, counts, load, groups):
-    """The median seconds and processor seconds of nine runs of each server with each number of workers, which take turns."""
+def processor_time():
+    """The ticks of all processors since the system began, and how many of them its host took away."""
+    with open("/proc/stat") as table:
+        ticks = [int(word) for word in table.readline().split()[1:9]]
+    return sum(ticks), ticks[7]
+
+def steal(since):
+    """Which part of the processor time since then the host took away, as a percentage."""
+    now = processor_time()
+    return 100 * (now[1] - since[1]) / max(1, now[0] - since[0])
+
+def medians(times, until, counts, load, groups):
+    """The median seconds and processor seconds of so many runs of each server with each number of workers, which take turns."""
     runs = {(server, workers): [] for workers in counts for server in (plain, ours)}
-    for _ in range(9):
+    for _ in range(times):
         for (server, workers), told in runs.items():
             port = free_port()
             told.append(serve(server(port, until, workers), port, load, groups))
     return {of: [statistics.median(each) for each in zip(*told)] for of, told in runs.items()}
 
+# Each load: its name, how many connections it makes, its words, what is asked of its lines, the seconds of rest before each set of runs, how many
+# runs a set has, and the numbers of workers of each set.
 LOADS = [
-    ("bulk, 8 connections of 200,000 records", 8, ["bulk", "8", "200000"], ["8x200000"]),
-    ("one stream", 1, ["bulk", "1", "400000"], ["1x400000"]),
-    ("900 silent, one busy", 901, ["silent", "900", "200000"], ["900x0", "1x200000"]),
-    ("2,000 short connections", 2000, ["short", "2000"], ["2000x1"]),
+    ("bulk, 8 connections of 200,000 records", 8, ["bulk", "8", "200000"], ["8x200000"], 0, 9, [(1, 2, 4)]),
+    ("one stream", 1, ["bulk", "1", "400000"], ["1x400000"], 0, 9, [(1, 4)]),
+    ("900 silent, one busy", 901, ["silent", "900", "200000"], ["900x0", "1x200000"], 0, 9, [(1, 4)]),
+    ("2,000 short connections", 2000, ["short", "2000"], ["2000x1"], 65, 15, [(1,), (4,)]),
 ]
-for name, until, load, groups in LOADS:
-    counts = (1, 2, 4) if name.startswith("bulk") else (1, 4)
-    told = medians(until, counts, load, groups)
-    for workers in counts:
+for name, until, load, groups, rest, times, sets in LOADS:
+    told, stolen = {}, {}
+    for counts in sets:
+        time.sleep(rest)
+        since = processor_time()
+        told.update(medians(times, until, counts, load, groups))
+        stolen.update((workers, steal(since)) for workers in counts)
+    for workers in stolen:
         a, b = told[plain, workers], told[ours, workers]
         gains = [told[server, 1][0] / told[server, workers][0] for server in (ours, plain)]
-        print(f"{name}, {workers} workers: rate {a[0] / b[0]:.2f}, processor {b[1] / a[1]:.2f} ({b[0]:.3f} s, {b[1]:.2f} s of processor), {gains[0]:.2f} times one worker (plain server {gains[1]:.2f})", flush=True)
+        print(f"{name}, {workers} workers: rate {a[0] / b[0]:.2f}, processor {b[1] / a[1]:.2f} ({b[0]:.3f} s, {b[1]:.2f} s of processor), {gains[0]:.2f} times one worker (plain server {gains[1]:.2f}), steal {stolen[workers]:.1f} %", flush=True)
 
 def latency(server, until, workers, load):
     port = free_port()
@@ -84,12 +104,12 @@ for name, until, load in [
     ("a record every 5 ms beside an endless stream for each worker", lambda workers: workers + 1, lambda workers: ["beside", str(workers), "400"]),
 ]:
     for workers in 1, 2, 4:
-        runs = {plain: [], ours: []}
+        runs, since = {plain: [], ours: []}, processor_time()
         for _ in range(3):
             for server, told in runs.items():
                 told.append(latency(server, until(workers), workers, load(workers)))
         a, b = ([statistics.median(each) for each in zip(*told)] for told in runs.values())
-        print(f"{name}, {workers} workers: median {b[0]} us, 99 % {b[1]} us (plain server {a[0]} us, {a[1]} us)", flush=True)
+        print(f"{name}, {workers} workers: median {b[0]} us, 99 % {b[1]} us (plain server {a[0]} us, {a[1]} us), steal {steal(since):.1f} %", flush=True)
 for workers in 1, 4:
     for name, until, load, groups in [
         ("4,096 at once", 4096, ["silent", "4095", "1000"], ["4095x0", "1x1000"]),
