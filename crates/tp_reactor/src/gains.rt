@@ -12,11 +12,14 @@ const LONGEST: u64 = 4 * SPAN;
 /// What part of the turns without it one more has to add at least.
 const WORTH: u64 = 16;
 
+/// For how many spans none is tried at first, so that a short burst of work is not disturbed by it.
+const FIRST_PAUSE: u64 = 8;
+
 /// For how many spans none is tried after one that was no gain. Each one behind another doubles it.
-const LEAST_PAUSE: u64 = 8;
+const LEAST_PAUSE: u64 = 32;
 
 /// For how many spans none is tried at most.
-const MOST_PAUSE: u64 = 64;
+const MOST_PAUSE: u64 = 256;
 
 /// What the workers gain by one more that leads. The moments are those at which upcalls start; where they stand still, as those of a net without a
 /// clock may, one more is taken to be a gain.
@@ -52,7 +55,7 @@ impl Gains {
             pace: AtomicU64::new(0),
             tried: AtomicBool::new(false),
             surplus: AtomicBool::new(false),
-            pause: AtomicU64::new(0),
+            pause: AtomicU64::new(FIRST_PAUSE),
             patience: AtomicU64::new(LEAST_PAUSE),
         }
     }
