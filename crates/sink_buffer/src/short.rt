@@ -4,16 +4,16 @@ ghost use Rattle.std.specs.Prelude.{◌≡◌, ◌≤◌, ◌<◌, ◌++◌, ℕ
 use crate::TextOut;
 
 /// How many bytes a short text has at most.
-const MOST: usize = 128;
+const MOST: usize = 512;
 
-/// A text of at most 128 bytes, in a fixed place: so a short line is written by one call. It takes no memory. Where more is put it is
+/// A text of at most 512 bytes, in a fixed place: so a short line is written by one call. It takes no memory. Where more is put it is
 /// overfull, and has no text.
 #[derive(Drop)]
 pub struct ShortText {
     bytes: [u8; MOST],
     length: usize,
     overfull: bool,
-    ghost within: { length ≤ 128 },
+    ghost within: { length ≤ 512 },
 }
 
 impl ShortText {
@@ -32,7 +32,7 @@ impl ShortText {
 
     /// All that was put, or None where that was too long.
     pub fn text(&self) -> Option<&[u8]>
-        ensures { (first put : List ℕ) → HoldsText first self.now put → MatchOption result (128 < length (first ++ put)) (λ text. text.now ≡ first ++ put) }
+        ensures { (first put : List ℕ) → HoldsText first self.now put → MatchOption result (512 < length (first ++ put)) (λ text. text.now ≡ first ++ put) }
     {
         if self.overfull {
             None
