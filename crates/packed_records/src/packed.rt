@@ -2,7 +2,7 @@
 ghost use Rattle.std.specs.Prelude.{◌≡◌, ◌==◌, [], IfOk, OnOk, OnErr, length};
 ghost use Rattle.std.specs.Iterator.{YieldsFirstBy, item_count};
 ghost use Rattle.cdr_record.specs.Borrowed.{owned};
-ghost use Rattle.packed_records.specs.Packing.{head_of};
+ghost use Rattle.packed_records.specs.Packing.{head_of, total, unpacked, whole};
 
 use cdr_record::{LogRecord, RecordList, RecordRef};
 use std::alloc::{AllocError, Global};
@@ -10,16 +10,31 @@ use std::marker::Model;
 
 /// What a record has beside its message, and how many bytes that has.
 #[derive(Clone, Copy, Debug)]
-struct Head {
+pub(crate) struct Head {
     kind: i32,
     pid: i32,
     sec: i64,
     usec: i32,
-    length: usize,
+    pub(crate) length: usize,
+}
+
+impl Head {
+    /// The record of this head, with this message.
+    pub(crate) fn with(self, text: &[u8]) -> RecordRef<'_>
+        ensures { owned result ≡ whole self text.now }
+    {
+        RecordRef {
+            kind: self.kind,
+            pid: self.pid,
+            sec: self.sec,
+            usec: self.usec,
+            text,
+        }
+    }
 }
 
 /// What a record has beside its message.
-fn head_of(entry: RecordRef<'_>) -> Head
+pub(crate) fn head_of(entry: RecordRef<'_>) -> Head
     ensures { result ≡ head_of entry.entry }
 {
     Head {
@@ -109,10 +124,7 @@ impl PackedRecords {
     pub fn iter(&self) -> Unpacked<'_>
         ensures { result ≡ self.now }
     {
-        Unpacked {
-            heads: self.heads.as_slice(),
-            messages: self.messages.as_slice(),
-        }
+        Unpacked::over(self.heads.as_slice(), self.messages.as_slice())
     }
 }
 
@@ -156,6 +168,14 @@ impl<'a> Unpacked<'a> {
             messages: &[],
         }
     }
+
+    /// The records of these heads, whose messages are these.
+    pub(crate) fn over(heads: &'a [Head], messages: &'a [u8]) -> Unpacked<'a>
+        requires { total heads.now ≡ length messages.now }
+        ensures { result ≡ unpacked heads.now messages.now }
+    {
+        Unpacked { heads, messages }
+    }
 }
 
 impl<'a> Iterator for Unpacked<'a> {
@@ -170,12 +190,6 @@ impl<'a> Iterator for Unpacked<'a> {
         let (text, messages) = self.messages.split_at(head.length);
         self.heads = heads;
         self.messages = messages;
-        Some(RecordRef {
-            kind: head.kind,
-            pid: head.pid,
-            sec: head.sec,
-            usec: head.usec,
-            text,
-        })
+        Some(head.with(text))
     }
 }
