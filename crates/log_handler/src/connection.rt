@@ -1,5 +1,5 @@
 //! The event handler of one connection.
-ghost use Rattle.std.specs.Prelude.{◌≡◌, ◌≢◌, ◌<◌, ◌≤◌, ◌↔◌, ℕ, List, [], true, false, Some, None, IsSome, Option, length, IfOk};
+ghost use Rattle.std.specs.Prelude.{◌≡◌, ◌≢◌, ◌<◌, ◌≤◌, ◌↔◌, ℕ, List, [], true, false, Some, None, IsSome, Option, length};
 ghost use Rattle.ev_types.specs.declared.upcall.Answer.TheVariants.{Keep, Again, Close};
 ghost use Rattle.ev_types.specs.declared.upcall.Upcall.TheVariants.{Input, Timeout};
 ghost use Rattle.ev_types.specs.declared.upcall.Why.TheVariants.{Own};
@@ -22,9 +22,9 @@ use cdr_record::laws::tells_stop;
 use ev_base::{Got, Net, PeerEnd};
 use ev_types::{Answer, Handle, Mask, NetFailed, Upcall, Why};
 use log_lines::EndKind;
-use packed_records::PackedRecords;
+use packed_records::GatheredRecords;
 use reactor_model::{EventHandler, Turn};
-use std::alloc::{AllocError, Global};
+use std::alloc::Global;
 
 /// How many bytes a read takes at most.
 const PIECE: usize = 4096;
@@ -99,9 +99,7 @@ impl<E: PeerEnd> LogConnection<E> {
     {
         self.last = now;
         let took = piece.len() as u64;
-        let Ok(mut records) = room_for(self.alloc, piece.len()) else {
-            return self.lose(took);
-        };
+        let mut records = room_for(self.alloc, piece.len());
         match self.decoder.feed_to(piece, &mut records) {
             Ok(bad) => {
                 tells_stop();
@@ -193,11 +191,11 @@ impl<E: PeerEnd> LogConnection<E> {
     }
 }
 
-/// No records, with room for those of a piece of so many bytes, where they are of usual size.
-fn room_for(alloc: Global, bytes: usize) -> Result<PackedRecords, AllocError>
-    ensures { IfOk result (λ records. records ≡ []) }
+/// No records, to be given room for those of a piece of so many bytes, where they are of usual size.
+fn room_for(alloc: Global, bytes: usize) -> GatheredRecords
+    ensures { result ≡ [] }
 {
-    PackedRecords::with_capacity(alloc, bytes / USUAL_RECORD + 1, bytes)
+    GatheredRecords::new(alloc, bytes / USUAL_RECORD + 1, bytes)
 }
 
 /// How a connection is closed for the reason, which ended itself in this way or did not.

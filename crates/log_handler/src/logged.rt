@@ -1,12 +1,12 @@
 //! The records of a piece, with the text of their lines.
-ghost use Rattle.std.specs.Prelude.{◌≡◌, [], ℕ, IfOk, IfSome, List, length};
+ghost use Rattle.std.specs.Prelude.{◌≡◌, [], ℕ, IfOk, IfSome, MatchOption, List, length};
 ghost use Rattle.log_lines.specs.Texts.{record_lines};
-ghost use Rattle.log_handler.specs.Logged.{IsTextOf};
+ghost use Rattle.log_handler.specs.Logged.{HasItsText, records_of};
 
 use cdr_record::Records;
 use ev_types::NoMemory;
 use log_lines::put_record_lines;
-use packed_records::{PackedRecords, Unpacked};
+use packed_records::{Gathered, GatheredRecords, PackedRecords, ShortRecord, Unpacked};
 use sink_buffer::TextOut;
 use std::alloc::Global;
 use std::marker::Model;
@@ -14,16 +14,22 @@ use std::marker::Model;
 /// How many bytes a line is taken to have beside its message: so many, and more than usual numbers need.
 const BESIDE_MESSAGE: usize = 64;
 
-/// Records, and the text of their lines for a connection's number, where that was made.
+/// What is kept of a piece's records.
 #[derive(Debug, Drop)]
-struct Content {
-    records: PackedRecords,
-    conn: Option<u64>,
-    text: Vec<u8>,
+enum Content {
+    /// One record alone, whose message is short. The text of its line is made where it is written.
+    One(ShortRecord),
+    /// Any records, and the text of their lines for a connection's number, where that was made.
+    Many {
+        records: PackedRecords,
+        number: Option<u64>,
+        text: Vec<u8>,
+    },
 }
 
 /// The records of a piece, in order, and where it was made the text of their lines, so that a watch writes it as it is. A contract
-/// sees the list of the records. However many they are, they take four allocations, and no records take none.
+/// sees the list of the records. However many they are, they take at most four allocations. One alone whose message has at most 104
+/// bytes takes one, and no records take none.
 #[derive(Debug, Drop)]
 pub struct LoggedRecords {
     content: Option<Box<Content>>,
@@ -32,14 +38,14 @@ pub struct LoggedRecords {
 impl Model for LoggedRecords {
     ghost use Rattle.std.specs.Prelude.{List, IfSome};
     ghost use Rattle.cdr_record.specs.declared.record.LogRecord.{LogRecord};
-    ghost use Rattle.log_handler.specs.Logged.{records_in, IsTextOf};
+    ghost use Rattle.log_handler.specs.Logged.{records_in, HasItsText};
 
     ghost Value = { List LogRecord };
 
     ghost view = { λ r. records_in r.content };
 
     // A text that is there is that of the lines of these records, for the connection's number that stands beside it.
-    ghost invariant = { λ r. IfSome r.content (λ c. IsTextOf c.value.conn c.value.text.items c.value.records) };
+    ghost invariant = { λ r. IfSome r.content (λ c. HasItsText c.value) };
 }
 
 impl LoggedRecords {
@@ -57,40 +63,44 @@ impl LoggedRecords {
         if records.as_slice().is_empty() {
             return Ok(LoggedRecords::none());
         }
-        let packed = PackedRecords::of(alloc, records.as_slice())?;
-        LoggedRecords::carrying(alloc, packed, None, Vec::new(alloc))
+        let records = PackedRecords::of(alloc, records.as_slice())?;
+        let content = Content::Many {
+            records,
+            number: None,
+            text: Vec::new(alloc),
+        };
+        LoggedRecords::keeping(alloc, content)
     }
 
-    /// These records, with the text of their lines for this connection's number. On `NoMemory` they are dropped.
+    /// These records, with the text of their lines for this connection's number where they are packed. On `NoMemory` they are
+    /// dropped.
     pub fn with_lines(
         alloc: Global,
         conn: u64,
-        records: PackedRecords,
+        records: GatheredRecords,
     ) -> Result<LoggedRecords, NoMemory>
         ensures { IfOk result (λ logged. logged ≡ records) }
     {
-        if records.is_empty() {
-            return Ok(LoggedRecords::none());
+        match records.into_gathered() {
+            Gathered::None => Ok(LoggedRecords::none()),
+            Gathered::One(first) => LoggedRecords::keeping(alloc, Content::One(first)),
+            Gathered::Many(records) => {
+                let text = text_of_lines(alloc, conn, &records)?;
+                let content = Content::Many {
+                    records,
+                    number: Some(conn),
+                    text,
+                };
+                LoggedRecords::keeping(alloc, content)
+            }
         }
-        let text = text_of_lines(alloc, conn, &records)?;
-        LoggedRecords::carrying(alloc, records, Some(conn), text)
     }
 
-    /// These records, with this text for this connection's number.
-    fn carrying(
-        alloc: Global,
-        records: PackedRecords,
-        conn: Option<u64>,
-        text: Vec<u8>,
-    ) -> Result<LoggedRecords, NoMemory>
-        requires { IsTextOf conn text.items records }
-        ensures { IfOk result (λ logged. logged ≡ records) }
+    /// The records of this content, which is put into a box.
+    fn keeping(alloc: Global, content: Content) -> Result<LoggedRecords, NoMemory>
+        requires { HasItsText content }
+        ensures { IfOk result (λ logged. logged ≡ records_of content) }
     {
-        let content = Content {
-            records,
-            conn,
-            text,
-        };
         match Box::new(alloc, content) {
             Ok(content) => Ok(LoggedRecords {
                 content: Some(content),
@@ -99,12 +109,20 @@ impl LoggedRecords {
         }
     }
 
+    /// What is kept, where there is a record.
+    fn content(&self) -> Option<&Content>
+        ensures { MatchOption result (self.now ≡ []) (λ content. (self.now ≡ records_of content.now) × HasItsText content.now) }
+    {
+        self.content.as_deref()
+    }
+
     /// How many records there are.
     pub fn len(&self) -> usize
         ensures { result ≡ length self.now }
     {
-        match &self.content {
-            Some(content) => content.records.len(),
+        match self.content() {
+            Some(Content::Many { records, .. }) => records.len(),
+            Some(Content::One(_)) => 1,
             None => 0,
         }
     }
@@ -113,8 +131,9 @@ impl LoggedRecords {
     pub fn iter(&self) -> Unpacked<'_>
         ensures { result ≡ self.now }
     {
-        match &self.content {
-            Some(content) => content.records.iter(),
+        match self.content() {
+            Some(Content::Many { records, .. }) => records.iter(),
+            Some(Content::One(first)) => first.iter(),
             None => Unpacked::none(),
         }
     }
@@ -123,8 +142,10 @@ impl LoggedRecords {
     pub fn lines_for(&self, conn: u64) -> Option<&[u8]>
         ensures { IfSome result (λ text. text.now ≡ record_lines conn self.now) }
     {
-        match &self.content {
-            Some(content) if content.conn == Some(conn) => Some(content.text.as_slice()),
+        match self.content() {
+            Some(Content::Many { number, text, .. }) if *number == Some(conn) => Some(
+                text.as_slice(),
+            ),
             _ => None,
         }
     }
