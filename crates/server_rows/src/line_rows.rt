@@ -2,12 +2,12 @@
 ghost use Rattle.ev_base.specs.MemSink.{mem_sink_facts};
 
 use crate::running::{RECORD, room_for, run_line};
-use cdr_record::{Bytes, LogRecord, Records};
+use cdr_record::{Bytes, LogRecord, RecordList, Records};
 use ev_base::{MemSink, Sink, SteadySource, Wrote};
 use ev_types::{Answer, Handle, Mask};
 use journal_text::JournalSink;
 use log_handler::{EndKind, LineSink, LoggedRecords, ServerNote};
-use packed_records::PackedRecords;
+use packed_records::GatheredRecords;
 use reactor_model::{DropVolumes, Entry, Watch};
 use std::alloc::Global;
 use std::sync::Wait;
@@ -39,30 +39,40 @@ fn counting_sink(alloc: Global) -> Result<CountingSink, Fail> {
     Ok(CountingSink { below, writes: 0 })
 }
 
+/// A record with this message.
+fn record_with(text: Vec<u8>) -> LogRecord {
+    LogRecord {
+        kind: 4,
+        pid: 7,
+        sec: 1,
+        usec: 2,
+        text: Bytes::new(text),
+    }
+}
+
 /// So many equal records.
 fn records_of(alloc: Global, count: u64) -> Result<Records, Fail> {
     let mut records = Vec::new(alloc);
     for _ in 0..count {
-        let text = Bytes::new(Vec::from_slice(alloc, b"hi")?);
-        records.push(LogRecord {
-            kind: 4,
-            pid: 7,
-            sec: 1,
-            usec: 2,
-            text,
-        })?;
+        records.push(record_with(Vec::from_slice(alloc, b"hi")?))?;
     }
     Ok(Records::new(records))
 }
 
-/// So many records, and with them the text of their lines for a connection's number, where one is given.
+/// These records as a connection with this number logs them: with the text of their lines, but where it is one alone that is short.
+fn logged_for(alloc: Global, conn: u64, records: &Records) -> Result<LoggedRecords, Fail> {
+    let mut gathered = GatheredRecords::new(alloc, 0, 0);
+    for entry in records.as_slice() {
+        gathered.append(entry.borrowed())?;
+    }
+    Ok(LoggedRecords::with_lines(alloc, conn, gathered)?)
+}
+
+/// So many records, as the connection with this number logs them where one is given, and else without a text.
 fn logged(alloc: Global, count: u64, conn: Option<u64>) -> Result<LoggedRecords, Fail> {
     let records = records_of(alloc, count)?;
     Ok(match conn {
-        Some(conn) => {
-            let packed = PackedRecords::of(alloc, records.as_slice())?;
-            LoggedRecords::with_lines(alloc, conn, packed)?
-        }
+        Some(conn) => logged_for(alloc, conn, &records)?,
         None => LoggedRecords::new(alloc, records)?,
     })
 }
@@ -111,7 +121,7 @@ fn closed(end: EndKind) -> Entry<ServerNote> {
 enum Noted {
     Accepted,
     Opened,
-    /// A turn with so many records, and with the text of their lines for a connection's number, where one is given.
+    /// A turn with so many records, as the connection with this number logs them where one is given, and else without a text.
     Piece(u64, Option<u64>),
     Closed(EndKind),
 }
@@ -168,6 +178,45 @@ const NOTED: &[(Noted, u64, &[u8])] = &[
 fn a_note_is_written_at_once(rt: HostRuntime) -> Result<(), Fail> {
     for (at, row) in NOTED.iter().enumerate() {
         assert!(rt; gives_lines(rt.alloc(), *row)?, "row {at}");
+    }
+    Ok(())
+}
+
+/// A record alone, whose message is so often this byte.
+fn alone(alloc: Global, byte: u8, count: usize) -> Result<LoggedRecords, Fail> {
+    let mut text = Vec::new(alloc);
+    for _ in 0..count {
+        text.push(byte)?;
+    }
+    let mut records = Vec::new(alloc);
+    records.push(record_with(text))?;
+    logged_for(alloc, 3, &Records::new(records))
+}
+
+/// In how many writes the line of a record alone is written, and how many bytes it has.
+fn line_alone(alloc: Global, byte: u8, count: usize) -> Result<(u64, usize), Fail> {
+    let entry = piece(alone(alloc, byte, count)?);
+    let mut watch = LineSink::new(counting_sink(alloc)?);
+    watch.saw(&entry);
+    let output = watch.into_output();
+    Ok((output.writes, output.below.bytes().len()))
+}
+
+/// Records alone whose messages are so often a byte, and how many bytes the line has for each. The longest that is kept in place has 104.
+const ALONE: &[(u8, usize, usize)] = &[
+    (b'm', 0, 1),
+    (b'm', 104, 1),
+    (b'm', 105, 1),
+    (1, 104, 4),
+    (1, 105, 4),
+];
+
+#[test]
+fn a_record_alone_is_written_at_once(rt: HostRuntime) -> Result<(), Fail> {
+    let beside = LINE.len() - 2;
+    for (byte, count, width) in ALONE {
+        let line = line_alone(rt.alloc(), *byte, *count)?;
+        assert_eq!(rt; line, (1, beside + count * width));
     }
     Ok(())
 }
