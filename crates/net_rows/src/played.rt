@@ -110,20 +110,24 @@ fn says_hi(rt: &impl Abort, end: &mut ScriptEnd) {
     assert_eq!(rt; end.held(), b"fou".as_slice());
 }
 
+/// Whether a host listens, and the first connection says hi.
+fn serves_one(rt: &impl Abort, alloc: Global, host: &mut ScriptHost) -> bool {
+    let Ok((_, mut listener, _)) = host.listen(alloc, 7000) else {
+        return false;
+    };
+    let Taken::One(mut end) = listener.accept() else {
+        return false;
+    };
+    says_hi(rt, &mut end);
+    true
+}
+
 #[test]
 fn a_host_gives_its_script_once(rt: HostRuntime) -> Result<(), Fail> {
     let script = parse_script(rt.alloc(), b"open 0\ndata 0 6869\nshut 0", 3)?;
     let mut host = ScriptHost::new(Some(script), false);
-    let Ok((_, mut listener, _)) = host.listen(rt.alloc(), 7000) else {
-        return Err(Fail::from("memory"));
-    };
+    assert!(rt; serves_one(&rt, rt.alloc(), &mut host));
     let again = host.listen(rt.alloc(), 7000);
     assert!(rt; matches!(&again, Err(ListenRefused::Failed)));
-    let mut taken = false;
-    if let Taken::One(mut end) = listener.accept() {
-        says_hi(&rt, &mut end);
-        taken = true;
-    }
-    assert!(rt; taken);
     Ok(())
 }

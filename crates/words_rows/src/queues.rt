@@ -30,14 +30,19 @@ fn leave_in_order<Q: TimerQueue + Send>(rt: &impl Abort, queue: &mut Q) -> Resul
     assert!(rt; queue.cancel(4));
     assert!(rt; !queue.cancel(4));
     queue.cancel_all(Handle(9));
-    assert_eq!(rt; queue.pop_due(499), Some(timer(30, 1, 8)));
-    assert_eq!(rt; queue.pop_due(499), None);
+    gives(rt, queue, 499, Some(timer(30, 1, 8)));
+    gives(rt, queue, 499, None);
     assert_eq!(rt; queue.earliest(), Some(500));
-    assert_eq!(rt; queue.pop_due(500), Some(timer(500, 0, 7)));
-    assert_eq!(rt; queue.pop_due(500), Some(timer(500, 2, 7)));
-    assert_eq!(rt; queue.pop_due(500), None);
+    gives(rt, queue, 500, Some(timer(500, 0, 7)));
+    gives(rt, queue, 500, Some(timer(500, 2, 7)));
+    gives(rt, queue, 500, None);
     assert_eq!(rt; queue.earliest(), None);
     Ok(())
+}
+
+/// What a queue gives at this moment.
+fn gives<Q: TimerQueue + Send>(rt: &impl Abort, queue: &mut Q, now: u64, due: Option<Timer>) {
+    assert_eq!(rt; queue.pop_due(now), due);
 }
 
 fn timer(deadline: u64, timer: u64, handle: u64) -> Timer
