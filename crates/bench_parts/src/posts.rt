@@ -4,7 +4,6 @@ ghost use Rattle.notify_ring.specs.Words.{id_of, poster_ring, drainer_ring};
 
 use ev_types::{Handle, Kind};
 use notify_ring::{Drainer, Poster, Ring};
-use ring_rows::post_many;
 use std::alloc::Global;
 use std::thread::{Threads, join, yield_now};
 
@@ -50,6 +49,22 @@ fn post_and_take(alloc: Global, turns: u64) -> u64
     taken
 }
 
+// So many postings are made, each time again where the ring is full.
+fn post_many(ring: &Ring, mut poster: Poster, count: u64) -> Poster
+    requires { poster_ring poster ≡ id_of ring.now }
+    ensures { poster_ring result ≡ id_of ring.now }
+{
+    for _ in 0..u64::MAX {
+        if poster.made() >= count {
+            break;
+        }
+        if ring.post(&mut poster, Handle(0), Kind::Read).is_err() {
+            yield_now();
+        }
+    }
+    poster
+}
+
 // One thread posts and another takes.
 fn one_to_one<R: Threads + Sync>(rt: &R, alloc: Global, count: u64) -> u64
     requires { count ≤ 2 ^ 56 }
@@ -62,7 +77,7 @@ fn one_to_one<R: Threads + Sync>(rt: &R, alloc: Global, count: u64) -> u64
         rt,
         move || -> Poster
             requires { (poster_ring poster ≡ id_of shared.now) × (count ≤ 2 ^ 56) }
-        { post_many(shared, poster, 0, count, u64::MAX) },
+        { post_many(shared, poster, count) },
         move || -> u64
             requires { drainer_ring drainer ≡ id_of shared.now }
         { take(shared, drainer, count) },
@@ -111,10 +126,10 @@ fn post_both<R: Threads + Sync>(rt: &R, ring: &Ring, a: Poster, b: Poster, count
         rt,
         move || -> Poster
             requires { (poster_ring a ≡ id_of ring.now) × (count ≤ 2 ^ 56) }
-        { post_many(ring, a, 0, count, u64::MAX) },
+        { post_many(ring, a, count) },
         move || -> Poster
             requires { (poster_ring b ≡ id_of ring.now) × (count ≤ 2 ^ 56) }
-        { post_many(ring, b, 0, count, u64::MAX) },
+        { post_many(ring, b, count) },
     );
 }
 

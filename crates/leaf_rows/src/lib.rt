@@ -1,5 +1,6 @@
-//! Rows of the crates that no reactor is needed for: the record, the journal and its checker, what a reactor keeps, the handler
-//! repository, keepers of volumes, sources, sinks, ends and nets, and the acceptor. They show what no contract says.
+//! Rows of the crates that no reactor is needed for: the record, the journal with its checker, its text and its reader, what a reactor
+//! keeps, the handler repository, the timer queues, the token and the ring, keepers of volumes, sources, sinks, ends and nets, scripts and
+//! their generator, sockets, streams, and the acceptor. They show what no contract says.
 #![tactic(auto)]
 
 #[cfg(test)]
@@ -7,7 +8,13 @@ mod accepting;
 #[cfg(test)]
 mod check;
 #[cfg(test)]
+mod generator;
+#[cfg(test)]
 mod journal;
+#[cfg(test)]
+mod journals;
+#[cfg(test)]
+mod nets;
 #[cfg(test)]
 mod numbers;
 #[cfg(test)]
@@ -19,12 +26,26 @@ mod record;
 #[cfg(test)]
 mod repository;
 #[cfg(test)]
+mod ring;
+pub mod ring_desk;
+#[cfg(test)]
+mod scripts;
+#[cfg(test)]
+mod sockets;
+#[cfg(test)]
 mod sources;
 #[cfg(test)]
 mod state;
 #[cfg(test)]
+mod streams;
+#[cfg(test)]
 mod summary;
+pub mod timers;
+#[cfg(test)]
+mod token;
 #[cfg(test)]
 mod turns;
 #[cfg(test)]
 mod volumes;
+#[cfg(test)]
+mod words;

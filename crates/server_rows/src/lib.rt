@@ -1,4 +1,5 @@
-//! Worked examples of the logging server's commands: what is written, in how many writes, the journal, and the status.
+//! Worked examples of the logging server's commands: what is written, in how many writes, the journal, and the status; and the program's top
+//! call over sockets.
 #![tactic(auto)]
 
 #[cfg(test)]
@@ -15,5 +16,7 @@ mod one_rows;
 mod played_rows;
 #[cfg(test)]
 mod running;
+#[cfg(test)]
+mod sockets;
 #[cfg(test)]
 mod text_rows;

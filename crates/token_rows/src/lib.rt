@@ -4,8 +4,6 @@
 
 mod desk;
 mod log;
-#[cfg(test)]
-mod tests;
 
 pub use desk::{Desk, Note, begin, settle};
 pub use log::{Entry, Log, add, add_many, two_writers};

@@ -1,0 +1,6 @@
+//! Four posting threads and one draining thread on one ring of notifications.
+
+mod rows;
+mod tests;
+
+use rows::four_posters;

@@ -1,0 +1,46 @@
+//! Long scripts.
+use crate::many_records::{script, wanted};
+use crate::replay::running::replay_line;
+use ev_base::{MemSink, SteadySource};
+use journal_audit::{AuditEnd, audit};
+use script_generator::gen_script;
+use script_replay::ReplayEnd;
+use std::test::Fail;
+
+#[test]
+fn many_connections_are_grouped(rt: HostRuntime) -> Result<(), Fail> {
+    let alloc = rt.alloc();
+    let wanted = wanted(alloc)?;
+    for line in [
+        "replay --grouped",
+        "replay --grouped --workers 2",
+        "replay --grouped --workers 8",
+        "replay --grouped --workers 64",
+    ] {
+        let played = replay_line(&rt, alloc, line, script(alloc)?.into_bytes(), 200_000)?;
+        assert_eq!(rt; played.end, ReplayEnd::Done, "{line}");
+        assert!(rt; played.output.bytes() == wanted.as_bytes(), "{line}");
+    }
+    Ok(())
+}
+
+/// The journal of a run of 80 connections with 125 records each, by one worker and by four, is legal as `logd audit` reads it.
+#[test]
+fn a_long_journal_is_audited(rt: HostRuntime) -> Result<(), Fail> {
+    let alloc = rt.alloc();
+    for line in ["replay --journal", "replay --journal --workers 4"] {
+        let text = gen_script(alloc, 80, 7)?.into_vec();
+        let played = replay_line(&rt, alloc, line, text, 1 << 23)?;
+        assert_eq!(rt; played.end, ReplayEnd::Done, "{line}");
+        let journal = SteadySource::new(Vec::from_slice(alloc, played.output.bytes())?);
+        let output = MemSink::new(alloc, 64, None).map_err(|_| Fail::from("no room"))?;
+        let audited = audit(alloc, journal, output, 1 << 24);
+        assert_eq!(rt; audited.end, AuditEnd::Legal, "{line}");
+        assert!(rt; audited.output.bytes().starts_with(b"legal 1"), "{line}");
+        assert!(rt;
+            audited.output.bytes().len() >= b"legal 100000\n".len(),
+            "{line}"
+        );
+    }
+    Ok(())
+}

@@ -1,8 +1,0 @@
-//! Rows of the words of the commands, and of the timer queue that they choose. They show what no contract says: that each call which
-//! takes memory gives its answer where there is enough.
-#![tactic(auto)]
-
-#[cfg(test)]
-mod commands;
-#[cfg(test)]
-mod queues;
