@@ -1,6 +1,7 @@
 //! What the parts of the framework cost, each beside others of its kind. Without an argument each part runs once, small, and prints
 //! what it did; with the argument `time` it runs large and prints nanoseconds for each timer, entry, message and so on. The names of
-//! parts (`timers`, `check`, `messages`, `sharing`) pick those that run; with none, all do.
+//! parts (`timers`, `check`, `messages`, `sharing`, `script`) pick those that run; with none all do, but where it is timed not `script`,
+//! which reads its script from standard input.
 #![tactic(auto)]
 
 mod beside;
@@ -14,6 +15,7 @@ mod messages;
 mod passing;
 mod posts;
 mod queues;
+mod script;
 mod sharing;
 mod streams;
 mod timers;
@@ -31,6 +33,7 @@ struct Picked {
     check: bool,
     messages: bool,
     sharing: bool,
+    script: bool,
 }
 
 const NONE: Picked = Picked {
@@ -38,6 +41,7 @@ const NONE: Picked = Picked {
     check: false,
     messages: false,
     sharing: false,
+    script: false,
 };
 
 const ALL: Picked = Picked {
@@ -45,6 +49,7 @@ const ALL: Picked = Picked {
     check: true,
     messages: true,
     sharing: true,
+    script: true,
 };
 
 fn main(rt: HostRuntime) -> io::Result<()> {
@@ -56,17 +61,25 @@ fn main(rt: HostRuntime) -> io::Result<()> {
             "check" => picked.check = true,
             "messages" => picked.messages = true,
             "sharing" => picked.sharing = true,
+            "script" => picked.script = true,
             _ => {}
         }
     }
-    let picked = if picked == NONE { ALL } else { picked };
+    if picked == NONE {
+        picked = ALL;
+        picked.script = !timed;
+    }
     if picked.timers {
         timers::run(&rt, timed)?;
     }
     if picked.check {
         check::run(&rt, timed)?;
     }
-    run_threads(&rt, rt.alloc(), timed, picked)
+    run_threads(&rt, rt.alloc(), timed, picked)?;
+    if picked.script {
+        script::run(&rt, timed)?;
+    }
+    Ok(())
 }
 
 /// Runs the parts that start threads.

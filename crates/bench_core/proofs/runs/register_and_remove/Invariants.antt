@@ -1,6 +1,0 @@
-use Rattle.core_loop.specs.Idle.{IsIdle}
-use Rattle.core_rows.specs.RoundRobin.{round_robin_rows}
-use Rattle.bench_core.proofs.runs.register_and_remove.Given as goal
-
-abbrev pub invariant-loop : goal.invariant-loop
-invariant-loop l = IsIdle round_robin_rows l.core

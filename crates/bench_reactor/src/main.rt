@@ -1,0 +1,34 @@
+//! What an event costs in the one-thread reactor, and in a pool of workers.
+//! Without an argument each serves few events and prints what came of them, and then the one-thread reactor the journal of a short run
+//! that makes every call; with `calls` that journal alone is printed. With `time` the one-thread reactor serves about 1,000,000 events and
+//! prints nanoseconds for each; with `long` about 1,000,000 of each kind with 4,000 handles, and with `longer` about 10,000,000, and prints
+//! how many entries there were. With `pool` pools of workers do, and with `pool time` they are timed.
+#![tactic(auto)]
+
+mod one_thread;
+mod pool;
+
+use one_thread::{Asked, report_runs};
+use pool::report_pools;
+use std::{env, io};
+
+fn main(rt: HostRuntime) -> io::Result<()> {
+    let (mut pool, mut asked) = (false, Asked::Few);
+    for word in env::args(&rt)? {
+        match word.as_str() {
+            "pool" => pool = true,
+            "calls" => asked = Asked::Calls,
+            "time" => asked = Asked::Timed,
+            "long" => asked = Asked::Long,
+            "longer" => asked = Asked::Longer,
+            _ => {}
+        }
+    }
+    if !pool {
+        report_runs(&rt, asked)?;
+    }
+    if pool || asked == Asked::Few {
+        report_pools(&rt, asked == Asked::Timed)?;
+    }
+    Ok(())
+}
