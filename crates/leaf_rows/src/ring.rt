@@ -2,5 +2,3 @@
 
 mod rows;
 mod tests;
-
-use rows::four_posters;

@@ -1,57 +1,105 @@
-use super::*;
+//! What comes out of a ring is what was posted, and a full ring refuses.
+ghost use Rattle.std.specs.Prelude.{◌≡◌};
+ghost use Rattle.notify_ring.specs.Words.{id_of, poster_ring, poster_view, drainer_ring};
+ghost use Rattle.leaf_rows.specs.Rows.{HasKinOf};
+
+use crate::ring::rows::{Outcome, four_posters};
 use ev_types::{Handle, Kind};
-use notify_ring::{Full, Ring};
-use std::test::*;
+use notify_ring::{Drainer, Full, Poster, Posting, Ring};
+use std::process::Abort;
+use std::test::Fail;
 
 #[test]
 fn what_comes_is_what_was_posted(rt: HostRuntime) -> Result<(), Fail> {
     let outcome = four_posters(&rt, rt.alloc(), 5_000, 2_000_000).ok_or("no memory")?;
-    assert_eq!(rt; outcome.taken.len() as u64, outcome.made);
+    assert!(rt; is_numbered(&outcome));
     for (from, made) in outcome.each.iter().enumerate() {
-        let from = from as u64;
-        let own = outcome.taken.iter().filter(|x| x.from == from);
-        assert_eq!(rt; own.count() as u64, *made);
-        let mut own = outcome.taken.iter().filter(|x| x.from == from).enumerate();
-        assert!(rt; own.all(|(seq, x)| x.seq == seq as u64));
+        assert!(rt; has_own(&outcome.taken, from as u64, *made));
     }
-    let mut all = outcome.taken.iter().enumerate();
-    assert!(rt; all.all(|(number, x)| x.number == number as u64));
-    let mut all = outcome.taken.iter();
-    assert!(rt; all.all(|x| x.handle.0 >> 60 == x.from && x.handle.0 & 0xFFFF == x.seq));
-    let mut all = outcome.taken.iter();
-    assert!(rt; all.all(|x| (x.kind == Kind::Read) == (x.seq % 2 == 0)));
+    for posting in &outcome.taken {
+        assert!(rt; is_as_posted(posting));
+    }
     Ok(())
+}
+
+/// Whether as many postings were taken as were made, each at the place of its number.
+fn is_numbered(outcome: &Outcome) -> bool {
+    let mut all = outcome.taken.iter().enumerate();
+    outcome.taken.len() as u64 == outcome.made && all.all(|(at, x)| x.number == at as u64)
+}
+
+/// Whether there are so many postings of this poster, in order.
+fn has_own(taken: &[Posting], from: u64, made: u64) -> bool {
+    let mut seq = 0;
+    for posting in taken {
+        if posting.from == from {
+            if posting.seq != seq {
+                return false;
+            }
+            seq = seq.wrapping_add(1);
+        }
+    }
+    seq == made
+}
+
+/// Whether a posting has the handle and the kind that its poster gave it.
+fn is_as_posted(x: &Posting) -> bool {
+    let is_read = x.kind == Kind::Read;
+    x.handle.0 >> 60 == x.from && x.handle.0 & 0xFFFF == x.seq && is_read == (x.seq % 2 == 0)
 }
 
 #[test]
 fn a_ring_holds_256_postings(rt: HostRuntime) -> Result<(), Fail> {
     let (ring, mut root, mut drainer) = Ring::new(rt.alloc())?;
     for number in 0..256 {
-        assert_eq!(rt; root.made(), number);
-        let posted = ring.post(&mut root, Handle(number), Kind::Read);
-        assert!(rt; posted == Ok(number));
+        posts(&rt, &ring, &mut root, number, Ok(number));
     }
-    assert_eq!(rt; root.made(), 256);
-    let refused = ring.post(&mut root, Handle(256), Kind::Read);
-    assert!(rt; refused == Err(Full { held: 256 }));
-    let first = ring.next(&mut drainer);
-    assert!(rt; matches!(&first, Some(x) if x.number == 0));
-    assert_eq!(rt; root.made(), 256);
-    let again = ring.post(&mut root, Handle(256), Kind::Read);
-    assert!(rt; again == Ok(256));
+    posts(&rt, &ring, &mut root, 256, Err(Full { held: 256 }));
+    comes(&rt, &ring, &mut drainer, Some(posting(0)));
+    posts(&rt, &ring, &mut root, 256, Ok(256));
     for number in 1..257 {
-        let next = ring.next(&mut drainer);
-        assert!(rt;
-            matches!(&next, Some(x) if x.number == number && x.handle.0 == number && x.seq == number)
-        );
+        comes(&rt, &ring, &mut drainer, Some(posting(number)));
     }
-    assert!(rt; ring.next(&mut drainer).is_none());
+    comes(&rt, &ring, &mut drainer, None);
     let mut other = ring.split(&mut root);
-    let posted = ring.post(&mut other, Handle(7), Kind::Except);
-    assert!(rt; posted == Ok(257));
+    posts(&rt, &ring, &mut other, 7, Ok(257));
     ring.join(&mut root, other);
-    let last = ring.next(&mut drainer);
-    assert!(rt; matches!(&last, Some(x) if x.from == 1 && x.seq == 0 && x.kind == Kind::Except));
+    let last = Posting {
+        from: 1,
+        seq: 0,
+        handle: Handle(7),
+        ..posting(257)
+    };
+    comes(&rt, &ring, &mut drainer, Some(last));
     assert_eq!(rt; ring.close(root, drainer), 258);
     Ok(())
+}
+
+/// The posting of the root poster that has this number, where no other poster made one before.
+fn posting(number: u64) -> Posting {
+    Posting {
+        number,
+        handle: Handle(number),
+        kind: Kind::Read,
+        from: 0,
+        seq: number,
+    }
+}
+
+/// What a post for this handle answers.
+fn posts(rt: &impl Abort, ring: &Ring, poster: &mut Poster, handle: u64, wanted: Result<u64, Full>)
+    requires ring { poster_ring poster.old ≡ id_of ring.now }
+    ensures ring { poster_ring poster.new ≡ poster_ring poster.old }
+    ensures kin { HasKinOf (poster_view poster.old) (poster_view poster.new) }
+{
+    assert!(rt; poster.made() < 1_000);
+    assert_eq!(rt; ring.post(poster, Handle(handle), Kind::Read), wanted);
+}
+
+/// What the next look gives.
+fn comes(rt: &impl Abort, ring: &Ring, drainer: &mut Drainer, wanted: Option<Posting>)
+    requires ring { drainer_ring drainer.old ≡ id_of ring.now }
+    ensures ring { drainer_ring drainer.new ≡ drainer_ring drainer.old }
+{
+    assert_eq!(rt; ring.next(drainer), wanted);
 }

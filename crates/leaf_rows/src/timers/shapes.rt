@@ -1,5 +1,7 @@
 ghost use Rattle.std.specs.Prelude.{◌≡◌, []};
 
+use chosen_timers::ChosenTimers;
+use command_words::Timers;
 use ev_types::{Handle, NoMemory};
 use std::alloc::Global;
 use std::test::Fail;
@@ -40,8 +42,8 @@ fn leave_in_order<Q: TimerQueue>(queue: &mut Q) -> bool {
     is_right & (queue.earliest() == None)
 }
 
-// Whether three timers leave a queue in order.
-fn is_in_order<Q: TimerQueue + Drop>(queue: Q) -> Result<bool, NoMemory>
+// Whether three timers leave a queue in order. It may move to another thread.
+fn is_in_order<Q: TimerQueue + Send + Drop>(queue: Q) -> Result<bool, NoMemory>
     requires { Q.timers queue ≡ [] }
 {
     let mut queue = queue;
@@ -59,6 +61,9 @@ fn timers_of_one_deadline_leave_by_number(rt: HostRuntime) -> Result<(), Fail> {
         "four spokes"
     );
     assert!(rt; is_in_order(WheelTimers::<1>::new(alloc, 1)?)?, "one spoke");
+    for kind in [Timers::List, Timers::Heap, Timers::Wheel] {
+        assert!(rt; is_in_order(ChosenTimers::new(alloc, kind)?)?, "chosen");
+    }
     Ok(())
 }
 

@@ -1,5 +1,6 @@
 use super::*;
 use std::alloc::{AllocError, Global};
+use std::process::Abort;
 use std::test::Fail;
 use timer_heap::HeapTimers;
 use timer_queue::SortedTimers;
@@ -119,16 +120,19 @@ fn differs<Q: TimerQueue + Drop>(alloc: Global, queue: Q) -> Result<Option<u32>,
     differing_turn(&mut plain, &mut queue)
 }
 
+// A queue of this name is answered as plain timers are.
+fn agrees(rt: &impl Abort, name: &str, differs: Result<Option<u32>, Fail>) -> Result<(), Fail> {
+    assert_eq!(rt; differs?, None, "{name}");
+    Ok(())
+}
+
 #[test]
 fn queues_answer_as_plain_timers(rt: HostRuntime) -> Result<(), Fail> {
     let alloc = rt.alloc();
-    let list = differs(alloc, SortedTimers::new(alloc))?;
-    assert_eq!(rt; list, None, "the list");
-    let heap = differs(alloc, HeapTimers::new(alloc))?;
-    assert_eq!(rt; heap, None, "the heap");
-    let wheel = differs(alloc, WheelTimers::<8>::new(alloc, 5)?)?;
-    assert_eq!(rt; wheel, None, "the wheel of eight spokes");
-    let narrow = differs(alloc, WheelTimers::<1>::new(alloc, 1)?)?;
-    assert_eq!(rt; narrow, None, "the wheel of one spoke");
-    Ok(())
+    agrees(&rt, "list", differs(alloc, SortedTimers::new(alloc)))?;
+    agrees(&rt, "heap", differs(alloc, HeapTimers::new(alloc)))?;
+    let eight = WheelTimers::<8>::new(alloc, 5)?;
+    agrees(&rt, "wheel of eight spokes", differs(alloc, eight))?;
+    let one = WheelTimers::<1>::new(alloc, 1)?;
+    agrees(&rt, "wheel of one spoke", differs(alloc, one))
 }
