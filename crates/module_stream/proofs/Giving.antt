@@ -4,10 +4,10 @@ use Rattle.std.proofs.lemmas.List.{map-append}
 use Rattle.std.proofs.lemmas.Grind.{flat_map-append}
 use Rattle.crossbeam_queue.specs.Passes.{view}
 use Rattle.message_block.specs.Messages.{MessageState}
-use Rattle.module_stream.specs.declared.line.Item.TheVariants.{One}
+use Rattle.message_lines.specs.declared.line.Item.TheVariants.{One}
 use Rattle.module_stream.specs.declared.work.Worker.{Worker}
-use Rattle.module_stream.specs.Lines.{log}
-use Rattle.module_stream.specs.Boxes.{ones, each_of, singly}
+use Rattle.message_lines.specs.Lines.{log}
+use Rattle.message_lines.specs.Boxes.{ones, each_of, singly}
 use Rattle.module_stream.specs.Progress.{Gives, Progress}
 use Rattle.module_stream.specs.Works.{HasGiven, Gave, IsSameRest}
 

@@ -1,8 +1,6 @@
 pub mod Rows
 pub mod Alone
-pub mod Moves
 pub mod Steps
-pub mod Boxes
 pub mod Formats
 pub mod Giving
 pub mod Passes

@@ -1,9 +1,9 @@
 -- A thread that has ended: what it took is all that was put, and what came back is all that it sent.
 use Rattle.std.proofs.Common.{◌≡◌, Bool, true, false, true≢false, List, [], ◌∷◌, ◌++◌, get_or, drop, refl, sym, ap, ◌∙◌, subst}
 use Rattle.message_block.specs.Messages.{MessageState}
-use Rattle.module_stream.specs.declared.line.Item.{Item}
-use Rattle.module_stream.specs.declared.line.Item.TheVariants.{One, Many, Stop}
-use Rattle.module_stream.specs.Boxes.{ones, stop_if}
+use Rattle.message_lines.specs.declared.line.Item.{Item}
+use Rattle.message_lines.specs.declared.line.Item.TheVariants.{One, Many, Stop}
+use Rattle.message_lines.specs.Boxes.{ones, stop_if}
 use Rattle.module_stream.specs.Progress.{Gives, Progress}
 use Rattle.module_stream.proofs.Steps.{progress_dropped}
 

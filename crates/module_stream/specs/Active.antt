@@ -6,7 +6,7 @@ use Rattle.module_stream.specs.declared.active.ActiveTask.{ActiveTask}
 use Rattle.module_stream.specs.declared.active.Beside.{Beside}
 use Rattle.module_stream.specs.declared.active.Runner.{Runner}
 use Rattle.module_stream.specs.declared.active.Runner.TheVariants as runner
-use Rattle.module_stream.specs.Boxes.{ones, singly, IsIn}
+use Rattle.message_lines.specs.Boxes.{ones, singly, IsIn}
 use Rattle.module_stream.specs.Progress.{Gives, Progress}
 
 -- A thread works on a task that gave `first` when it began. These messages were sent to it, and of those that came back these were

@@ -5,9 +5,6 @@ pub mod Tasks
 pub mod Growing
 pub mod Streams
 pub mod Laws
-pub mod Lines
 pub mod Progress
-pub mod Boxes
 pub mod Works
-pub mod Caller
 pub mod Active

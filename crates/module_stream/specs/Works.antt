@@ -2,12 +2,12 @@
 use Rattle.std.specs.Prelude.{◌≡◌, true, false, List, [], ◌∷◌, ◌++◌}
 use Rattle.crossbeam_queue.specs.Passes.{Pass, view, IsSamePass}
 use Rattle.message_block.specs.Messages.{MessageState}
-use Rattle.module_stream.specs.declared.line.Item.{Item}
-use Rattle.module_stream.specs.declared.line.Item.TheVariants.{Stop}
-use Rattle.module_stream.specs.declared.line.Log.{Log}
+use Rattle.message_lines.specs.declared.line.Item.{Item}
+use Rattle.message_lines.specs.declared.line.Item.TheVariants.{Stop}
+use Rattle.message_lines.specs.declared.line.Log.{Log}
 use Rattle.module_stream.specs.declared.work.Worker.{Worker}
-use Rattle.module_stream.specs.Lines.{log}
-use Rattle.module_stream.specs.Boxes.{ones, singly}
+use Rattle.message_lines.specs.Lines.{log}
+use Rattle.message_lines.specs.Boxes.{ones, singly}
 use Rattle.module_stream.specs.Progress.{Gives, Progress}
 
 -- A worker has sent these messages, but for those that it gathered to send them next, and nothing else.

@@ -5,14 +5,12 @@ ghost use Rattle.message_block.specs.Messages.{MessageState};
 ghost use Rattle.module_stream.specs.Progress.{Gives, Begins, Progress};
 ghost use Rattle.module_stream.specs.Works.{HasWorked};
 
-use crate::batch::Batch;
 use crate::here::{Here, settle};
-use crate::line::Item;
-use crate::lines::{Lines, open};
 use crate::work::{Worker, Works, work};
 use crate::{Messages, Task};
 use ev_types::NoMemory;
 use message_block::Message;
+use message_lines::{Batch, Item, Lines, open};
 use std::alloc::Global;
 use std::snapshot::Snapshot;
 use std::sync::Wait;

@@ -2,19 +2,17 @@
 ghost use Rattle.std.specs.Prelude.{◌≡◌, [], ◌∷◌, ◌++◌, List, true, IfOk, IfErr};
 ghost use Rattle.crossbeam_queue.specs.Passes.{view, IsPassOf, Pass};
 ghost use Rattle.message_block.specs.Messages.{MessageState};
-ghost use Rattle.module_stream.specs.declared.line.Item.{Item};
-ghost use Rattle.module_stream.specs.declared.line.Log.{Log};
-ghost use Rattle.module_stream.specs.Caller.{HasStopped};
+ghost use Rattle.message_lines.specs.declared.line.Item.{Item};
+ghost use Rattle.message_lines.specs.declared.line.Log.{Log};
+ghost use Rattle.message_lines.specs.Caller.{HasStopped};
 ghost use Rattle.module_stream.specs.Progress.{Gives, Begins, Progress};
 ghost use Rattle.module_stream.specs.Works.{HasWorked};
 
-use crate::inbox::Inbox;
-use crate::line::{Ends, Total};
-use crate::lines::Lines;
 use crate::work::Worker;
 use crate::{Messages, Task};
 use ev_types::NoMemory;
 use message_block::Message;
+use message_lines::{Ends, Lines, Total};
 use std::mem;
 
 /// A task that runs in its caller's thread.

@@ -6,13 +6,9 @@
 #![tactic(auto)]
 
 mod active;
-mod batch;
 mod format;
 mod here;
-mod inbox;
 mod laws;
-mod line;
-mod lines;
 mod messages;
 mod pass;
 mod passed;
@@ -21,13 +17,12 @@ mod separate;
 mod stream;
 mod task;
 mod text;
-mod wait;
 mod work;
 
 pub use active::ActiveTask;
-pub use batch::MOST_TOGETHER;
 pub use format::FormatTask;
 pub use laws::formats_what_spells_a_record;
+pub use message_lines::MOST_TOGETHER;
 pub use messages::Messages;
 pub use pass::PassTask;
 pub use passed::Passed;

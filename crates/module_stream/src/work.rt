@@ -2,19 +2,16 @@
 ghost use Rattle.std.specs.Prelude.{◌≡◌, ◌≤◌, ◌<◌, [], ◌∷◌, ◌++◌, List, true, false, OnOk, OnErr, MatchOption, vec_len};
 ghost use Rattle.crossbeam_queue.specs.Passes.{view, IsSamePass, IsPassOf};
 ghost use Rattle.message_block.specs.Messages.{MessageState};
-ghost use Rattle.module_stream.specs.Lines.{log};
-ghost use Rattle.module_stream.specs.Boxes.{each_of, ones};
+ghost use Rattle.message_lines.specs.Lines.{log};
+ghost use Rattle.message_lines.specs.Boxes.{each_of, ones};
 ghost use Rattle.module_stream.specs.Progress.{Gives};
 ghost use Rattle.module_stream.specs.Works.{Gave, HasGiven, HasWorked, IsSameRest};
 
 use crate::Task;
-use crate::batch::{Batch, MOST_TOGETHER};
-use crate::line::{End, Item, Line, receive, send};
-use crate::lines::Side;
 use crate::passed::Passed;
-use crate::wait::Waits;
 use ev_types::NoMemory;
 use message_block::Message;
+use message_lines::{Batch, End, Item, Line, MOST_TOGETHER, Side, Waits, receive, send};
 use std::alloc::Global;
 use std::mem;
 use std::snapshot::Snapshot;

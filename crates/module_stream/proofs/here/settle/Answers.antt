@@ -1,8 +1,8 @@
 use Rattle.std.proofs.Common.{◌≡◌, ◌++◌, false, true≢false, sym, ap, ◌∙◌}
 use Rattle.std.proofs.lemmas.Grind.{flat_map-append}
 use Rattle.crossbeam_queue.specs.Passes.{view}
-use Rattle.module_stream.specs.Boxes.{each_of, singly}
-use Rattle.module_stream.proofs.Moves.{merges}
+use Rattle.message_lines.specs.Boxes.{each_of, singly}
+use Rattle.message_lines.proofs.Moves.{merges}
 use Rattle.module_stream.proofs.Settling.{settled}
 use Rattle.module_stream.proofs.here.settle.Goals.{then-lost, else-lost}
 use Rattle.module_stream.proofs.here.settle.Goals as goal

@@ -1,7 +1,7 @@
 use Rattle.std.proofs.Common.{◌≡◌, ◌++◌, true}
 use Rattle.crossbeam_queue.specs.Passes.{view, IsSamePass}
-use Rattle.module_stream.specs.Lines.{log}
-use Rattle.module_stream.specs.Boxes.{ones}
+use Rattle.message_lines.specs.Lines.{log}
+use Rattle.message_lines.specs.Boxes.{ones}
 use Rattle.module_stream.proofs.work.send_all.Given as goal
 
 -- the messages so far were sent

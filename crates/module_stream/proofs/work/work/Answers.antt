@@ -1,10 +1,10 @@
 use Rattle.std.proofs.Common.{[], ◌∷◌, ◌++◌, true, refl, sym, ap, ◌∙◌}
 use Rattle.std.proofs.lemmas.List.{map-append}
 use Rattle.crossbeam_queue.specs.Passes.{view}
-use Rattle.module_stream.specs.declared.line.Item.TheVariants.{One, Many, Stop}
-use Rattle.module_stream.specs.Lines.{log}
-use Rattle.module_stream.specs.Boxes.{ones}
-use Rattle.module_stream.proofs.Boxes.{ones_more, singly_more}
+use Rattle.message_lines.specs.declared.line.Item.TheVariants.{One, Many, Stop}
+use Rattle.message_lines.specs.Lines.{log}
+use Rattle.message_lines.specs.Boxes.{ones}
+use Rattle.message_lines.proofs.Boxes.{ones_more, singly_more}
 use Rattle.module_stream.proofs.Giving.{given_all}
 use Rattle.module_stream.proofs.Passes.{same_twice, same_as}
 use Rattle.module_stream.proofs.Steps.{no_progress}

@@ -1,9 +1,9 @@
 use Rattle.std.proofs.Common.{◌≡◌, true, false, List, []}
 use Rattle.crossbeam_queue.specs.Passes.{view, IsSamePass}
 use Rattle.message_block.specs.Messages.{MessageState}
-use Rattle.module_stream.specs.declared.line.Item.{Item}
-use Rattle.module_stream.specs.Lines.{log}
-use Rattle.module_stream.specs.Boxes.{ones, singly}
+use Rattle.message_lines.specs.declared.line.Item.{Item}
+use Rattle.message_lines.specs.Lines.{log}
+use Rattle.message_lines.specs.Boxes.{ones, singly}
 use Rattle.module_stream.specs.Works.{Gave}
 use Rattle.module_stream.proofs.work.work.Given as goal
 

@@ -1,10 +1,10 @@
 use Rattle.std.proofs.Common.{[], ◌∷◌, ◌++◌, ap, ◌∙◌}
 use Rattle.crossbeam_queue.specs.Passes.{Pass, view}
-use Rattle.module_stream.specs.declared.line.Item.{Item}
-use Rattle.module_stream.specs.declared.line.Log.{Log}
-use Rattle.module_stream.specs.declared.line.Item.TheVariants.{Stop}
-use Rattle.module_stream.specs.Boxes.{singly}
-use Rattle.module_stream.proofs.Boxes.{in_none}
+use Rattle.message_lines.specs.declared.line.Item.{Item}
+use Rattle.message_lines.specs.declared.line.Log.{Log}
+use Rattle.message_lines.specs.declared.line.Item.TheVariants.{Stop}
+use Rattle.message_lines.specs.Boxes.{singly}
+use Rattle.message_lines.proofs.Boxes.{in_none}
 use Rattle.module_stream.proofs.active.ActiveTask.begin.Goals as goal
 
 pub returns-in-Err-clause-runs : goal.returns-in-Err-clause-runs

@@ -1,11 +1,11 @@
 use Rattle.std.proofs.Common.{[], ◌∷◌, ◌++◌, ap, ◌∙◌, subst}
 use Rattle.crossbeam_queue.specs.Passes.{Pass, view}
-use Rattle.module_stream.specs.declared.line.Item.{Item}
-use Rattle.module_stream.specs.declared.line.Log.{Log}
-use Rattle.module_stream.specs.declared.line.Item.TheVariants.{Stop}
-use Rattle.module_stream.specs.Boxes.{singly}
+use Rattle.message_lines.specs.declared.line.Item.{Item}
+use Rattle.message_lines.specs.declared.line.Log.{Log}
+use Rattle.message_lines.specs.declared.line.Item.TheVariants.{Stop}
+use Rattle.message_lines.specs.Boxes.{singly}
 use Rattle.module_stream.specs.Progress.{Gives, Progress}
-use Rattle.module_stream.proofs.Boxes.{singly_more}
+use Rattle.message_lines.proofs.Boxes.{singly_more}
 use Rattle.module_stream.proofs.active.Beside.end.Goals as goal
 
 pub returns : goal.returns

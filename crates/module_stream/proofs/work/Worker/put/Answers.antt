@@ -4,8 +4,8 @@ use Rattle.module_stream.specs.declared.passed.Passed.{Passed}
 use Rattle.module_stream.specs.Composition.{Comes}
 use Rattle.module_stream.specs.Passing.{passed_on}
 use Rattle.module_stream.specs.Progress.{Progress}
-use Rattle.module_stream.specs.Lines.{log}
-use Rattle.module_stream.specs.Boxes.{ones}
+use Rattle.message_lines.specs.Lines.{log}
+use Rattle.message_lines.specs.Boxes.{ones}
 use Rattle.module_stream.proofs.Steps.{progress_put, progress_lost}
 use Rattle.module_stream.proofs.Giving.{given_more}
 use Rattle.module_stream.proofs.work.Worker.put.Goals as goal
