@@ -1,14 +1,14 @@
 //! In how many writes lines are written.
 ghost use Rattle.ev_base.specs.MemSink.{mem_sink_facts};
 
-use crate::running::{RECORD, room_for, run_line};
+use crate::running::{RECORD, room_for, run_line, volumes, whole};
 use cdr_record::{Bytes, LogRecord, RecordList, Records};
-use ev_base::{MemSink, Sink, SteadySource, Wrote};
+use ev_base::{MemSink, MemSource, Sink, Wrote};
 use ev_types::{Answer, Handle, Mask};
 use journal_text::JournalSink;
 use log_handler::{EndKind, LineSink, LoggedRecords, ServerNote};
 use packed_records::GatheredRecords;
-use reactor_model::{DropVolumes, Entry, Watch};
+use reactor_model::{Entry, Watch};
 use std::alloc::Global;
 use std::sync::Wait;
 use std::test::Fail;
@@ -244,12 +244,12 @@ fn an_entry_of_a_journal_is_written_at_once(rt: HostRuntime) -> Result<(), Fail>
 }
 
 /// A source of a hundred records.
-fn hundred(alloc: Global) -> Result<SteadySource, Fail> {
+fn hundred(alloc: Global) -> Result<MemSource, Fail> {
     let mut bytes = Vec::new(alloc);
     for _ in 0..100 {
         bytes.extend_from_slice(RECORD)?;
     }
-    Ok(SteadySource::new(bytes))
+    whole(alloc, bytes)
 }
 
 /// Runs `one` on a hundred records, and gives the status, and how many writes and bytes there were.
@@ -259,7 +259,7 @@ fn run_hundred<R: Threads + Wait + Copy + Send + Sync + 'static>(
 ) -> Result<(u8, u64, usize), Fail> {
     let output = counting_sink(alloc)?;
     let input = hundred(alloc)?;
-    let left = run_line(rt, alloc, "one", input, output, DropVolumes)?;
+    let left = run_line(rt, alloc, "one", input, output, volumes(alloc, &[])?)?;
     let written = left.output.below.bytes().len();
     Ok((left.status, left.output.writes, written))
 }

@@ -3,8 +3,7 @@ ghost use Rattle.std.specs.Prelude.{None, ◌==◌, ◌&&◌, ◌-◌, ◌^◌};
 
 use crate::running::{Left, RECORD, room, room_for, run_line, volumes};
 use ev_base::{Got, MemSink, Source};
-use log_handler::ServerNote;
-use reactor_model::{DropVolumes, MemVolumes, check};
+use reactor_model::check;
 use std::alloc::Global;
 use std::process::Abort;
 use std::sync::Wait;
@@ -50,7 +49,7 @@ fn bytes(left: u64) -> ByteByByte {
 }
 
 /// What is left of a long run of `one`.
-type Long = Left<MemSink, ByteByByte, MemVolumes<ServerNote>>;
+type Long = Left<MemSink, ByteByByte>;
 
 /// Runs `one` on so many bytes, where the takes of these numbers fail.
 fn run_long<R: Threads + Wait + Copy + Send + Sync + 'static>(
@@ -121,7 +120,8 @@ fn run_broken<R: Threads + Wait + Copy + Send + Sync + 'static>(
     alloc: Global,
 ) -> Result<(u8, u64, u64, bool), Fail> {
     let output = room(alloc, Some(10))?;
-    let left = run_line(rt, alloc, "one", bytes(1 << 40), output, DropVolumes)?;
+    let volumes = volumes(alloc, &[])?;
+    let left = run_line(rt, alloc, "one", bytes(1 << 40), output, volumes)?;
     let is_front = left.output.bytes() == b"0 1,2 7 LM".as_slice();
     Ok((left.status, left.at, left.input.left, is_front))
 }

@@ -1,9 +1,7 @@
 //! Long runs of several workers.
-use crate::running::{Left, Ran, room_for, run_line, volumes};
-use ev_base::{MemSink, SteadySource};
+use crate::running::{Left, Ran, room_for, run_line, volumes, whole};
+use ev_base::{MemSink, MemSource};
 use journal_check::check;
-use log_handler::ServerNote;
-use reactor_model::{DropVolumes, MemVolumes};
 use script_generator::gen_script;
 use std::alloc::Global;
 use std::process::Abort;
@@ -12,7 +10,7 @@ use std::test::Fail;
 use std::thread::Threads;
 
 /// What is left of a run whose volumes are kept.
-type Kept = Left<MemSink, SteadySource, MemVolumes<ServerNote>>;
+type Kept = Left<MemSink, MemSource>;
 
 /// How many lines a text has.
 fn count_lines(text: &[u8]) -> usize {
@@ -25,7 +23,7 @@ fn run_many<R: Threads + Wait + Copy + Send + Sync + 'static>(
     alloc: Global,
     fails: &[u64],
 ) -> Result<Kept, Fail> {
-    let input = SteadySource::new(gen_script(alloc, 80, 7)?.into_vec());
+    let input = whole(alloc, gen_script(alloc, 80, 7)?.into_vec())?;
     let output = room_for(alloc, 1 << 20, None)?;
     let volumes = volumes(alloc, fails)?;
     run_line(rt, alloc, "replay --workers 4", input, output, volumes)
@@ -62,9 +60,10 @@ fn grouped<R: Abort + Threads + Wait + Copy + Send + Sync + 'static>(
     alloc: Global,
     words: &str,
 ) -> Result<MemSink, Fail> {
-    let input = SteadySource::new(gen_script(alloc, 40, 7)?.into_vec());
+    let input = whole(alloc, gen_script(alloc, 40, 7)?.into_vec())?;
     let output = room_for(alloc, 1 << 19, None)?;
-    let Ran { status, output, .. } = run_line(rt, alloc, words, input, output, DropVolumes)?.ran();
+    let left = run_line(rt, alloc, words, input, output, volumes(alloc, &[])?)?;
+    let Ran { status, output, .. } = left.ran();
     assert_eq!(*rt; status, 0, "{words}");
     Ok(output)
 }

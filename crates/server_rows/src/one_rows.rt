@@ -1,11 +1,12 @@
 //! What `one` writes, by its input, with the status and the journal.
 use crate::running::{
     LINES, Left, RECORD, Ran, long_record, room, run_line, run_short, run_words, see, source,
+    volumes,
 };
 use ev_base::{MemSink, MemSource};
 use journal_text::JournalSink;
 use log_handler::ServerNote;
-use reactor_model::{DropVolumes, Entry, MemVolumes, Watch, check};
+use reactor_model::{Entry, MemVolumes, Watch, check};
 use script_net::ScriptHost;
 use std::alloc::Global;
 use std::process::Abort;
@@ -24,18 +25,16 @@ fn run<R: Threads + Wait + Copy + Send + Sync + 'static>(
     fails: &[u64],
     fail_after: Option<u64>,
 ) -> Result<Ran, Fail> {
-    let input = source(alloc, pieces, fails)?;
-    let volumes = MemVolumes::new(alloc, Vec::new(alloc));
-    run_short(rt, alloc, "one", input, volumes, fail_after)
+    run_short(rt, alloc, "one", source(alloc, pieces, fails)?, fail_after)
 }
 
-/// Runs `one` on a source, and keeps no volumes.
+/// Runs `one` on a source.
 fn run_source<R: Threads + Wait + Copy + Send + Sync + 'static>(
     rt: &R,
     alloc: Global,
     input: MemSource,
 ) -> Result<Ran, Fail> {
-    run_short(rt, alloc, "one", input, DropVolumes, None)
+    run_short(rt, alloc, "one", input, None)
 }
 
 /// Sees that pieces are served to their end, and what is written for them.
@@ -297,11 +296,10 @@ fn see_entries(rt: &impl Abort, alloc: Global, journal: &[Entry<ServerNote>]) ->
 fn run_record<R: Threads + Wait + Copy + Send + Sync + 'static>(
     rt: &R,
     alloc: Global,
-) -> Result<Left<MemSink, MemSource, MemVolumes<ServerNote>>, Fail> {
+) -> Result<Left<MemSink, MemSource>, Fail> {
     let input = source(alloc, &[RECORD], &[])?;
     let output = room(alloc, None)?;
-    let volumes = MemVolumes::new(alloc, Vec::new(alloc));
-    run_line(rt, alloc, "one", input, output, volumes)
+    run_line(rt, alloc, "one", input, output, volumes(alloc, &[])?)
 }
 
 #[test]
@@ -343,10 +341,11 @@ fn run_idle<R: Threads + Wait + Copy + Send + Sync + 'static>(
     alloc: Global,
     words: &[String],
     output: MemSink,
+    volumes: MemVolumes<ServerNote>,
 ) -> (u8, usize, usize) {
     let input = MemSource::new(Vec::new(alloc), Vec::new(alloc));
     let mut host = ScriptHost::new(None, true);
-    let ran = run_words(rt, alloc, words, &mut host, input, output, DropVolumes).ran();
+    let ran = run_words(rt, alloc, words, &mut host, input, output, volumes).ran();
     (ran.status, ran.entries, ran.output.bytes().len())
 }
 
@@ -358,7 +357,7 @@ fn see_refused<R: Abort + Threads + Wait + Copy + Send + Sync + 'static>(
 ) -> Result<(), Fail> {
     let words = owned(alloc, words)?;
     let output = room(alloc, None)?;
-    let left = run_idle(rt, alloc, &words, output);
+    let left = run_idle(rt, alloc, &words, output, volumes(alloc, &[])?);
     drop(words);
     assert_eq!(*rt; left, (1, 0, 0));
     Ok(())

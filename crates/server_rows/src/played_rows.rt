@@ -1,7 +1,5 @@
 //! Words that run the server over scripts and over hosts that play one: how each run ends, and what it writes.
-use crate::running::{LINES, Ran, room, run_short, run_words, see, text_source, words_of};
-use ev_base::SteadySource;
-use reactor_model::DropVolumes;
+use crate::running::{LINES, Ran, room, run_short, run_words, see, source, volumes, words_of};
 use script_net::ScriptHost;
 use script_text::parse_script;
 use std::alloc::Global;
@@ -24,8 +22,8 @@ pub(crate) fn run<R: Threads + Wait + Copy + Send + Sync + 'static>(
     words: &str,
     input: &str,
 ) -> Result<Ran, Fail> {
-    let input = text_source(alloc, input)?;
-    run_short(rt, alloc, words, input, DropVolumes, None)
+    let input = source(alloc, &[input.as_bytes()], &[])?;
+    run_short(rt, alloc, words, input, None)
 }
 
 /// Runs words without an input, with a host.
@@ -37,8 +35,8 @@ fn run_hosted<R: Threads + Wait + Copy + Send + Sync + 'static>(
 ) -> Result<Ran, Fail> {
     let words = words_of(alloc, words)?;
     let output = room(alloc, None)?;
-    let input = SteadySource::new(Vec::new(alloc));
-    let left = run_words(rt, alloc, &words, host, input, output, DropVolumes);
+    let input = source(alloc, &[], &[])?;
+    let left = run_words(rt, alloc, &words, host, input, output, volumes(alloc, &[])?);
     drop(words);
     Ok(left.ran())
 }

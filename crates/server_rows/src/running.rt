@@ -1,8 +1,9 @@
-//! Runs of the top call. A row gets what a run left without the clauses of that call, and mostly in the few values that it looks at.
-use ev_base::{MemSink, MemSource, Sink, Source, SteadySource};
+//! Runs of the top call. A row gets what a run left without the clauses of that call, and mostly in the few values that it looks at. Rows share their
+//! types of source, sink and volumes where they can, since the call is built anew for each choice of them.
+use ev_base::{MemSink, MemSource, Sink, Source};
 use log_handler::ServerNote;
 use logging_server::logd_main;
-use reactor_model::{Journal, MemVolumes, Volumes};
+use reactor_model::{Journal, MemVolumes};
 use script_net::ScriptHost;
 use std::alloc::Global;
 use std::process::Abort;
@@ -19,14 +20,14 @@ pub(crate) const LINES: &[u8] = b"0 1,2 7 LM_DEBUG: hi\n0 closed: end\n";
 
 /// What a run left.
 #[derive(Drop)]
-pub(crate) struct Left<K, S, V> {
+pub(crate) struct Left<K, S> {
     pub(crate) status: u8,
     pub(crate) at: u64,
     pub(crate) journal: Journal<ServerNote>,
     pub(crate) first: u64,
     pub(crate) input: S,
     pub(crate) output: K,
-    pub(crate) volumes: V,
+    pub(crate) volumes: MemVolumes<ServerNote>,
     /// Whether the host gave a net.
     pub(crate) has_net: bool,
 }
@@ -43,7 +44,7 @@ pub(crate) struct Ran {
     pub(crate) output: MemSink,
 }
 
-impl<S: Drop, V: Drop> Left<MemSink, S, V> {
+impl<S: Drop> Left<MemSink, S> {
     /// Its few values.
     pub(crate) fn ran(self) -> Ran {
         Ran {
@@ -62,7 +63,6 @@ pub(crate) fn run_words<
     R: Threads + Wait + Copy + Send + Sync + 'static,
     S: Source + Drop,
     K: Sink + Drop + Send,
-    V: Volumes<ServerNote> + Drop + Send,
 >(
     rt: &R,
     alloc: Global,
@@ -70,8 +70,8 @@ pub(crate) fn run_words<
     host: &mut ScriptHost,
     input: S,
     output: K,
-    volumes: V,
-) -> Left<K, S, V> {
+    volumes: MemVolumes<ServerNote>,
+) -> Left<K, S> {
     let served = logd_main(rt, alloc, words, host, input, output, volumes);
     Left {
         status: served.status,
@@ -90,34 +90,29 @@ pub(crate) fn run_line<
     R: Threads + Wait + Copy + Send + Sync + 'static,
     S: Source + Drop,
     K: Sink + Drop + Send,
-    V: Volumes<ServerNote> + Drop + Send,
 >(
     rt: &R,
     alloc: Global,
     line: &str,
     input: S,
     output: K,
-    volumes: V,
-) -> Result<Left<K, S, V>, Fail> {
+    volumes: MemVolumes<ServerNote>,
+) -> Result<Left<K, S>, Fail> {
     let words = words_of(alloc, line)?;
     let mut host = ScriptHost::new(None, true);
     Ok(run_words(rt, alloc, &words, &mut host, input, output, volumes))
 }
 
 /// Runs the words of a line, with a host that refuses to listen and a sink that fails behind so many bytes.
-pub(crate) fn run_short<
-    R: Threads + Wait + Copy + Send + Sync + 'static,
-    S: Source + Drop,
-    V: Volumes<ServerNote> + Drop + Send,
->(
+pub(crate) fn run_short<R: Threads + Wait + Copy + Send + Sync + 'static>(
     rt: &R,
     alloc: Global,
     line: &str,
-    input: S,
-    volumes: V,
+    input: MemSource,
     fail_after: Option<u64>,
 ) -> Result<Ran, Fail> {
     let output = room(alloc, fail_after)?;
+    let volumes = MemVolumes::new(alloc, Vec::new(alloc));
     Ok(run_line(rt, alloc, line, input, output, volumes)?.ran())
 }
 
@@ -157,9 +152,11 @@ pub(crate) fn long_record(alloc: Global, header: &[u8]) -> Result<MemSource, Fai
     Ok(MemSource::new(pieces, Vec::new(alloc)))
 }
 
-/// A source of a text.
-pub(crate) fn text_source(alloc: Global, text: &str) -> Result<SteadySource, Fail> {
-    Ok(SteadySource::new(Vec::from_slice(alloc, text.as_bytes())?))
+/// A source of these bytes, as one piece.
+pub(crate) fn whole(alloc: Global, bytes: Vec<u8>) -> Result<MemSource, Fail> {
+    let mut pieces = Vec::new(alloc);
+    pieces.push(bytes)?;
+    Ok(MemSource::new(pieces, Vec::new(alloc)))
 }
 
 /// A sink with room for what short runs write.

@@ -1,7 +1,6 @@
 //! What `display` and `audit` write, by their input, with the status and its number.
 use crate::running::{RECORD, Ran, long_record, run_short, see, source};
 use ev_base::MemSource;
-use reactor_model::DropVolumes;
 use std::alloc::Global;
 use std::process::Abort;
 use std::sync::Wait;
@@ -27,7 +26,7 @@ fn run<R: Threads + Wait + Copy + Send + Sync + 'static>(
     input: MemSource,
     fail_after: Option<u64>,
 ) -> Result<Ran, Fail> {
-    run_short(rt, alloc, word, input, DropVolumes, fail_after)
+    run_short(rt, alloc, word, input, fail_after)
 }
 
 /// Sees a row of a command.
