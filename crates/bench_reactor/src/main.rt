@@ -28,7 +28,7 @@ fn main(rt: HostRuntime) -> io::Result<()> {
         report_runs(&rt, asked)?;
     }
     if pool || asked == Asked::Few {
-        report_pools(&rt, asked == Asked::Timed)?;
+        report_pools(&rt, rt.alloc(), asked == Asked::Timed)?;
     }
     Ok(())
 }

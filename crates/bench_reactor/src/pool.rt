@@ -31,17 +31,21 @@ const TURNS: u32 = 20_000_000;
 /// it is timed there are about 1,000,000 events in each run, and it prints nanoseconds for each; then how many upcalls of about 20
 /// microseconds of work workers make in a second; and how long the slowest of 10,000 removals, and of 10,000 settlings, took beside a
 /// leader whose net waits up to 10 seconds.
-pub fn report_pools(rt: &HostRuntime, timed: bool) -> io::Result<()> {
+pub fn report_pools<R: Threads + Wait + Clock + Print + Copy + Send + Sync>(
+    rt: &R,
+    alloc: Global,
+    timed: bool,
+) -> io::Result<()> {
     let events = if timed { MANY } else { FEW };
     for handles in [1, 100, 4_000] {
-        let core = report_core(rt, rt.alloc(), timed, handles, events)?;
+        let core = report_core(rt, alloc, timed, handles, events)?;
         for workers in [1, 2, 4, 8] {
-            report_pool(rt, rt.alloc(), timed, handles, workers, events, core)?;
+            report_pool(rt, alloc, timed, handles, workers, events, core)?;
         }
     }
     if timed {
-        report_work(rt, rt.alloc())?;
-        return report_slowest(rt, rt.alloc());
+        report_work(rt, alloc)?;
+        return report_slowest(rt, alloc);
     }
     Ok(())
 }
