@@ -51,7 +51,8 @@ fn post_and_take(alloc: Global, turns: u64) -> u64
 
 // So many postings are made, each time again where the ring is full.
 fn post_many(ring: &Ring, mut poster: Poster, count: u64) -> Poster
-    requires { poster_ring poster ≡ id_of ring.now }
+    requires ring { poster_ring poster ≡ id_of ring.now }
+    requires count { count ≤ 2 ^ 56 }
     ensures { poster_ring result ≡ id_of ring.now }
 {
     for _ in 0..u64::MAX {

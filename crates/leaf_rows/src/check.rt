@@ -249,7 +249,7 @@ const CATCHES_UP: &[Step] = &[
 ];
 
 /// Journals with at most so many handles, and the place of the first entry that is illegal, if one is.
-const JOURNALS: &[(&[Step], u64, Option<u64>)] = &[
+static JOURNALS: &[(&[Step], u64, Option<u64>)] = &[
     (ONE_CONNECTION, 1, None),
     (ONE_ACCEPTED, 1001, None),
     (ONE_REFUSED, 2, None),
@@ -264,7 +264,7 @@ const JOURNALS: &[(&[Step], u64, Option<u64>)] = &[
 ];
 
 /// Journals of which the entry at a place is changed, and the place of the first entry that is illegal then.
-const CHANGED: &[(&[Step], u64, usize, Step, u64)] = &[
+static CHANGED: &[(&[Step], u64, usize, Step, u64)] = &[
     (ONE_CONNECTION, 1, 0, Opened(SECOND), 0),
     (ONE_CONNECTION, 1, 2, Ready(SECOND), 2),
     (ONE_CONNECTION, 1, 3, Started(1), 3),

@@ -47,7 +47,7 @@ const WHOLE: Reads = Reads {
     has_failed: false,
 };
 
-const ONE_MORE: &[Reads] = &[
+static ONE_MORE: &[Reads] = &[
     WHOLE,
     Reads {
         answers: &[Got::Failed, Got::Failed],
@@ -56,7 +56,7 @@ const ONE_MORE: &[Reads] = &[
     },
 ];
 
-const NO_MORE: &[Reads] = &[
+static NO_MORE: &[Reads] = &[
     WHOLE,
     Reads {
         answers: &[Got::Over, Got::Over],
@@ -66,7 +66,7 @@ const NO_MORE: &[Reads] = &[
 ];
 
 /// The reads of an end of at most 4 bytes over a source of two pieces whose second read fails.
-const IN_PIECES: &[Reads] = &[
+static IN_PIECES: &[Reads] = &[
     Reads {
         answers: &[Got::Bytes(3)],
         is_too_long: false,

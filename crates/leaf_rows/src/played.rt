@@ -48,7 +48,7 @@ fn plays(alloc: Global, moments: Vec<u64>, waits: &[(Option<u64>, Waited)]) -> b
     come_to(&mut net, waits)
 }
 
-const MOMENTS: &[(Option<u64>, Waited)] = &[
+static MOMENTS: &[(Option<u64>, Waited)] = &[
     (Some(1), Waited::Quiet { now: 35 }),
     (None, Waited::Quiet { now: 39 }),
     (Some(0), Waited::Quiet { now: 40 }),
@@ -128,7 +128,7 @@ const FIRST: Wait = (
 );
 
 /// The waits behind it, once the second end is watched for writing alone.
-const LATER: &[Wait] = &[
+static LATER: &[Wait] = &[
     (
         Waited::Reports { now: 2, count: 3 },
         &[(1, Kind::Write), (0, Kind::Read), (0, Kind::Read)],

@@ -105,7 +105,7 @@ fn record(alloc: Global, want: &Want) -> Result<LogRecord, Fail> {
 // A whole input, with the records and the bad record that are read of it, how many bytes are left then, and how many were read.
 type Row = (&'static [u8], &'static [Want], Option<Bad>, u64, u64);
 
-const READ: &[Row] = &[
+static READ: &[Row] = &[
     (BASE, &[HI], None, 0, 30),
     (b"", &[], None, 0, 0),
     (LITTLE, &[HI], None, 0, 30),
@@ -140,7 +140,7 @@ const BAD_MESSAGE: Option<Bad> = Some(Bad {
 const LONG_MESSAGE: &[u8] =
     b"\0\0\0\0\0\0\0\x16\0\0\0\x04\0\0\0\x07\0\0\0\x01\0\0\0\x02\0\0\0\x03hi";
 
-const BAD: &[Row] = &[
+static BAD: &[Row] = &[
     (BAD_BETWEEN, &[HI], BAD_SECOND, 0, 30),
     (b"\x04", &[], BAD_ORDER, 0, 0),
     (b"\0\0\0\0\0\x01\0\x15", &[], BAD_LENGTH, 0, 0),

@@ -22,7 +22,7 @@ const HANDLE: Handle = Handle(0);
 // A handle that was never opened.
 const UNKNOWN: Handle = Handle(7);
 
-const REFUSALS: &Run = &Run {
+static REFUSALS: &Run = &Run {
     steps: &[
         Step::Register(Answer::Keep, Ok(HANDLE)),
         Step::Resume(HANDLE, Err(StateRefused::Same)),
@@ -131,7 +131,7 @@ fn is_polled_again(core: &mut Failing) -> bool
     first == Err(PollRefused::NetFailed) && second == Ok(Polled::Events)
 }
 
-const FAILED: &[Entry<u64>] = &[
+static FAILED: &[Entry<u64>] = &[
     Entry::Opened {
         handle: HANDLE,
         mask: READ,
@@ -160,7 +160,7 @@ fn a_net_that_fails_leaves_the_journal(rt: HostRuntime) -> Result<(), Fail> {
 }
 
 // What stands before the offer of the first handler.
-const BEFORE_THE_OFFER: &[Entry<u64>] = &[
+static BEFORE_THE_OFFER: &[Entry<u64>] = &[
     Entry::Opened {
         handle: HANDLE,
         mask: READ,

@@ -27,7 +27,7 @@ pub(crate) fn ready(handle: u64) -> Report {
     }
 }
 
-const POSTINGS: &Run = &Run {
+static POSTINGS: &Run = &Run {
     steps: &[
         Step::Register(Answer::Keep, Ok(HANDLE)),
         Step::Post(HANDLE, Kind::Read, (0, 0), Ok(())),
@@ -78,7 +78,7 @@ fn postings_go_into_the_journal(rt: HostRuntime) -> Result<(), Fail> {
     Ok(())
 }
 
-const PERIODIC: &Run = &Run {
+static PERIODIC: &Run = &Run {
     steps: &[
         Step::Register(Answer::Keep, Ok(HANDLE)),
         Step::Schedule(HANDLE, Ok(0)),
@@ -138,7 +138,7 @@ fn a_periodic_timer_comes_due_at_its_multiples(rt: HostRuntime) -> Result<(), Fa
     Ok(())
 }
 
-const REMOVED: &Run = &Run {
+static REMOVED: &Run = &Run {
     steps: &[
         Step::Register(Answer::Again, Ok(HANDLE)),
         Step::Poll(Ok(Polled::Events)),
@@ -187,7 +187,7 @@ fn a_handler_that_is_removed_in_its_upcall_is_closed_behind_it(
     Ok(())
 }
 
-const VOLUMES: &Run = &Run {
+static VOLUMES: &Run = &Run {
     steps: &[
         Step::Register(Answer::Keep, Ok(HANDLE)),
         Step::HandOver(Ok(0)),
@@ -229,7 +229,7 @@ fn volumes_are_handed_over(rt: HostRuntime) -> Result<(), Fail> {
     Ok(())
 }
 
-const FULL: &Run = &Run {
+static FULL: &Run = &Run {
     steps: &[
         Step::Register(Answer::Keep, Ok(HANDLE)),
         Step::Register(Answer::Keep, Err(FULL_OF_ONE)),
@@ -257,7 +257,7 @@ fn no_more_handlers_are_registered_than_may_live(rt: HostRuntime) -> Result<(), 
     Ok(())
 }
 
-const SUSPENDED: &Run = &Run {
+static SUSPENDED: &Run = &Run {
     steps: &[
         Step::Register(Answer::Keep, Ok(FIRST)),
         Step::Register(Answer::Keep, Ok(SECOND)),

@@ -69,7 +69,7 @@ const SECOND_CLOSED: Entry<u64> = Entry::Closed {
     note: 0,
 };
 
-const OUT_AT_THE_END: &Run = &Run {
+static OUT_AT_THE_END: &Run = &Run {
     steps: &[
         Step::RegisterActing(Acting::Stops, Ok(FIRST)),
         Step::Register(Answer::Again, Ok(SECOND)),
@@ -101,7 +101,7 @@ fn an_upcall_that_is_out_at_the_end_is_settled_behind_it(rt: HostRuntime) -> Res
     settle_behind_the_end(&rt, rt.alloc(), OUT_AT_THE_END)
 }
 
-const OFFERED_BEHIND: &Run = &Run {
+static OFFERED_BEHIND: &Run = &Run {
     steps: &[
         Step::RegisterActing(Acting::Stops, Ok(FIRST)),
         Step::RegisterActing(Acting::Offers, Ok(SECOND)),
@@ -138,7 +138,7 @@ fn a_handler_that_is_offered_behind_the_end_is_refused(rt: HostRuntime) -> Resul
     settle_behind_the_end(&rt, rt.alloc(), OFFERED_BEHIND)
 }
 
-const MASKED_BEHIND: &Run = &Run {
+static MASKED_BEHIND: &Run = &Run {
     steps: &[
         Step::RegisterActing(Acting::Stops, Ok(FIRST)),
         Step::RegisterActing(Acting::Masks(NONE), Ok(SECOND)),
@@ -170,7 +170,7 @@ fn a_mask_that_is_asked_for_behind_the_end_adds_nothing(rt: HostRuntime) -> Resu
     settle_behind_the_end(&rt, rt.alloc(), MASKED_BEHIND)
 }
 
-const WAITS_OVER: &Run = &Run {
+static WAITS_OVER: &Run = &Run {
     steps: &[
         Step::Register(Answer::Keep, Ok(FIRST)),
         Step::Over(0),

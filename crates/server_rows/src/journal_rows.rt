@@ -10,7 +10,7 @@ use std::thread::Threads;
 /// Words, a script, and the text of the journal of its run. The first script has one connection with one record; in the second a connection is
 /// refused; the third is stopped by a notice behind the first closing; in the fourth a connection is closed as idle before its
 /// input is read.
-const JOURNALS: &[(&str, &str, &str)] = &[
+static JOURNALS: &[(&str, &str, &str)] = &[
     (
         "replay --journal",
         "open 0\ndata 0 000000000000001600000004000000070000000100000002000000026869\nshut 0\n",

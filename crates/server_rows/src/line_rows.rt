@@ -159,7 +159,7 @@ fn gives_lines(alloc: Global, (noted, writes, lines): (Noted, u64, &[u8])) -> Re
 }
 
 /// Entries, in how many writes each is written, and which lines.
-const NOTED: &[(Noted, u64, &[u8])] = &[
+static NOTED: &[(Noted, u64, &[u8])] = &[
     (Noted::Accepted, 0, b""),
     (Noted::Opened, 0, b""),
     (Noted::Piece(0, None), 0, b""),
@@ -203,7 +203,7 @@ fn line_alone(alloc: Global, byte: u8, count: usize) -> Result<(u64, usize), Fai
 }
 
 /// Records alone whose messages are so often a byte, and how many bytes the line has for each. The longest that is kept in place has 104.
-const ALONE: &[(u8, usize, usize)] = &[
+static ALONE: &[(u8, usize, usize)] = &[
     (b'm', 0, 1),
     (b'm', 104, 1),
     (b'm', 105, 1),

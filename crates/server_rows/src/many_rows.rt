@@ -81,7 +81,7 @@ fn see_text<R: Abort + Threads + Wait + Copy + Send + Sync + 'static>(
 }
 
 /// Words of runs by several workers.
-const SEVERAL: &[&str] = &[
+static SEVERAL: &[&str] = &[
     "replay --grouped --workers 2",
     "replay --grouped --workers 8",
     "replay --grouped --workers 64",

@@ -51,7 +51,7 @@ fn see_lines<R: Abort + Threads + Wait + Copy + Send + Sync + 'static>(
 }
 
 /// Inputs in pieces, and what is written for them.
-const INPUTS: &[(&[&[u8]], &[u8])] = &[
+static INPUTS: &[(&[&[u8]], &[u8])] = &[
     (&[RECORD], LINES),
     (&[], b"0 closed: end\n"),
     // little-endian, and padding that is not zero
@@ -160,7 +160,7 @@ fn cutting_does_not_matter(rt: HostRuntime) -> Result<(), Fail> {
 }
 
 /// Places of a record's bytes, and what is written where the byte is 255.
-const CHANGED: &[(usize, &[u8])] = &[
+static CHANGED: &[(usize, &[u8])] = &[
     (0, MALFORMED),
     (1, LINES),
     (2, LINES),
@@ -314,7 +314,7 @@ fn one_record_has_its_journal(rt: HostRuntime) -> Result<(), Fail> {
 }
 
 /// Words that are no command.
-const OTHER_WORDS: &[&[&str]] = &[
+static OTHER_WORDS: &[&[&str]] = &[
     &[],
     &["one", "x"],
     &["two"],

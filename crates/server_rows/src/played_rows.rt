@@ -70,7 +70,7 @@ type Hosted<'a> = (
 );
 
 /// Runs over hosts.
-const HOSTED: &[Hosted<'static>] = &[
+static HOSTED: &[Hosted<'static>] = &[
     ("serve --port 7000", RECORD, &[], &[], 0, LINES, None),
     (
         "serve --workers 4 --timers heap --port=7000",
@@ -146,7 +146,7 @@ fn a_host_is_served(rt: HostRuntime) -> Result<(), Fail> {
 }
 
 /// Words, a script, the status with its number, and what is written.
-const REPLAYED: &[(&str, &str, (u8, u64), &[u8])] = &[
+static REPLAYED: &[(&str, &str, (u8, u64), &[u8])] = &[
     ("replay", RECORD, (0, 0), LINES),
     ("replay --grouped --timers wheel", RECORD, (0, 0), LINES),
     ("replay --workers=2", "", (0, 0), b""),

@@ -42,7 +42,7 @@ fn see_row<R: Abort + Threads + Wait + Copy + Send + Sync + 'static>(
 }
 
 /// Rows of `display`.
-const DISPLAYED: &[Row<'static>] = &[
+static DISPLAYED: &[Row<'static>] = &[
     (&[RECORD], b"1,2 7 LM_DEBUG: hi\n", 0, 0),
     (&[], b"", 0, 0),
     (
@@ -96,7 +96,7 @@ fn the_lines_before_a_failed_read_are_displayed(rt: HostRuntime) -> Result<(), F
 }
 
 /// Headers that 65,536 bytes of a message follow, the status, and how many bytes are written.
-const LONG: &[(&[u8], u8, usize)] = &[
+static LONG: &[(&[u8], u8, usize)] = &[
     (
         b"\0\0\0\0\0\x01\0\x14\0\0\0\x04\0\0\0\x07\0\0\0\x01\0\0\0\x02\0\x01\0\0",
         0,
@@ -136,7 +136,7 @@ fn long_records_are_displayed(rt: HostRuntime) -> Result<(), Fail> {
 }
 
 /// Rows of `audit`.
-const AUDITED: &[Row<'static>] = &[
+static AUDITED: &[Row<'static>] = &[
     (&[b"most 1\n"], b"legal 0\n", 0, 0),
     (
         &[

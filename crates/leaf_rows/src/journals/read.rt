@@ -9,7 +9,7 @@ use std::test::Fail;
 
 /// The worked journals: of one connection; of an acceptor and one connection; of a connection that is refused; of a run that ends by a
 /// notice; of a connection that is idle. Each with the number of its first line.
-const JOURNALS: &[(u64, &str)] = &[
+static JOURNALS: &[(u64, &str)] = &[
     (
         1,
         "most 1\nopened 0 r--\npolled 0\nready 0 read\nstarted 2\nreturned 2 again piece 0 30 1 4:7:1:2:6869\nstarted 4\nreturned 4 close piece 0 0 0\nclosed 0 end 0 end\npolled 0\nended\n",
@@ -33,7 +33,7 @@ const JOURNALS: &[(u64, &str)] = &[
 ];
 
 /// Texts of first lines and of the ends of lines, each with the number of its first bad line, or 0 where it is a journal's.
-const FIRST_LINES: &[(&str, u64)] = &[
+static FIRST_LINES: &[(&str, u64)] = &[
     ("", 1),
     ("\n", 1),
     ("most 1", 1),
@@ -63,7 +63,7 @@ const FIRST_LINES: &[(&str, u64)] = &[
 ];
 
 /// The same of entries without pieces.
-const ENTRIES: &[(&str, u64)] = &[
+static ENTRIES: &[(&str, u64)] = &[
     ("most 1\npolled 18446744073709551615\n", 0),
     ("most 1\npolled 18446744073709551616\n", 2),
     ("most 1\npolled 99999999999999999999\n", 2),
@@ -127,7 +127,7 @@ const ENTRIES: &[(&str, u64)] = &[
 ];
 
 /// The same of pieces.
-const PIECES: &[(&str, u64)] = &[
+static PIECES: &[(&str, u64)] = &[
     ("most 1\nreturned 0 keep piece 0 30 1 4:7:1:2:6869\n", 0),
     ("most 1\nreturned 0 keep piece 0 30 1 4:7:1:2:\n", 0),
     ("most 1\nreturned 0 keep piece 0 30 0\n", 0),

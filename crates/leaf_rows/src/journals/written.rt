@@ -170,7 +170,7 @@ fn writes(
 const FIRST: Handle = Handle(0);
 
 /// The worked run.
-const ONE_CONNECTION: &[Step] = &[
+static ONE_CONNECTION: &[Step] = &[
     Opened(FIRST, READ),
     Polled(0),
     Ready(FIRST, Kind::Read),
@@ -202,7 +202,7 @@ const NOT_READ: Mask = Mask {
 };
 
 /// Entries with their lines, behind the first line.
-const LINES: &[(Step, &[u8])] = &[
+static LINES: &[(Step, &[u8])] = &[
     (Scheduled(1, FOURTH, 20, 0), b"most 1\nscheduled 1 3 20 0\n"),
     (Cancelled(1), b"most 1\ncancelled 1\n"),
     (Due(1), b"most 1\ndue 1\n"),

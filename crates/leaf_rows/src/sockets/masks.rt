@@ -7,7 +7,7 @@ use ev_base::{Got, Sent};
 use ev_types::Kind;
 use std::test::Fail;
 
-const READS_HELD_BACK: &[Step] = &[
+static READS_HELD_BACK: &[Step] = &[
     Step::Watch,
     Step::Join(NONE),
     Step::Send(0, b"hello"),
@@ -39,7 +39,7 @@ fn reads_are_held_back_and_remembered(rt: HostRuntime) -> Result<(), Fail> {
     take(&rt, rt, &mut [0; 2], READS_HELD_BACK)
 }
 
-const WRITES_HELD_BACK: &[Step] = &[
+static WRITES_HELD_BACK: &[Step] = &[
     Step::Watch,
     Step::Join(READ),
     Step::Quiet(0),
@@ -70,7 +70,7 @@ fn writes_are_held_back_and_remembered(rt: HostRuntime) -> Result<(), Fail> {
     take(&rt, rt, &mut [], WRITES_HELD_BACK)
 }
 
-const MANY_REPORTS: &[Step] = &[
+static MANY_REPORTS: &[Step] = &[
     Step::Watch,
     Step::All(Course::ConnectMany),
     Step::All(Course::AcceptMany),

@@ -8,7 +8,7 @@ use ev_types::Kind;
 use std::test::Fail;
 
 /// Four reads behind a report give 100 bytes each, and the next pauses.
-const STREAM: &[Step] = &[
+static STREAM: &[Step] = &[
     Step::Watch,
     Step::Quiet(0),
     Step::Join(READ),
@@ -56,7 +56,7 @@ fn what_comes_before_the_attach_is_reported(rt: HostRuntime) -> Result<(), Fail>
     take(&rt, rt, &mut [0; 100], SENT_BEFORE)
 }
 
-const SENT_BEFORE: &[Step] = &[
+static SENT_BEFORE: &[Step] = &[
     Step::Watch,
     Step::Connect,
     Step::Send(0, b"all"),
@@ -69,7 +69,7 @@ const SENT_BEFORE: &[Step] = &[
 ];
 
 /// One peer leaves bytes unread, so that its side is reset. Another closes in order: the first write reaches nobody.
-const GONE: &[Step] = &[
+static GONE: &[Step] = &[
     Step::Watch,
     Step::Join(READ),
     Step::Write(0, b"hello", Sent::Bytes(5)),
@@ -89,7 +89,7 @@ fn a_peer_that_is_gone_is_a_fault(rt: HostRuntime) -> Result<(), Fail> {
     take(&rt, rt, &mut [0; 100], GONE)
 }
 
-const RETIRED: &[Step] = &[
+static RETIRED: &[Step] = &[
     Step::Watch,
     Step::Join(READ),
     Step::Write(0, b"hello", Sent::Bytes(5)),

@@ -171,7 +171,7 @@ fn no_wake_is_lost(rt: HostRuntime) -> Result<(), Fail> {
 }
 
 /// The last steps are taken once descriptors are left again.
-const OWED: &[Step] = &[
+static OWED: &[Step] = &[
     Step::Watch,
     Step::Connect,
     Step::All(Course::Owe),

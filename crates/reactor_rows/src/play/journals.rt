@@ -41,7 +41,7 @@ type Row = (&'static str, Asked, Ran, &'static str);
 
 /// Scripts with the texts of their journals. The first has one connection with one record; in the second a connection is refused; the
 /// third is stopped by a notice behind the first closing; in the fourth a connection is closed as idle before its input is read.
-const JOURNALS: &[Row] = &[
+static JOURNALS: &[Row] = &[
     (
         "open 0\ndata 0 000000000000001600000004000000070000000100000002000000026869\nshut 0\n",
         PLAIN,
@@ -72,7 +72,7 @@ const JOURNALS: &[Row] = &[
 /// second time that its timer comes due where a record came between; a connection is refused; the notice comes before the second
 /// connection; a failure of the listener is none of a connection, which fails later; a connection that is left open is stopped; and
 /// nothing comes of nothing.
-const LINES: &[Row] = &[
+static LINES: &[Row] = &[
     (
         "open 0\ndata 0 000000000000001600000004\ndata 0 000000070000000100000002000000026869\nshut 0\n",
         PLAIN,

@@ -17,7 +17,7 @@ const SECOND: Handle = Handle(1);
 // A handle that was never opened.
 const UNKNOWN: Handle = Handle(7);
 
-const REMOVAL: &Run = &Run {
+static REMOVAL: &Run = &Run {
     name: "removal",
     steps: &[
         (Who::Root, Step::Register(AGAIN, Ok(FIRST))),
@@ -84,7 +84,7 @@ const TWO_STARTED: &[Entry<u64>] = &[
     Entry::Started { event: 4 },
 ];
 
-const TWO_UPCALLS: &Run = &Run {
+static TWO_UPCALLS: &Run = &Run {
     name: "two upcalls",
     steps: &[
         (Who::Root, Step::Register(KEEP, Ok(FIRST))),
@@ -128,7 +128,7 @@ fn two_upcalls_are_on_their_way_at_once(rt: HostRuntime) -> Result<(), Fail> {
     take(&rt, rt.alloc(), 2, &[0], &reports, TWO_UPCALLS)
 }
 
-const TIMERS: &Run = &Run {
+static TIMERS: &Run = &Run {
     name: "timers",
     steps: &[
         (Who::Root, Step::Register(KEEP, Ok(FIRST))),
@@ -144,7 +144,7 @@ const TIMERS: &Run = &Run {
     entries: None,
 };
 
-const SUSPENSIONS: &Run = &Run {
+static SUSPENSIONS: &Run = &Run {
     name: "suspensions",
     steps: &[
         (Who::Root, Step::Register(KEEP, Ok(FIRST))),
@@ -176,7 +176,7 @@ fn timers_and_suspensions_reach_the_pool(rt: HostRuntime) -> Result<(), Fail> {
     take(&rt, rt.alloc(), 2, &[0], &reports, SUSPENSIONS)
 }
 
-const POSTING: &Run = &Run {
+static POSTING: &Run = &Run {
     name: "posting",
     steps: &[
         (Who::Root, Step::Register(KEEP, Ok(FIRST))),
@@ -188,7 +188,7 @@ const POSTING: &Run = &Run {
     entries: None,
 };
 
-const STALE_POSTING: &Run = &Run {
+static STALE_POSTING: &Run = &Run {
     name: "stale posting",
     steps: &[
         (Who::Root, Step::Register(KEEP, Ok(FIRST))),
@@ -243,7 +243,7 @@ fn postings_reach_the_journal(rt: HostRuntime) -> Result<(), Fail> {
 }
 
 // Two upcalls are on their way, of which the first stops the pool. The second answers Again.
-const AGAIN_BEHIND_THE_END: &Run = &Run {
+static AGAIN_BEHIND_THE_END: &Run = &Run {
     name: "again behind the end",
     steps: &[
         (Who::Root, Step::Register(Role::Stops, Ok(FIRST))),
@@ -283,7 +283,7 @@ const AGAIN_BEHIND_THE_END: &Run = &Run {
 };
 
 // The second offers another handler.
-const OFFER_BEHIND_THE_END: &Run = &Run {
+static OFFER_BEHIND_THE_END: &Run = &Run {
     name: "offer behind the end",
     steps: &[
         (Who::Root, Step::Register(Role::Stops, Ok(FIRST))),
@@ -328,7 +328,7 @@ const OFFER_BEHIND_THE_END: &Run = &Run {
 };
 
 // The second asks for no more reports.
-const MASK_BEHIND_THE_END: &Run = &Run {
+static MASK_BEHIND_THE_END: &Run = &Run {
     name: "mask behind the end",
     steps: &[
         (Who::Root, Step::Register(Role::Stops, Ok(FIRST))),
@@ -380,7 +380,7 @@ fn an_upcall_is_settled_behind_the_end(rt: HostRuntime) -> Result<(), Fail> {
     Ok(())
 }
 
-const FULL: &Run = &Run {
+static FULL: &Run = &Run {
     name: "full",
     steps: &[
         (Who::Root, Step::Register(KEEP, Ok(FIRST))),

@@ -40,7 +40,7 @@ const ATTACH_FAILS: Fails = Fails {
 
 /// A wait fails; the listener is not attached; the first volume is not taken; a write fails at the registration of the acceptor, and one at
 /// its closing, where a wait failed before.
-const ROWS: &[Row] = &[
+static ROWS: &[Row] = &[
     (
         WAIT_FAILS,
         None,

@@ -55,7 +55,7 @@ type Row = (&'static str, Asked, Ending, &'static str);
 /// second time that its timer comes due where a record came between; a connection is refused; the notice comes before the second
 /// connection; a failure of the listener is none of a connection, which fails later; a connection that is left open is stopped; and
 /// nothing comes of nothing.
-const LINES: &[Row] = &[
+static LINES: &[Row] = &[
     (
         "open 0\ndata 0 000000000000001600000004\ndata 0 000000070000000100000002000000026869\nshut 0\n",
         PLAIN,
