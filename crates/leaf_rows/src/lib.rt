@@ -1,10 +1,8 @@
 //! Rows of the crates that no reactor is needed for: the record, the journal with its checker, its text and its reader, what a reactor
 //! keeps, the handler repository, the timer queues, the token and the ring, keepers of volumes, sources, sinks, ends and nets, scripts and
-//! their generator, sockets, streams, and the acceptor. They show what no contract says.
+//! their generator, sockets, and streams. They show what no contract says.
 #![tactic(auto)]
 
-#[cfg(test)]
-mod accepting;
 #[cfg(test)]
 mod check;
 #[cfg(test)]
