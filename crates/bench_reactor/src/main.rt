@@ -1,8 +1,9 @@
 //! What an event costs in the one-thread reactor, and in a pool of workers.
-//! Without an argument each serves few events and prints what came of them, and then the one-thread reactor the journal of a short run
-//! that makes every call; with `calls` that journal alone is printed. With `time` the one-thread reactor serves about 1,000,000 events and
-//! prints nanoseconds for each; with `long` about 1,000,000 of each kind with 4,000 handles, and with `longer` about 10,000,000, and prints
-//! how many entries there were. With `pool` pools of workers do, and with `pool time` they are timed.
+//! Without an argument the one-thread reactor serves few events and prints how many entries there were, and then the journal of a short
+//! run that makes every call; behind that pools serve few and print how each run ended. With `calls` that journal alone is printed. With
+//! `time` the one-thread reactor serves about 1,000,000 events and prints nanoseconds for each; with `long` about 1,000,000 of each kind
+//! with 4,000 handles, and with `longer` about 10,000,000, and prints how many entries there were. With `pool` pools alone run, and with
+//! `pool time` they are timed.
 #![tactic(auto)]
 
 mod one_thread;
