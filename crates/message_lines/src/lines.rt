@@ -79,7 +79,7 @@ pub fn open(alloc: Global) -> Result<(Lines, Side), AllocError>
 impl Lines {
     ghost use Rattle.message_lines.specs.Caller.{KeepsWhatCame, HasSent, AreSame};
 
-    /// Puts an item, and takes in what comes while there is no room for it. `Err` gives it back: there was no memory for a
+    /// Puts an item, and takes in what comes while there is no room for it. `Err` gives it back: there was no memory for the
     /// messages that may come. Nothing is lost.
     pub fn put<R: Wait>(&mut self, rt: &R, item: Item) -> Result<(), Item>
         ensures put { OnOk result (HasSent self.old item self.new) }
