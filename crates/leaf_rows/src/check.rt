@@ -1,4 +1,5 @@
 //! Journals that are checked, each with its first entry that is illegal.
+use crate::asserts::assert_in;
 use ev_types::{Answer, Handle, Kind, Mask};
 use journal_check::*;
 use reactor_journal::Entry;
@@ -324,10 +325,7 @@ fn place(
 #[test]
 fn journals_are_legal_up_to_a_place(rt: HostRuntime) -> Result<(), Fail> {
     for (row, (journal, most, at)) in JOURNALS.iter().enumerate() {
-        assert!(rt;
-            place(rt.alloc(), journal, *most, None)? == *at,
-            "row {row}"
-        );
+        assert_in(&rt, row, place(rt.alloc(), journal, *most, None)? == *at);
     }
     laws::refused_at_the_least::<u64>();
     Ok(())
@@ -337,9 +335,10 @@ fn journals_are_legal_up_to_a_place(rt: HostRuntime) -> Result<(), Fail> {
 fn one_changed_entry_is_found(rt: HostRuntime) -> Result<(), Fail> {
     for (row, (journal, most, changed, step, at)) in CHANGED.iter().enumerate() {
         let change = Some((*changed, *step));
-        assert!(rt;
+        assert_in(
+            &rt,
+            row,
             place(rt.alloc(), journal, *most, change)? == Some(*at),
-            "row {row}"
         );
     }
     Ok(())

@@ -1,4 +1,5 @@
 //! Rows of the net, the ends and the host that play a script. They show what no contract says.
+use crate::asserts::assert_same;
 use ev_base::{Got, Host, ListenRefused, Net, PeerEnd, Sent, Taken, Waited};
 use ev_types::{Handle, Mask};
 use script_net::{ScriptEnd, ScriptHost, ScriptNet};
@@ -36,9 +37,10 @@ fn moments_pass_and_named_waits_fail(rt: HostRuntime) -> Result<(), Fail> {
     net.fail_waits(named);
     let text = waits_text(rt.alloc(), &mut net, 5);
     drop(net);
-    assert_eq!(rt;
+    assert_same(
+        &rt,
         text?.as_str(),
-        "quiet 0; failed; quiet 5; quiet 7; over 7; "
+        "quiet 0; failed; quiet 5; quiet 7; over 7; ",
     );
     Ok(())
 }
@@ -86,7 +88,7 @@ fn a_wait_gives_256_reports_and_the_next_the_others(rt: HostRuntime) -> Result<(
     let text = waits_text(rt.alloc(), &mut net, 3);
     drop(net);
     drop(listener);
-    assert_eq!(rt; text?.as_str(), "256 at 0; 44 at 0; over 0; ");
+    assert_same(&rt, text?.as_str(), "256 at 0; 44 at 0; over 0; ");
     Ok(())
 }
 
@@ -94,7 +96,7 @@ fn a_wait_gives_256_reports_and_the_next_the_others(rt: HostRuntime) -> Result<(
 fn reads(rt: &impl Abort, end: &mut ScriptEnd, answers: &[Got], into: &mut [u8; 8]) {
     for want in answers {
         assert!(rt; !end.is_listener());
-        assert_eq!(rt; end.read(into), *want);
+        assert_same(rt, end.read(into), *want);
     }
 }
 
@@ -104,10 +106,10 @@ fn says_hi(rt: &impl Abort, end: &mut ScriptEnd) {
     reads(rt, end, &[Got::Bytes(2), Got::Pause, Got::Over], &mut buf);
     assert!(rt; buf.starts_with(b"hi"));
     assert!(rt; !end.is_listener());
-    assert_eq!(rt; end.write(b"four"), Sent::Bytes(3));
+    assert_same(rt, end.write(b"four"), Sent::Bytes(3));
     assert!(rt; !end.is_listener());
-    assert_eq!(rt; end.write(b"more"), Sent::Pause);
-    assert_eq!(rt; end.held(), b"fou".as_slice());
+    assert_same(rt, end.write(b"more"), Sent::Pause);
+    assert_same(rt, end.held(), b"fou".as_slice());
 }
 
 /// Whether a host listens, and the first connection says hi.

@@ -1,6 +1,7 @@
 //! Worked records: what they are read as, whole and in pieces, and what is written. The bytes and the values
 //! are those of the format's description, and none was taken from the program's own output.
 
+use crate::asserts::assert_in;
 use cdr_record::*;
 use std::alloc::Global;
 use std::test::Fail;
@@ -178,7 +179,7 @@ fn is_read(alloc: Global, row: &Row) -> Result<bool, Fail> {
 #[test]
 fn records_are_read(rt: HostRuntime) -> Result<(), Fail> {
     for (at, row) in READ.iter().enumerate() {
-        assert!(rt; is_read(rt.alloc(), row)?, "row {at}");
+        assert_in(&rt, at, is_read(rt.alloc(), row)?);
     }
     Ok(())
 }
@@ -186,7 +187,7 @@ fn records_are_read(rt: HostRuntime) -> Result<(), Fail> {
 #[test]
 fn bad_records_are_told(rt: HostRuntime) -> Result<(), Fail> {
     for (at, row) in BAD.iter().enumerate() {
-        assert!(rt; is_read(rt.alloc(), row)?, "row {at}");
+        assert_in(&rt, at, is_read(rt.alloc(), row)?);
     }
     Ok(())
 }
@@ -214,9 +215,10 @@ fn are_read_by_bytes(decoder: &mut Decoder) -> Result<bool, Fail> {
 #[test]
 fn pieces_are_read(rt: HostRuntime) -> Result<(), Fail> {
     for cut in 1..30 {
-        assert!(rt;
+        assert_in(
+            &rt,
+            cut,
             is_read_in_two(rt.alloc(), &BASE[..cut], &BASE[cut..])?,
-            "cut at {cut}"
         );
     }
     let mut decoder = Decoder::new(rt.alloc());

@@ -1,5 +1,6 @@
 ghost use Rattle.std.specs.Prelude.{◌≡◌};
 
+use crate::asserts::assert_same;
 use ev_types::Handle;
 use handler_repo::*;
 use std::test::Fail;
@@ -32,7 +33,7 @@ fn a_handler_leaves_and_comes_back(rt: HostRuntime) -> Result<(), Fail> {
     repo.drop_out(Handle(0));
     let fourth = repo.take(Handle(0)).map_or(0, number);
     repo.close();
-    assert_eq!(rt; (first, second, third, fourth), (7, 0, 9, 0));
+    assert_same(&rt, (first, second, third, fourth), (7, 0, 9, 0));
     Ok(())
 }
 
@@ -57,6 +58,6 @@ fn a_handler_leaves_its_cell_for_good(rt: HostRuntime) -> Result<(), Fail> {
     };
     let last = number(repo.drop_out(Handle(0), again));
     repo.close();
-    assert_eq!(rt; last, 8);
+    assert_same(&rt, last, 8);
     Ok(())
 }

@@ -1,4 +1,5 @@
 //! Rows of the scripts of network events: which texts are scripts, and which are not.
+use crate::asserts::assert_same_in;
 use script_text::{ScriptRefused, parse_script};
 
 /// A script with each kind of line: connection 0 comes and brings two pieces at moments 0 and 5; a moment passes; it is shut, and the
@@ -88,6 +89,6 @@ fn names_the_first_bad_line(rt: HostRuntime) {
             Err(ScriptRefused::BadScript { line }) => Some(line),
             Err(ScriptRefused::NoMemory) => None,
         };
-        assert_eq!(rt; found, Some(bad), "{text}");
+        assert_same_in(&rt, text, found, Some(bad));
     }
 }

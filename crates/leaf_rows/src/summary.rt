@@ -1,3 +1,4 @@
+use crate::asserts::assert_same;
 use ev_types::{Handle, Kind, Upcall};
 use reactor_summary::*;
 use std::test::Fail;
@@ -13,6 +14,6 @@ fn laws_at_a_note_type(rt: HostRuntime) -> Result<(), Fail> {
         upcall: Upcall::Notice { kind: Kind::Read },
         due: None,
     };
-    assert_eq!(rt; waiting.handle, Handle(1));
+    assert_same(&rt, waiting.handle, Handle(1));
     Ok(())
 }

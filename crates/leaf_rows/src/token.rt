@@ -1,4 +1,5 @@
 //! A token that keeps a log which two threads write, and one that keeps a desk whose events begin and end.
+use crate::asserts::assert_same;
 use leader_token::Token;
 use std::test::*;
 use token_rows::{Desk, begin, settle, two_writers};
@@ -6,10 +7,10 @@ use token_rows::{Desk, begin, settle, two_writers};
 #[test]
 fn two_writers_add_two_thousand(rt: HostRuntime) -> Result<(), Fail> {
     let log = two_writers(&rt, rt.alloc()).ok_or("no memory")?;
-    assert_eq!(rt; log.entries.len(), 2000);
+    assert_same(&rt, log.entries.len(), 2000);
     for by in 0..2 {
         let own = log.entries.iter().filter(|entry| entry.by == by);
-        assert_eq!(rt; own.count(), 1000);
+        assert_same(&rt, own.count(), 1000);
         let mut own = log
             .entries
             .iter()
@@ -43,7 +44,7 @@ fn passes_begin_and_settle_events(rt: HostRuntime) -> Result<(), Fail> {
     }
     token.join(&mut root, other);
     let desk = token.close(root);
-    assert_eq!(rt; desk.notes.len(), 3);
-    assert_eq!(rt; desk.faults, 0);
+    assert_same(&rt, desk.notes.len(), 3);
+    assert_same(&rt, desk.faults, 0);
     Ok(())
 }

@@ -1,5 +1,6 @@
 //! Rows of the words of the commands: lines of words, and the commands that they call. That there is an answer where there is memory no
 //! contract says.
+use crate::asserts::{assert_same, assert_same_in};
 use command_words::Command;
 use std::alloc::{AllocError, Global};
 use std::test::Fail;
@@ -58,12 +59,12 @@ static LINES: [(&str, &str); 26] = [
 #[test]
 fn lines_of_words_call_their_commands(rt: HostRuntime) -> Result<(), Fail> {
     let none: Vec<String> = Vec::new(rt.alloc());
-    assert_eq!(rt; Command::of(rt.alloc(), &none)?, None);
+    assert_same(&rt, Command::of(rt.alloc(), &none)?, None);
     for &(line, expected) in &LINES {
         let words = words_of(rt.alloc(), line)?;
         let command = Command::of(rt.alloc(), &words)?;
         let text = format!(in rt.alloc(); "{command:?}")?;
-        assert_eq!(rt; text.as_str(), expected, "of {line}");
+        assert_same_in(&rt, line, text.as_str(), expected);
     }
     Ok(())
 }

@@ -7,6 +7,7 @@ ghost use Rattle.demux_mio.specs.Ends.{mio_end_facts};
 ghost use Rattle.demux_mio.specs.Nets.{mio_net_facts};
 ghost use Rattle.core_loop.specs.Idle.{IsIdle};
 
+use crate::asserts::assert_same;
 use acceptor::{Acceptor, ServerHandler};
 use core_loop::{RunEnd, close, register, run};
 use demux_mio::{MioEnd, MioHost, MioNet};
@@ -132,10 +133,11 @@ fn a_connection_is_served(rt: HostRuntime) -> Result<(), Fail> {
     let end = run(&rt, &mut core, Some(10_000), Some(1));
     let left = finish(core);
     assert!(rt; sent.is_ok());
-    assert_eq!(rt; end, RunEnd::Enough);
-    assert_eq!(rt;
+    assert_same(&rt, end, RunEnd::Enough);
+    assert_same(
+        &rt,
         left.output.bytes(),
-        b"0 1,2 7 LM_DEBUG: hi\n0 closed: end\n".as_slice()
+        b"0 1,2 7 LM_DEBUG: hi\n0 closed: end\n".as_slice(),
     );
     assert!(rt; check(alloc, left.journal.as_slice(), MOST).is_ok());
     Ok(())

@@ -4,6 +4,7 @@ ghost use Rattle.demux.specs.PlayNet.{do_not_fall, are_bounded};
 ghost use Rattle.core_loop.specs.Idle.{IsIdle, IsOut};
 ghost use Rattle.core_rows.specs.Play.{play_rows};
 
+use crate::asserts::assert_in;
 use core_rows::*;
 use demux::PlayNet;
 use ev_base::Report;
@@ -349,6 +350,6 @@ pub(crate) fn take(rt: &impl Abort, core: PlayRows, run: &Run)
     requires { IsIdle play_rows core }
 {
     let (at, is_the_end) = taken(core, run);
-    assert!(rt; at == run.steps.len(), "step {at}");
+    assert_in(rt, at, at == run.steps.len());
     assert!(rt; is_the_end, "other entries");
 }

@@ -1,6 +1,7 @@
 //! In how many writes lines are written.
 ghost use Rattle.ev_base.specs.MemSink.{mem_sink_facts};
 
+use crate::asserts::{assert_in, assert_same};
 use crate::running::{RECORD, room_for, run_line, volumes, whole};
 use cdr_record::{Bytes, LogRecord, RecordList, Records};
 use ev_base::{MemSink, MemSource, Sink, Wrote};
@@ -177,7 +178,7 @@ static NOTED: &[(Noted, u64, &[u8])] = &[
 #[test]
 fn a_note_is_written_at_once(rt: HostRuntime) -> Result<(), Fail> {
     for (at, row) in NOTED.iter().enumerate() {
-        assert!(rt; gives_lines(rt.alloc(), *row)?, "row {at}");
+        assert_in(&rt, at, gives_lines(rt.alloc(), *row)?);
     }
     Ok(())
 }
@@ -216,7 +217,7 @@ fn a_record_alone_is_written_at_once(rt: HostRuntime) -> Result<(), Fail> {
     let beside = LINE.len() - 2;
     for (byte, count, width) in ALONE {
         let line = line_alone(rt.alloc(), *byte, *count)?;
-        assert_eq!(rt; line, (1, beside + count * width));
+        assert_same(&rt, line, (1, beside + count * width));
     }
     Ok(())
 }
@@ -268,6 +269,6 @@ fn run_hundred<R: Threads + Wait + Copy + Send + Sync + 'static>(
 fn the_lines_of_a_piece_are_written_together(rt: HostRuntime) -> Result<(), Fail> {
     // 3,000 bytes are one piece: one write for its 100 lines of 21 bytes, and one for the closing line of 14
     let left = run_hundred(&rt, rt.alloc())?;
-    assert_eq!(rt; left, (0, 2, 100 * 21 + 14));
+    assert_same(&rt, left, (0, 2, 100 * 21 + 14));
     Ok(())
 }

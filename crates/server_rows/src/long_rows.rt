@@ -1,6 +1,7 @@
 //! Long inputs of `one`: volumes that are handed over, and a write that fails early.
 ghost use Rattle.std.specs.Prelude.{None, ◌==◌, ◌&&◌, ◌-◌, ◌^◌};
 
+use crate::asserts::assert_same;
 use crate::running::{Left, RECORD, room, room_for, run_line, volumes};
 use ev_base::{Got, MemSink, Source};
 use reactor_model::check;
@@ -65,10 +66,10 @@ fn run_long<R: Threads + Wait + Copy + Send + Sync + 'static>(
 
 /// Sees that a journal was handed over to its volumes.
 fn see_handed_over(rt: &impl Abort, left: &Long) {
-    assert_eq!(*rt; left.status, 0);
+    assert_same(rt, left.status, 0);
     let taken = left.volumes.entries().len();
     assert!(*rt; taken >= 65_536);
-    assert_eq!(*rt; taken as u64, left.first);
+    assert_same(rt, taken as u64, left.first);
 }
 
 /// The number of the first line of a text that is not that of the record.
@@ -80,9 +81,9 @@ fn other_line(written: &[u8]) -> Option<usize> {
 
 /// Sees the lines of 69,905 records, and that of a closing inside the next.
 fn see_long_lines(rt: &impl Abort, written: &[u8]) {
-    assert_eq!(*rt; other_line(written), Some(69_905));
+    assert_same(rt, other_line(written), Some(69_905));
     let closing = written.get(69_905 * 21..);
-    assert_eq!(*rt; closing, Some(b"0 closed: partial 1\n".as_slice()));
+    assert_same(rt, closing, Some(b"0 closed: partial 1\n".as_slice()));
 }
 
 #[test]
@@ -97,12 +98,12 @@ fn a_long_journal_is_handed_over(rt: HostRuntime) -> Result<(), Fail> {
 
 /// Sees that a run was halted as its first volume was refused.
 fn see_halted(rt: &impl Abort, alloc: Global, left: &Long) {
-    assert_eq!(*rt; (left.status, left.first), (12, 0));
+    assert_same(rt, (left.status, left.first), (12, 0));
     // the journal grows by two entries a byte, and holds 65,536 once the last upcall was settled
     let text = left.output.bytes();
     assert!(*rt; text.ends_with(b"0 1,2 7 LM_DEBUG: hi\n0 closed: stopped\n"));
-    assert_eq!(*rt; text.len(), 21 * 1_092 + 18);
-    assert_eq!(*rt; check(alloc, left.journal.as_slice(), 1), Ok(()));
+    assert_same(rt, text.len(), 21 * 1_092 + 18);
+    assert_same(rt, check(alloc, left.journal.as_slice(), 1), Ok(()));
 }
 
 #[test]
@@ -130,6 +131,6 @@ fn run_broken<R: Threads + Wait + Copy + Send + Sync + 'static>(
 fn a_failed_write_halts_a_long_run(rt: HostRuntime) -> Result<(), Fail> {
     // nothing is read behind the record whose line could not be written
     let left = run_broken(&rt, rt.alloc())?;
-    assert_eq!(rt; left, (4, 0, (1 << 40) - 30, true));
+    assert_same(&rt, left, (4, 0, (1 << 40) - 30, true));
     Ok(())
 }

@@ -1,4 +1,5 @@
 //! Long runs of several workers.
+use crate::asserts::{assert_in, assert_same, assert_same_in};
 use crate::running::{Left, Ran, room_for, run_line, volumes, whole};
 use ev_base::{MemSink, MemSource};
 use journal_check::check;
@@ -31,8 +32,8 @@ fn run_many<R: Threads + Wait + Copy + Send + Sync + 'static>(
 
 /// Sees that a journal was handed over to its volumes.
 fn see_handed_over(rt: &impl Abort, alloc: Global, left: &Kept) {
-    assert_eq!(*rt; left.status, 0);
-    assert_eq!(*rt; count_lines(left.output.bytes()), 10_080);
+    assert_same(rt, left.status, 0);
+    assert_same(rt, count_lines(left.output.bytes()), 10_080);
     let taken = left.volumes.entries();
     assert!(*rt; !taken.is_empty());
     assert!(*rt; taken.len() + left.journal.as_slice().len() > 100_000);
@@ -50,7 +51,7 @@ fn a_long_journal_is_handed_over(rt: HostRuntime) -> Result<(), Fail> {
 #[test]
 fn a_refused_volume_halts_a_run(rt: HostRuntime) -> Result<(), Fail> {
     let status = run_many(&rt, rt.alloc(), &[0])?.status;
-    assert_eq!(rt; status, 12);
+    assert_same(&rt, status, 12);
     Ok(())
 }
 
@@ -64,7 +65,7 @@ fn grouped<R: Abort + Threads + Wait + Copy + Send + Sync + 'static>(
     let output = room_for(alloc, 1 << 19, None)?;
     let left = run_line(rt, alloc, words, input, output, volumes(alloc, &[])?)?;
     let Ran { status, output, .. } = left.ran();
-    assert_eq!(*rt; status, 0, "{words}");
+    assert_same_in(rt, words, status, 0);
     Ok(output)
 }
 
@@ -76,7 +77,7 @@ fn see_text<R: Abort + Threads + Wait + Copy + Send + Sync + 'static>(
     text: &[u8],
 ) -> Result<(), Fail> {
     let written = grouped(rt, alloc, words)?;
-    assert!(*rt; text == written.bytes(), "{words}");
+    assert_in(rt, words, text == written.bytes());
     Ok(())
 }
 
@@ -106,6 +107,6 @@ fn grouped_lines_are_one_text(rt: HostRuntime) -> Result<(), Fail> {
     let seen = see_texts(&rt, alloc, first.bytes());
     let lines = count_lines(first.bytes());
     drop(first);
-    assert_eq!(rt; lines, 5_040);
+    assert_same(&rt, lines, 5_040);
     seen
 }

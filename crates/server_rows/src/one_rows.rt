@@ -1,4 +1,5 @@
 //! What `one` writes, by its input, with the status and the journal.
+use crate::asserts::assert_same;
 use crate::running::{
     LINES, Left, RECORD, Ran, long_record, room, run_line, run_short, run_words, see, source,
     volumes,
@@ -309,7 +310,7 @@ fn one_record_has_its_journal(rt: HostRuntime) -> Result<(), Fail> {
     let (first, taken) = (left.first, left.volumes.entries().len());
     let seen = see_entries(&rt, alloc, left.journal.as_slice());
     drop(left);
-    assert_eq!(rt; (first, taken), (0, 0));
+    assert_same(&rt, (first, taken), (0, 0));
     seen
 }
 
@@ -359,7 +360,7 @@ fn see_refused<R: Abort + Threads + Wait + Copy + Send + Sync + 'static>(
     let output = room(alloc, None)?;
     let left = run_idle(rt, alloc, &words, output, volumes(alloc, &[])?);
     drop(words);
-    assert_eq!(*rt; left, (1, 0, 0));
+    assert_same(rt, left, (1, 0, 0));
     Ok(())
 }
 

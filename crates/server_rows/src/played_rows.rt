@@ -1,4 +1,5 @@
 //! Words that run the server over scripts and over hosts that play one: how each run ends, and what it writes.
+use crate::asserts::{assert_in, assert_same_in};
 use crate::running::{LINES, Ran, room, run_short, run_words, see, source, volumes, words_of};
 use script_net::ScriptHost;
 use script_text::parse_script;
@@ -117,9 +118,9 @@ fn see_hosted<R: Abort + Threads + Wait + Copy + Send + Sync + 'static>(
     see(rt, words, &ran, (status, 0), lines);
     let (has_net, count) = (ran.has_net, ran.entries);
     drop(ran);
-    assert!(*rt; has_net, "{words}");
+    assert_in(rt, words, has_net);
     if let Some(entries) = entries {
-        assert_eq!(*rt; count, entries, "{words}");
+        assert_same_in(rt, words, count, entries);
     }
     Ok(())
 }
@@ -190,7 +191,7 @@ fn see_summary<R: Abort + Threads + Wait + Copy + Send + Sync + 'static>(
     see(rt, words, &ran, (0, 0), summary.as_bytes());
     let first = ran.first;
     drop(ran);
-    assert_eq!(*rt; first, 0, "{words}");
+    assert_same_in(rt, words, first, 0);
     Ok(())
 }
 

@@ -1,5 +1,6 @@
 //! Runs of the top call. A row gets what a run left without the clauses of that call, and mostly in the few values that it looks at. Rows share their
 //! types of source, sink and volumes where they can, since the call is built anew for each choice of them.
+use crate::asserts::assert_in;
 use ev_base::{MemSink, MemSource, Sink, Source};
 use log_handler::ServerNote;
 use logging_server::logd_main;
@@ -123,7 +124,7 @@ fn is_so(ran: &Ran, (status, at): (u8, u64), written: &[u8]) -> bool {
 
 /// Sees that a run ended with this status and its number, and wrote this.
 pub(crate) fn see(rt: &impl Abort, row: &str, ran: &Ran, ending: (u8, u64), written: &[u8]) {
-    assert!(*rt; is_so(ran, ending, written), "{row}");
+    assert_in(rt, row, is_so(ran, ending, written));
 }
 
 /// The words of a line, which are parted by one space.

@@ -1,4 +1,5 @@
 //! The program's top call over sockets, beside a client on a thread of its own.
+use crate::asserts::assert_same;
 use demux_mio::MioHost;
 use ev_base::{MemSink, SteadySource};
 use logging_server::logd_main;
@@ -57,10 +58,11 @@ fn a_connection_is_served(rt: HostRuntime) -> Result<(), Fail> {
         };
         let (served, sent) = thread::join(&rt, serve, || send(&rt, port));
         assert!(rt; sent);
-        assert_eq!(rt; served.status, 0);
-        assert_eq!(rt;
+        assert_same(&rt, served.status, 0);
+        assert_same(
+            &rt,
             served.output.bytes(),
-            b"0 1,2 7 LM_DEBUG: hi\n0 closed: end\n".as_slice()
+            b"0 1,2 7 LM_DEBUG: hi\n0 closed: end\n".as_slice(),
         );
     }
     Ok(())

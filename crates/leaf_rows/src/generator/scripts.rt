@@ -2,6 +2,7 @@
 
 ghost use Rattle.std.specs.Prelude.{◌≤◌};
 
+use crate::asserts::assert_same;
 use cdr_record::Bytes;
 use script_generator::gen_script;
 use script_text::parse_script;
@@ -28,7 +29,7 @@ fn generated(alloc: Global, n: u64, seed: u64) -> Result<Bytes, Fail>
 fn has_the_lines_of_the_row(rt: HostRuntime) -> Result<(), Fail> {
     let text = generated(rt.alloc(), 1, 0)?;
     let text = text.as_slice();
-    assert_eq!(rt; text.len(), 14_849);
+    assert_same(&rt, text.len(), 14_849);
     assert!(rt; text.starts_with(BEGINNING));
     assert!(rt; text.ends_with(ENDING));
     Ok(())

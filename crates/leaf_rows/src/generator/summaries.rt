@@ -1,5 +1,6 @@
 //! Summaries.
 
+use crate::asserts::assert_same;
 use cdr_record::{Bytes, LogRecord, Records};
 use ev_base::MemSink;
 use ev_types::{Answer, Handle, Mask};
@@ -95,7 +96,7 @@ fn counts_each_note(rt: HostRuntime) -> Result<(), Fail> {
         bytes: 100,
         lines: 5,
     };
-    assert_eq!(rt; Summary::of(&entries), expected);
+    assert_same(&rt, Summary::of(&entries), expected);
     Ok(())
 }
 
@@ -105,7 +106,7 @@ fn tells_a_number_too_large_as_the_largest(rt: HostRuntime) -> Result<(), Fail> 
     let mut entries = Vec::new(alloc);
     entries.push(piece(alloc, u64::MAX, 0)?)?;
     entries.push(piece(alloc, 1, 0)?)?;
-    assert_eq!(rt; Summary::of(&entries).bytes, u64::MAX);
+    assert_same(&rt, Summary::of(&entries).bytes, u64::MAX);
     Ok(())
 }
 
@@ -120,7 +121,7 @@ fn is_written_in_four_lines(rt: HostRuntime) -> Result<(), Fail> {
     let sink = MemSink::new(rt.alloc(), 4096, None).map_err(|_| Fail::from("no room"))?;
     let (sink, whole) = summary.write(sink);
     assert!(rt; whole);
-    assert_eq!(rt; sink.bytes(), FOUR_LINES);
+    assert_same(&rt, sink.bytes(), FOUR_LINES);
     let broken = MemSink::new(rt.alloc(), 4096, Some(20)).map_err(|_| Fail::from("no room"))?;
     let (_, whole) = summary.write(broken);
     assert!(rt; !whole);

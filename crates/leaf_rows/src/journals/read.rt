@@ -1,4 +1,5 @@
 //! Texts of journals that are read, and texts that are none with their first bad line.
+use crate::asserts::assert_in;
 use ev_base::MemSink;
 use journal_reader::{JournalRefused, read_journal};
 use journal_text::write_journal;
@@ -213,9 +214,10 @@ fn is_written_again(alloc: Global, number: u64, text: &[u8]) -> Result<bool, Fai
 #[test]
 fn journals_are_written_as_they_were_read(rt: HostRuntime) -> Result<(), Fail> {
     for (most, text) in JOURNALS {
-        assert!(rt;
+        assert_in(
+            &rt,
+            text,
             is_written_again(rt.alloc(), *most, text.as_bytes())?,
-            "in {text:?}"
         );
     }
     Ok(())
@@ -242,7 +244,7 @@ fn are_fronts_bad(alloc: Global, text: &[u8]) -> bool {
 #[test]
 fn a_front_is_bad_at_its_unfinished_line(rt: HostRuntime) -> Result<(), Fail> {
     for (_, text) in JOURNALS {
-        assert!(rt; are_fronts_bad(rt.alloc(), text.as_bytes()), "in {text:?}");
+        assert_in(&rt, text, are_fronts_bad(rt.alloc(), text.as_bytes()));
     }
     Ok(())
 }
@@ -251,10 +253,7 @@ fn a_front_is_bad_at_its_unfinished_line(rt: HostRuntime) -> Result<(), Fail> {
 fn the_first_bad_line_is_named(rt: HostRuntime) -> Result<(), Fail> {
     for texts in [FIRST_LINES, ENTRIES, PIECES] {
         for (text, line) in texts {
-            assert!(rt;
-                bad_line(rt.alloc(), text.as_bytes()) == *line,
-                "in {text:?}"
-            );
+            assert_in(&rt, text, bad_line(rt.alloc(), text.as_bytes()) == *line);
         }
     }
     Ok(())
@@ -279,7 +278,7 @@ fn bad_line_of(alloc: Global, digits: usize) -> Result<u64, Fail> {
 #[test]
 fn messages_have_a_limit(rt: HostRuntime) -> Result<(), Fail> {
     for (digits, line) in [(131_072, 0), (131_073, 2), (131_074, 2)] {
-        assert!(rt; bad_line_of(rt.alloc(), digits)? == line, "{digits} digits");
+        assert_in(&rt, digits, bad_line_of(rt.alloc(), digits)? == line);
     }
     Ok(())
 }

@@ -1,4 +1,5 @@
 //! Journals that are written as their entries are appended.
+use crate::asserts::assert_in;
 use cdr_record::{Bytes, LogRecord, Records};
 use ev_base::MemSink;
 use ev_types::{Answer, Handle, Kind, Mask};
@@ -230,7 +231,7 @@ static LINES: &[(Step, &[u8])] = &[
 #[test]
 fn a_line_for_each_entry(rt: HostRuntime) -> Result<(), Fail> {
     for (at, (step, text)) in LINES.iter().enumerate() {
-        assert!(rt; writes(rt.alloc(), 64, &[*step], text, false)?, "row {at}");
+        assert_in(&rt, at, writes(rt.alloc(), 64, &[*step], text, false)?);
     }
     Ok(())
 }

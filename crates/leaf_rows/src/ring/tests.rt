@@ -3,6 +3,7 @@ ghost use Rattle.std.specs.Prelude.{◌≡◌};
 ghost use Rattle.notify_ring.specs.Words.{id_of, poster_ring, poster_view, drainer_ring};
 ghost use Rattle.leaf_rows.specs.Rows.{HasKinOf};
 
+use crate::asserts::assert_same;
 use crate::ring::rows::{Outcome, four_posters};
 use ev_types::{Handle, Kind};
 use notify_ring::{Drainer, Full, Poster, Posting, Ring};
@@ -71,7 +72,7 @@ fn a_ring_holds_256_postings(rt: HostRuntime) -> Result<(), Fail> {
         ..posting(257)
     };
     comes(&rt, &ring, &mut drainer, Some(last));
-    assert_eq!(rt; ring.close(root, drainer), 258);
+    assert_same(&rt, ring.close(root, drainer), 258);
     Ok(())
 }
 
@@ -93,7 +94,7 @@ fn posts(rt: &impl Abort, ring: &Ring, poster: &mut Poster, handle: u64, wanted:
     ensures kin { HasKinOf (poster_view poster.old) (poster_view poster.new) }
 {
     assert!(rt; poster.made() < 1_000);
-    assert_eq!(rt; ring.post(poster, Handle(handle), Kind::Read), wanted);
+    assert_same(rt, ring.post(poster, Handle(handle), Kind::Read), wanted);
 }
 
 /// What the next look gives.
@@ -101,5 +102,5 @@ fn comes(rt: &impl Abort, ring: &Ring, drainer: &mut Drainer, wanted: Option<Pos
     requires ring { drainer_ring drainer.old ≡ id_of ring.now }
     ensures ring { drainer_ring drainer.new ≡ drainer_ring drainer.old }
 {
-    assert_eq!(rt; ring.next(drainer), wanted);
+    assert_same(rt, ring.next(drainer), wanted);
 }

@@ -1,5 +1,6 @@
 //! Steps of rows, which are taken one behind the other.
 
+use crate::asserts::assert_in;
 use crate::sockets::courses::Course;
 use crate::sockets::stand::Stand;
 use ev_base::{Got, Sent, Taken};
@@ -100,6 +101,6 @@ pub fn take(
     steps: &[Step],
 ) -> Result<(), Fail> {
     let at = count_taken_alone(host, room, steps)?;
-    assert!(rt; at == steps.len(), "step {at}");
+    assert_in(rt, at, at == steps.len());
     Ok(())
 }

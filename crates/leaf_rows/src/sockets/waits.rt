@@ -1,5 +1,6 @@
 //! What ends a wait, and what fails.
 
+use crate::asserts::assert_same;
 use crate::sockets::courses::Course;
 use crate::sockets::stand::{READ, Stand};
 use crate::sockets::steps::{Step, take};
@@ -166,7 +167,7 @@ fn no_wake_is_lost(rt: HostRuntime) -> Result<(), Fail> {
     let wakes = wakes(&rt, rt.alloc(), &mut stand, waker);
     drop(stand);
     assert!(rt; is_watched);
-    assert_eq!(rt; wakes?, (WAKES, true));
+    assert_same(&rt, wakes?, (WAKES, true));
     Ok(())
 }
 

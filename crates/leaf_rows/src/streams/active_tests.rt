@@ -1,6 +1,7 @@
 //! Active tasks: worked examples.
 ghost use Rattle.std.specs.Prelude.{◌≡◌};
 
+use crate::asserts::assert_same;
 use ev_types::NoMemory;
 use message_block::{Block, Message};
 use module_stream::{ActiveTask, Messages, PassTask, Task};
@@ -77,9 +78,9 @@ fn through<T: Task + Send + 'static, R: Threads + Wait + Copy + Send + 'static>(
 #[test]
 fn two_hundred_come_back_in_order(rt: HostRuntime) -> Result<(), Fail> {
     let numbers = through(&rt, rt.alloc(), PassTask::new(rt.alloc()), 200)?;
-    assert_eq!(rt; numbers.len(), 200);
+    assert_same(&rt, numbers.len(), 200);
     for (place, number) in numbers.iter().enumerate() {
-        assert_eq!(rt; *number as usize, place);
+        assert_same(&rt, *number as usize, place);
     }
     Ok(())
 }
@@ -125,15 +126,16 @@ fn messages_that_are_put_together_come_back(rt: HostRuntime) -> Result<(), Fail>
     let mut numbers = Vec::new(rt.alloc());
     let ended = through_together(&rt, rt.alloc(), &mut numbers);
     ended?;
-    assert_eq!(rt; numbers.as_slice(), [0, 1, 2].as_slice());
+    assert_same(&rt, numbers.as_slice(), [0, 1, 2].as_slice());
     Ok(())
 }
 
 #[test]
 fn nothing_comes_of_nothing(rt: HostRuntime) -> Result<(), Fail> {
-    assert_eq!(rt;
+    assert_same(
+        &rt,
         through(&rt, rt.alloc(), PassTask::new(rt.alloc()), 0)?.len(),
-        0
+        0,
     );
     Ok(())
 }
@@ -224,6 +226,6 @@ fn task_runs_beside(rt: HostRuntime) -> Result<(), Fail> {
     let ended = set_while_it_runs(&rt, rt.alloc(), task, &flag, &mut numbers);
     ended?;
     assert!(rt; seen.load(Ordering::SeqCst));
-    assert_eq!(rt; numbers.as_slice(), [7].as_slice());
+    assert_same(&rt, numbers.as_slice(), [7].as_slice());
     Ok(())
 }

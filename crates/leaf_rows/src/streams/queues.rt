@@ -2,6 +2,7 @@
 
 ghost use Rattle.std.specs.Prelude.{◌≡◌, ◌≤◌, [], length, IfOk};
 
+use crate::asserts::assert_same;
 use ev_types::NoMemory;
 use message_block::*;
 use std::alloc::Global;
@@ -66,18 +67,19 @@ fn fill_and_empty(
     queue: &mut MessageQueue,
 ) -> Result<(), NoMemory> {
     for bytes in [b"first.", b"second"] {
-        assert_eq!(rt; put_text(alloc, queue, bytes)?, None);
+        assert_same(rt, put_text(alloc, queue, bytes)?, None);
     }
-    assert_eq!(rt;
+    assert_same(
+        rt,
         put_text(alloc, queue, b"third.")?,
-        Some((6, EnqueueRefused::Full { bytes: 12 }))
+        Some((6, EnqueueRefused::Full { bytes: 12 })),
     );
     for wanted in [
         Ok((0, Some(b'f'), false)),
         Ok((0, Some(b's'), true)),
         Err(DequeueRefused::Empty),
     ] {
-        assert_eq!(rt; take(queue), wanted);
+        assert_same(rt, take(queue), wanted);
     }
     Ok(())
 }
@@ -85,11 +87,12 @@ fn fill_and_empty(
 /// Makes a queue refuse messages, and take them again.
 fn stop_and_go(rt: &impl Abort, alloc: Global, queue: &mut MessageQueue) -> Result<(), NoMemory> {
     queue.deactivate();
-    assert_eq!(rt;
+    assert_same(
+        rt,
         put_text(alloc, queue, b"fourth")?,
-        Some((6, EnqueueRefused::Inactive))
+        Some((6, EnqueueRefused::Inactive)),
     );
-    assert_eq!(rt; take(queue), Err(DequeueRefused::Inactive));
+    assert_same(rt, take(queue), Err(DequeueRefused::Inactive));
     queue.activate();
     let message = message_of(alloc, b"fourth", 0)?;
     assert!(rt; queue.enqueue_head(message).is_ok());
@@ -118,7 +121,7 @@ fn take_by_priority(
         assert!(rt; put_prio(queue, message));
     }
     for (byte, priority) in [(b'o', 5), (b't', 5), (b'm', 3), (b'l', 1)] {
-        assert_eq!(rt; take(queue), Ok((priority, Some(byte), false)));
+        assert_same(rt, take(queue), Ok((priority, Some(byte), false)));
     }
     Ok(())
 }
@@ -135,11 +138,11 @@ fn priorities(rt: HostRuntime) -> Result<(), Fail> {
 fn write_and_read(rt: &impl Abort, block: &mut Block)
     requires { block.old ≡ record { bytes = []; space = 4 } }
 {
-    assert_eq!(rt; block.write(b"hello"), Err(NoSpace { space: 4 }));
-    assert_eq!(rt; block.write(b"hey"), Ok(()));
+    assert_same(rt, block.write(b"hello"), Err(NoSpace { space: 4 }));
+    assert_same(rt, block.write(b"hey"), Ok(()));
     block.advance(1);
-    assert_eq!(rt; block.bytes(), b"ey".as_slice());
-    assert_eq!(rt; block.space(), 1);
+    assert_same(rt, block.bytes(), b"ey".as_slice());
+    assert_same(rt, block.space(), 1);
 }
 
 /// A block of four bytes that was written and of which the first byte was read.
@@ -154,7 +157,7 @@ fn blocks(rt: HostRuntime) -> Result<(), Fail> {
     let block = read_block(&rt, rt.alloc())?;
     let mut message = message_of(rt.alloc(), b"sixsix", 0)?;
     assert!(rt; message.cont(block).is_ok());
-    assert_eq!(rt; message.total_length(), 8);
+    assert_same(&rt, message.total_length(), 8);
     Ok(())
 }
 
@@ -172,10 +175,10 @@ fn lengthen_and_rewrite(
     if message.blocks().len() < 1024 {
         message.cont_bytes(alloc, b"\n")?;
     }
-    assert_eq!(rt; sizes_of(message), (2, 3));
+    assert_same(rt, sizes_of(message), (2, 3));
     message.rewrite(b"again", 7)?;
-    assert_eq!(rt; sizes_of(message), (1, 5));
-    assert_eq!(rt; message.priority(), 7);
+    assert_same(rt, sizes_of(message), (1, 5));
+    assert_same(rt, message.priority(), 7);
     Ok(())
 }
 
@@ -183,7 +186,7 @@ fn lengthen_and_rewrite(
 fn put_alone(rt: &impl Abort, message: &mut Message, block: Block) {
     let memory = message.put_alone(block);
     assert!(rt; memory.is_empty());
-    assert_eq!(rt; message.total_length(), 3);
+    assert_same(rt, message.total_length(), 3);
 }
 
 #[test]

@@ -3,6 +3,7 @@
 ghost use Rattle.std.specs.Prelude.{◌≡◌, ◌≤◌, false, length};
 ghost use Rattle.module_stream.specs.Streams.{has_started};
 
+use crate::asserts::assert_same;
 use crate::streams::KeepTask;
 use crate::streams::queues::message_of;
 use ev_types::NoMemory;
@@ -31,7 +32,7 @@ fn push_one(rt: &impl Abort, stream: &mut Stream, module: Module)
     requires { has_started stream.old ≡ false }
     ensures { has_started stream.new ≡ false }
 {
-    assert_eq!(rt; push(stream, module), None);
+    assert_same(rt, push(stream, module), None);
 }
 
 /// The name of the module just below the head, which is taken.
@@ -168,20 +169,20 @@ fn modules(rt: HostRuntime) -> Result<(), Fail> {
     for turn in 0..18 {
         let (name, refused) = turn_of(turn);
         let module = passing(alloc, name)?;
-        assert_eq!(rt; push(&mut stream, module), refused);
+        assert_same(&rt, push(&mut stream, module), refused);
     }
-    assert_eq!(rt; pop_name(&mut stream), Some(15));
+    assert_same(&rt, pop_name(&mut stream), Some(15));
     Ok(())
 }
 
 /// Puts and passes messages both ways through a stream of one module that passes them on, and finishes it.
 fn go_through(rt: &impl Abort, alloc: Global, stream: &mut Stream) {
-    assert_eq!(rt; put(alloc, stream, b"down"), Ok((1, 1, 4)));
-    assert_eq!(rt; put_up(alloc, stream, b"up"), Ok((1, 1, 2)));
-    assert_eq!(rt; pass(alloc, stream, b"past"), Ok((1, 1, 4)));
-    assert_eq!(rt; pass_up(alloc, stream, b"back"), Ok((1, 1, 4)));
-    assert_eq!(rt; sizes(stream.finish()), Ok((0, 0, 0)));
-    assert_eq!(rt; put(alloc, stream, b"late"), Err(StreamRefused::Spent));
+    assert_same(rt, put(alloc, stream, b"down"), Ok((1, 1, 4)));
+    assert_same(rt, put_up(alloc, stream, b"up"), Ok((1, 1, 2)));
+    assert_same(rt, pass(alloc, stream, b"past"), Ok((1, 1, 4)));
+    assert_same(rt, pass_up(alloc, stream, b"back"), Ok((1, 1, 4)));
+    assert_same(rt, sizes(stream.finish()), Ok((0, 0, 0)));
+    assert_same(rt, put(alloc, stream, b"late"), Err(StreamRefused::Spent));
 }
 
 #[test]
@@ -215,11 +216,12 @@ fn line_priority(messages: &[Message], text: &[u8]) -> Option<u32> {
 /// Puts a record into a stream that makes lines of records, and finishes it.
 fn put_record(rt: &impl Abort, stream: &mut Stream, record: Message) -> Result<(), Fail> {
     let given = stream.put(record).ok().ok_or("a message")?;
-    assert_eq!(rt;
+    assert_same(
+        rt,
         line_priority(given.as_slice(), b"1,2 7 LM_DEBUG: hi"),
-        Some(3)
+        Some(3),
     );
-    assert_eq!(rt; sizes(stream.finish()), Ok((0, 0, 0)));
+    assert_same(rt, sizes(stream.finish()), Ok((0, 0, 0)));
     Ok(())
 }
 
@@ -239,17 +241,17 @@ fn a_record_becomes_its_line(rt: HostRuntime) -> Result<(), Fail> {
 
 /// Passes a message down and puts one that is kept on its way up, and finishes the stream.
 fn go_past(rt: &impl Abort, alloc: Global, stream: &mut Stream) {
-    assert_eq!(rt; pass(alloc, stream, b"down"), Ok((1, 2, 5)));
-    assert_eq!(rt; put_up(alloc, stream, b"up"), Ok((0, 0, 0)));
-    assert_eq!(rt; sizes(stream.finish()), Ok((0, 0, 0)));
+    assert_same(rt, pass(alloc, stream, b"down"), Ok((1, 2, 5)));
+    assert_same(rt, put_up(alloc, stream, b"up"), Ok((0, 0, 0)));
+    assert_same(rt, sizes(stream.finish()), Ok((0, 0, 0)));
 }
 
 #[test]
 fn passing_tasks_are_passed_by(rt: HostRuntime) -> Result<(), Fail> {
     let passing = passing(rt.alloc(), 1)?;
-    assert_eq!(rt; passing.writer.is_passing(), true);
+    assert_same(&rt, passing.writer.is_passing(), true);
     let separating = separating(rt.alloc(), 2)?;
-    assert_eq!(rt; separating.writer.is_passing(), false);
+    assert_same(&rt, separating.writer.is_passing(), false);
     let keeping = keeping_up(rt.alloc(), 3)?;
     let mut stream = Stream::new(rt.alloc());
     push_one(&rt, &mut stream, passing);
@@ -262,9 +264,9 @@ fn passing_tasks_are_passed_by(rt: HostRuntime) -> Result<(), Fail> {
 /// Puts messages into a stream that keeps them, and finishes it.
 fn keep_two(rt: &impl Abort, alloc: Global, stream: &mut Stream) {
     for bytes in [b"one", b"two"] {
-        assert_eq!(rt; put(alloc, stream, bytes.as_slice()), Ok((0, 0, 0)));
+        assert_same(rt, put(alloc, stream, bytes.as_slice()), Ok((0, 0, 0)));
     }
-    assert_eq!(rt; sizes(stream.finish()), Ok((2, 2, 4)));
+    assert_same(rt, sizes(stream.finish()), Ok((2, 2, 4)));
 }
 
 #[test]

@@ -1,4 +1,5 @@
 use super::*;
+use crate::asserts::assert_same_in;
 use std::alloc::{AllocError, Global};
 use std::process::Abort;
 use std::test::Fail;
@@ -122,7 +123,7 @@ fn differs<Q: TimerQueue + Drop>(alloc: Global, queue: Q) -> Result<Option<u32>,
 
 // A queue of this name is answered as plain timers are.
 fn agrees(rt: &impl Abort, name: &str, differs: Result<Option<u32>, Fail>) -> Result<(), Fail> {
-    assert_eq!(rt; differs?, None, "{name}");
+    assert_same_in(rt, name, differs?, None);
     Ok(())
 }
 

@@ -6,6 +6,7 @@ ghost use Rattle.script_net.specs.ScriptEnd.{script_end_facts, ScriptEndKeeps};
 ghost use Rattle.reactor_model.specs.Turns.{most_milliseconds};
 ghost use Rattle.echo_server.specs.Runs.{IsOpened, run_terms};
 
+use crate::asserts::assert_same;
 use core_loop::{RunEnd, run};
 use echo_server::{EchoCore, EchoNote, EchoParts, Ending, MOST, finish, open, run_pool};
 use ev_base::Host;
@@ -110,7 +111,7 @@ fn see_echoed(
 ) {
     assert!(*rt; is_closed(&parts.journal, handle, end));
     match parts.net.retired(handle) {
-        Some(peer) => assert_eq!(*rt; peer.held(), bytes),
+        Some(peer) => assert_same(rt, peer.held(), bytes),
         None => panic!(*rt; "no end was retired"),
     }
 }
@@ -131,7 +132,7 @@ fn play_alone<R: Abort + Wait>(
 ) -> Result<EchoParts<ScriptNet>, Fail> {
     let (mut core, _) = start(alloc, row)?;
     let end = run(rt, &mut core, None, None);
-    assert_eq!(*rt; end, RunEnd::Over);
+    assert_same(rt, end, RunEnd::Over);
     Ok(finish(core))
 }
 
@@ -157,7 +158,7 @@ fn play_by_four<R: Abort + Threads + Wait + Sync>(
 ) -> Result<EchoParts<ScriptNet>, Fail> {
     let (core, waker) = start(alloc, row)?;
     let (ran, core) = run_pool(rt, alloc, core, waker, 4, None);
-    assert_eq!(*rt; ran, Ran::Over);
+    assert_same(rt, ran, Ran::Over);
     Ok(finish(core))
 }
 

@@ -2,6 +2,7 @@
 ghost use Rattle.std.specs.Prelude.{IfOk};
 ghost use Rattle.core_loop.specs.Idle.{IsIdle};
 
+use crate::asserts::assert_same;
 use core_loop::{RunEnd, run};
 use demux_mio::{MioEnd, MioHost, MioNet};
 use echo_server::{EchoCore, finish, open};
@@ -71,7 +72,7 @@ fn serve_one<R: Net<Listener = TcpListener, Stream = TcpStream> + Clock + Copy, 
     let mut core = core;
     let end = run(rt, &mut core, Some(10_000), Some(1));
     finish(core);
-    assert_eq!(*rt; end, RunEnd::Enough);
+    assert_same(rt, end, RunEnd::Enough);
 }
 
 /// A peer that sends a few bytes to this port.
@@ -89,7 +90,7 @@ fn a_peer_gets_back_what_it_sent(rt: HostRuntime) -> Result<(), Fail> {
         Ok(peer) => {
             serve_one(&rt, core);
             let back = receive(rt.alloc(), peer)?;
-            assert_eq!(rt; back.as_slice(), b"hello over loopback".as_slice());
+            assert_same(&rt, back.as_slice(), b"hello over loopback".as_slice());
             Ok(())
         }
         Err(_) => {

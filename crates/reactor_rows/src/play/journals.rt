@@ -1,4 +1,5 @@
 //! Scripts, with the journals and the lines that come of them.
+use crate::asserts::assert_in;
 use crate::play::playing::{Asked, play};
 use ev_base::MemSink;
 use journal_text::JournalSink;
@@ -130,7 +131,7 @@ fn is_journal(alloc: Global, row: &Row) -> Result<bool, Fail> {
 #[test]
 fn journals_come_of_scripts(rt: HostRuntime) -> Result<(), Fail> {
     for (at, row) in JOURNALS.iter().enumerate() {
-        assert!(rt; is_journal(rt.alloc(), row)?, "row {at}");
+        assert_in(&rt, at, is_journal(rt.alloc(), row)?);
     }
     Ok(())
 }
@@ -147,7 +148,7 @@ fn are_lines(alloc: Global, row: &Row) -> Result<bool, Fail> {
 #[test]
 fn lines_come_of_scripts(rt: HostRuntime) -> Result<(), Fail> {
     for (at, row) in LINES.iter().enumerate() {
-        assert!(rt; are_lines(rt.alloc(), row)?, "row {at}");
+        assert_in(&rt, at, are_lines(rt.alloc(), row)?);
     }
     Ok(())
 }

@@ -3,6 +3,7 @@ ghost use Rattle.std.specs.Prelude.{◌≡◌, ◌≤◌, true, false};
 ghost use Rattle.tp_reactor.specs.Words.{SameKin, known_by};
 ghost use Rattle.tp_rows.specs.Callers.{IsFree, IsRoot, SameRank};
 
+use crate::asserts::{assert_in, assert_same, assert_same_in};
 use crate::pool::steps::{
     PlayPool, PlayWorker, READ, is_legal, journal_of, one, ready_at, registered, two,
 };
@@ -117,11 +118,12 @@ fn see_many<R: Abort + Wait + Threads + Sync>(
 {
     let seen = run_many(rt, alloc, workers, times)?;
     let is_over = seen.ran == Ran::Over && seen.is_legal;
-    assert!(rt; is_over, "{workers} workers");
-    assert_eq!(rt;
+    assert_in(rt, workers, is_over);
+    assert_same_in(
+        rt,
+        workers,
         seen.started as u64,
         HANDLES as u64 * (times as u64 + 1),
-        "{workers} workers"
     );
     Ok(())
 }
@@ -215,7 +217,7 @@ fn disturbed<R: Abort + Wait + Threads + Sync>(rt: &R, alloc: Global) -> Result<
 #[test]
 fn a_worker_outside_leaves_the_journal_legal(rt: HostRuntime) -> Result<(), Fail> {
     let seen = disturbed(&rt, rt.alloc())?;
-    assert_eq!(rt; seen.ran, Ran::Over);
+    assert_same(&rt, seen.ran, Ran::Over);
     assert!(rt; seen.is_legal);
     assert!(rt; seen.started > 0);
     Ok(())
@@ -254,9 +256,9 @@ fn a_notice_is_posted_once_as_many_were_closed_as_were_asked_for(
     rt: HostRuntime,
 ) -> Result<(), Fail> {
     let seen = noticed(&rt, rt.alloc())?;
-    assert_eq!(rt; seen.ran, Ran::Over);
+    assert_same(&rt, seen.ran, Ran::Over);
     assert!(rt; seen.is_legal);
-    assert_eq!(rt; seen.posted, 1);
+    assert_same(&rt, seen.posted, 1);
     assert!(rt; seen.has_notice);
     Ok(())
 }

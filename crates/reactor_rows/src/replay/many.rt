@@ -1,4 +1,5 @@
 //! Long scripts.
+use crate::asserts::{assert_in, assert_same_in};
 use crate::many_records::{script, wanted};
 use crate::replay::running::replay_line;
 use ev_base::{MemSink, SteadySource};
@@ -18,8 +19,8 @@ fn many_connections_are_grouped(rt: HostRuntime) -> Result<(), Fail> {
         "replay --grouped --workers 64",
     ] {
         let played = replay_line(&rt, alloc, line, script(alloc)?.into_bytes(), 200_000)?;
-        assert_eq!(rt; played.end, ReplayEnd::Done, "{line}");
-        assert!(rt; played.output.bytes() == wanted.as_bytes(), "{line}");
+        assert_same_in(&rt, line, played.end, ReplayEnd::Done);
+        assert_in(&rt, line, played.output.bytes() == wanted.as_bytes());
     }
     Ok(())
 }
@@ -31,15 +32,16 @@ fn a_long_journal_is_audited(rt: HostRuntime) -> Result<(), Fail> {
     for line in ["replay --journal", "replay --journal --workers 4"] {
         let text = gen_script(alloc, 80, 7)?.into_vec();
         let played = replay_line(&rt, alloc, line, text, 1 << 23)?;
-        assert_eq!(rt; played.end, ReplayEnd::Done, "{line}");
+        assert_same_in(&rt, line, played.end, ReplayEnd::Done);
         let journal = SteadySource::new(Vec::from_slice(alloc, played.output.bytes())?);
         let output = MemSink::new(alloc, 64, None).map_err(|_| Fail::from("no room"))?;
         let audited = audit(alloc, journal, output, 1 << 24);
-        assert_eq!(rt; audited.end, AuditEnd::Legal, "{line}");
-        assert!(rt; audited.output.bytes().starts_with(b"legal 1"), "{line}");
-        assert!(rt;
+        assert_same_in(&rt, line, audited.end, AuditEnd::Legal);
+        assert_in(&rt, line, audited.output.bytes().starts_with(b"legal 1"));
+        assert_in(
+            &rt,
+            line,
             audited.output.bytes().len() >= b"legal 100000\n".len(),
-            "{line}"
         );
     }
     Ok(())

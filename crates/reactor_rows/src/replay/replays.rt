@@ -1,4 +1,5 @@
 //! Words and scripts, with how each replay ends and what it writes.
+use crate::asserts::assert_same_in;
 use crate::replay::running::replay_line;
 use script_replay::ReplayEnd;
 use std::test::Fail;
@@ -98,8 +99,8 @@ fn scripts_are_replayed(rt: HostRuntime) -> Result<(), Fail> {
     for &(line, script, end, output) in &ROWS {
         let script = Vec::from_slice(alloc, script.as_bytes())?;
         let played = replay_line(&rt, alloc, line, script, 4_096)?;
-        assert_eq!(rt; played.output.bytes(), output.as_bytes(), "{line}");
-        assert_eq!(rt; played.end, end, "{line}");
+        assert_same_in(&rt, line, played.output.bytes(), output.as_bytes());
+        assert_same_in(&rt, line, played.end, end);
     }
     Ok(())
 }

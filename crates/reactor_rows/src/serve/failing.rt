@@ -1,4 +1,5 @@
 //! Runs that a fault ends.
+use crate::asserts::assert_in;
 use crate::serve::journals::sink;
 use crate::serve::playing::{Fails, NONE_FAILS, numbers, play};
 use journal_text::JournalSink;
@@ -86,7 +87,7 @@ fn ends_so<R: Threads + Wait + Sync>(rt: &R, alloc: Global, row: &Row) -> Result
 #[test]
 fn faults_end_runs(rt: HostRuntime) -> Result<(), Fail> {
     for (at, row) in ROWS.iter().enumerate() {
-        assert!(rt; ends_so(&rt, rt.alloc(), row)?, "row {at}");
+        assert_in(&rt, at, ends_so(&rt, rt.alloc(), row)?);
     }
     Ok(())
 }

@@ -1,4 +1,5 @@
 //! Scripts, with the lines that come of them.
+use crate::asserts::assert_in;
 use crate::serve::playing::watch_script;
 use ev_base::MemSink;
 use log_handler::LineSink;
@@ -113,7 +114,7 @@ fn are_lines<R: Threads + Wait + Sync>(rt: &R, alloc: Global, row: &Row) -> Resu
 #[test]
 fn lines_come_of_scripts(rt: HostRuntime) -> Result<(), Fail> {
     for (at, row) in LINES.iter().enumerate() {
-        assert!(rt; are_lines(&rt, rt.alloc(), row)?, "row {at}");
+        assert_in(&rt, at, are_lines(&rt, rt.alloc(), row)?);
     }
     Ok(())
 }

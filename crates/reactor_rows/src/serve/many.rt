@@ -1,4 +1,5 @@
 //! Many connections that send many records, served by one worker and by four.
+use crate::asserts::assert_in;
 use crate::many_records::{CONNECTIONS, grouped, script, wanted};
 use crate::serve::playing::watch_script;
 use ev_base::MemSink;
@@ -50,10 +51,7 @@ fn come_of_many<R: Threads + Wait + Sync>(
 #[test]
 fn many_connections_are_read_to_their_ends(rt: HostRuntime) -> Result<(), Fail> {
     for workers in [1, 4] {
-        assert!(rt;
-            come_of_many(&rt, rt.alloc(), workers)?,
-            "{workers} workers"
-        );
+        assert_in(&rt, workers, come_of_many(&rt, rt.alloc(), workers)?);
     }
     Ok(())
 }
