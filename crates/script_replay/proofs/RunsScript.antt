@@ -37,6 +37,7 @@ use Rattle.script_replay.specs.Outputs.{Writes, WritesBehind, text_in}
 use Rattle.script_replay.specs.Playing.{CanPlay, terms_of_content}
 use Rattle.script_replay.specs.Replays.{EndsAs, IsOfText, RunsScript, WritesHeld, end_by, terms_in}
 use Rattle.script_replay.specs.Runs.{FailsNet, ForScript, LeavesScript}
+use Rattle.script_replay.specs.declared.ends.Kept.{Kept}
 use Rattle.script_replay.specs.declared.ends.Played.{Played}
 use Rattle.script_replay.specs.declared.ends.ReplayEnd.{ReplayEnd}
 use Rattle.script_replay.specs.declared.ends.ReplayEnd.TheVariants as end
@@ -130,6 +131,29 @@ leaves-so {W} {V} {Q} {G} watched facts asked script groups o p v served are tex
     let same = same-terms asked.connections asked.idle script groups o v text.has in
     let left = subst (λ (t : Terms). LeavesScript G watched facts t asked groups served) same (leaves groups (subst (λ (t : Terms). ForScript asked groups t) (sym same) (for-script asked script groups o v text unlimited))) in
     subst (λ (o : SinkFacts). LeavesScript G watched facts (terms_of_script asked.connections asked.idle groups o v) asked groups served) are left
+
+-- ---- what is kept of a run
+
+abbrev pub kept_of : {M Q W V : Type 0} → Served M Q W V → Kept W V
+kept_of served = record { ending = served.ending; journal = served.parts.journal; first = served.parts.first; watch = served.parts.watch; volumes = served.parts.volumes }
+
+-- the run with what was kept put back
+abbrev pub put_back : {M Q W V : Type 0} → Served M Q W V → Kept W V → Served M Q W V
+put_back served kept = record {
+  ending = kept.ending;
+  parts = record served.parts { journal = kept.journal; first = kept.first; watch = kept.watch; volumes = kept.volumes };
+}
+
+pub leaves-kept : {W V Q : Type 0} {G : Ghosts ScriptEnd} (watched : Terms → W → List (Entry ServerNote) → Type 0) (facts : V → VolumesFacts ServerNote) (t : Terms) (asked : Asked) (groups : List ScriptGroup)
+    (served : Served NetContent Q W V) (kept : Kept W V) → kept ≡ kept_of served → LeavesScript G watched facts t asked groups served → LeavesScript G watched facts t asked groups (put_back served kept)
+leaves-kept {W} {V} {Q} {G} watched facts t asked groups served kept is leaves = subst (λ (k : Kept W V). LeavesScript G watched facts t asked groups (put_back served k)) (sym is) leaves
+
+pub steady-kept : {M Q W V : Type 0} (served : Served M Q W V) (kept : Kept W V) → kept ≡ kept_of served → (FailsNet served.ending → ⊥) → FailsNet kept.ending → ⊥
+steady-kept {M} {Q} {W} {V} served kept is steady = subst (λ (k : Kept W V). FailsNet k.ending → ⊥) (sym is) steady
+
+pub rose-kept : {M Q W V : Type 0} (facts : V → VolumesFacts ServerNote) (before : ℕ) (served : Served M Q W V) (kept : Kept W V) → kept ≡ kept_of served
+    → (served.ending ≡ ending.VolumeFault → Rose before (facts served.parts.volumes).faults) → kept.ending ≡ ending.VolumeFault → Rose before (facts kept.volumes).faults
+rose-kept {M} {Q} {W} {V} facts before served kept is rose = subst (λ (k : Kept W V). k.ending ≡ ending.VolumeFault → Rose before (facts k.volumes).faults) (sym is) rose
 
 -- ---- the end
 

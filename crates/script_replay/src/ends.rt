@@ -1,6 +1,12 @@
 //! How a replay ends, and what it leaves.
+ghost use Rattle.std.specs.Prelude.{◌≡◌};
+
+use chosen_timers::ChosenTimers;
 use log_handler::ServerNote;
+use reactor_core::Parts;
 use reactor_model::Journal;
+use script_net::ScriptNet;
+use server_run::{Ending, Served};
 
 /// How a replay ended. Of several faults of a run the first in this order is told.
 #[derive(Clone, Copy, PartialEq, Eq, Debug)]
@@ -46,4 +52,36 @@ pub struct Replayed<S, K, V> {
     pub input: S,
     /// What the run over the script leaves, or, where nothing was served, an empty journal and all that was handed in.
     pub played: Played<K, V>,
+}
+
+/// What is kept of a run, whose net and timers are let go.
+#[derive(Drop)]
+pub(crate) struct Kept<W, V> {
+    pub ending: Ending,
+    pub journal: Journal<ServerNote>,
+    pub first: u64,
+    pub watch: W,
+    pub volumes: V,
+}
+
+/// Lets the net and the timers go that a run leaves.
+pub(crate) fn kept_of<W, V>(served: Served<ScriptNet, ChosenTimers, W, V>) -> Kept<W, V>
+    ensures { result ≡ record { ending = served.ending; journal = served.parts.journal; first = served.parts.first; watch = served.parts.watch; volumes = served.parts.volumes } }
+{
+    let Served { ending, parts } = served;
+    let Parts {
+        journal,
+        first,
+        net: _,
+        timers: _,
+        watch,
+        volumes,
+    } = parts;
+    Kept {
+        ending,
+        journal,
+        first,
+        watch,
+        volumes,
+    }
 }

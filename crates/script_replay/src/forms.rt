@@ -9,6 +9,7 @@ ghost use Rattle.command_words.specs.declared.options.Form.TheVariants.{Plain, G
 ghost use Rattle.script_runs.specs.Connections.{lines_by_connection};
 ghost use Rattle.server_run.specs.Starting.{IsFine};
 
+use crate::ends::{Kept, kept_of};
 use crate::{Played, ReplayEnd, play};
 use chosen_timers::ChosenTimers;
 use command_words::{Form, Options};
@@ -16,10 +17,9 @@ use ev_base::{PeerEnd, Sink};
 use grouped_lines::write_by_connection;
 use journal_text::JournalSink;
 use log_handler::{LineSink, ServerNote};
-use reactor_core::Parts;
 use reactor_model::{Entry, NoWatch, Volumes, Watch};
 use script_net::{Script, ScriptEnd};
-use server_run::{Asked, Ending, Served};
+use server_run::{Asked, Ending};
 use std::alloc::Global;
 use std::sync::Wait;
 use std::thread::Threads;
@@ -84,15 +84,14 @@ pub(crate) fn run_plain<R: Threads + Wait + Sync, K: Sink + Send, V: Volumes<Ser
     ensures { (groups : List ScriptGroup) → IsOfText script groups → RunsScript ⟦<ScriptEnd as PeerEnd>⟧ K.facts V.facts Plain asked groups (K.facts output) (V.facts volumes) result }
 {
     let watch = LineSink::new(output);
-    let Served { ending, parts } = play(rt, alloc, asked, script, timers, watch, volumes);
-    let Parts {
+    let served = play(rt, alloc, asked, script, timers, watch, volumes);
+    let Kept {
+        ending,
         journal,
         first,
-        net: _,
-        timers: _,
         watch,
         volumes,
-    } = parts;
+    } = kept_of(served);
     let end = end_by(watch.broken(), ending);
     Played {
         end,
@@ -119,15 +118,14 @@ pub(crate) fn run_journal<R: Threads + Wait + Sync, K: Sink + Send, V: Volumes<S
     ensures { (groups : List ScriptGroup) → IsOfText script groups → RunsScript ⟦<ScriptEnd as PeerEnd>⟧ K.facts V.facts Journal asked groups (K.facts output) (V.facts volumes) result }
 {
     let watch = JournalSink::new(asked.connections + 1, output);
-    let Served { ending, parts } = play(rt, alloc, asked, script, timers, watch, volumes);
-    let Parts {
+    let served = play(rt, alloc, asked, script, timers, watch, volumes);
+    let Kept {
+        ending,
         journal,
         first,
-        net: _,
-        timers: _,
         watch,
         volumes,
-    } = parts;
+    } = kept_of(served);
     let end = end_by(watch.broken(), ending);
     Played {
         end,
@@ -153,15 +151,14 @@ pub(crate) fn run_grouped<R: Threads + Wait + Sync, K: Sink, V: Volumes<ServerNo
     requires limit { asked.limit ≡ None }
     ensures { (groups : List ScriptGroup) → IsOfText script groups → RunsScript ⟦<ScriptEnd as PeerEnd>⟧ K.facts V.facts Grouped asked groups (K.facts output) (V.facts volumes) result }
 {
-    let Served { ending, parts } = play(rt, alloc, asked, script, timers, NoWatch, volumes);
-    let Parts {
+    let served = play(rt, alloc, asked, script, timers, NoWatch, volumes);
+    let Kept {
+        ending,
         journal,
         first,
-        net: _,
-        timers: _,
         watch: _,
         volumes,
-    } = parts;
+    } = kept_of(served);
     let run = end_by(false, ending);
     let (end, output) = write_held(alloc, run, first, journal.as_slice(), output);
     Played {

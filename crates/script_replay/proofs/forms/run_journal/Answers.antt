@@ -8,12 +8,12 @@ use Rattle.script_replay.specs.Outputs.{Writes, text_in}
 use Rattle.script_replay.specs.Playing.{terms_of_content}
 use Rattle.script_replay.specs.Replays.{EndsAs, end_by}
 use Rattle.script_replay.specs.declared.ends.ReplayEnd.{ReplayEnd}
-use Rattle.script_replay.proofs.RunsScript.{can-play, ends-as, leaves-so, number_is, runs-script}
+use Rattle.script_replay.proofs.RunsScript.{can-play, ends-as, leaves-kept, leaves-so, number_is, put_back, rose-kept, runs-script, steady-kept}
 use Rattle.script_replay.proofs.Writing.{by-journal, writes-along}
 use Rattle.script_replay.proofs.forms.run_journal.Goals as goal
 
-pub play-ending-requires : goal.play-ending-requires
-play-ending-requires g c κs within =
+pub play-served-requires : goal.play-served-requires
+play-served-requires g c κs within =
     let unlimited = c.requires.limit in
     let same = sym c.new-watch.ensures.output in
     let o = g.K.Sink.facts (journals.sink_of c.new-watch.result) in
@@ -37,11 +37,17 @@ pub returns : goal.returns
 returns g c = λ groups text.
     let o = g.K.Sink.facts c.args.output in
     let v = g.V.Volumes.facts c.args.volumes in
-    let served = c.play-ending.result in
+    let kept = c.kept_of-ending.result in
+    let played = c.play-served.result in
+    let served = put_back played kept in
+    let is_kept = c.kept_of-ending.ensures in
+    let net = steady-kept played kept is_kept c.play-served.ensures.net in
+    let rose = rose-kept g.V.Volumes.facts v.faults played kept is_kept c.play-served.ensures.volumes in
     let broken = journals.is_broken served.parts.watch in
-    let l = leaves-so (journals.PutsJournal g.K.Sink.facts) g.V.Volumes.facts c.args.asked c.args.script groups (g.K.Sink.facts (journals.sink_of c.new-watch.result)) o v served (ap g.K.Sink.facts c.new-watch.ensures.output) text c.requires.limit c.play-ending.ensures.leaves in
+    let left = leaves-so (journals.PutsJournal g.K.Sink.facts) g.V.Volumes.facts c.args.asked c.args.script groups (g.K.Sink.facts (journals.sink_of c.new-watch.result)) o v played (ap g.K.Sink.facts c.new-watch.ensures.output) text c.requires.limit c.play-served.ensures.leaves in
+    let l = leaves-kept (journals.PutsJournal g.K.Sink.facts) g.V.Volumes.facts _ c.args.asked groups played kept is_kept left in
     let is : c.end_by-end.result ≡ end_by broken served.ending = c.end_by-end.ensures ∙ ap (λ b. end_by b served.ending) c.broken.ensures in
-    let ends = ends-as broken served.ending v.faults _ c.play-ending.ensures.net c.play-ending.ensures.volumes in
+    let ends = ends-as broken served.ending v.faults _ net rose in
     let written = writes-along broken served.ending o _ _ (by-journal g.K.Sink.facts _ o served.parts.watch l.journal refl refl l.watch) in
     runs-script (journals.PutsJournal g.K.Sink.facts) g.K.Sink.facts g.V.Volumes.facts Journal c.args.asked groups o v served c.end_by-end.result c.into_output.result l
     (subst (λ (e : ReplayEnd). EndsAs e served.ending v.faults (g.V.Volumes.facts served.parts.volumes).faults) (sym is) ends)
