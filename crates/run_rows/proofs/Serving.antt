@@ -65,6 +65,11 @@ pub told_then : {N : Type 0} (left : Option (ℕ × Handle)) (settled : Settled)
 told_then left settled (Ok still) over before mid h longer no_shorter so = omega (arith, longer, no_shorter)
 told_then left settled (Err why) over before mid h longer no_shorter so = so
 
+-- what a turn came to that began behind some entries
+pub turned_then : {A N : Type 0} (result : Result A Ran) (over : ℕ) (before mid h : List (Entry N)) → length before ≤ length mid → TurnedSo result over mid h → TurnedSo result over before h
+turned_then (Ok value) over before mid h no_shorter so = omega (arith, no_shorter, so)
+turned_then (Err why) over before mid h no_shorter so = so
+
 -- a wait that was over is marked so
 pub marked_over : (found : Polled) (old new : WaitMarks) → found ≡ WasOver → new ≡ marks_polled (Ok found) old → 1 ≤ new.over
 marked_over found old new is marks =

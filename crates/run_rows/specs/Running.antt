@@ -15,6 +15,7 @@ use Rattle.reactor_core.specs.Polling.{FitsLimit}
 use Rattle.reactor_core.specs.Postings.{posting}
 use Rattle.reactor_core.specs.Stands.{Meaning, Stands, StandsWith}
 use Rattle.reactor_core.specs.Upcalls.{HasNoPick}
+use Rattle.reactor_core.specs.Views.{over_of}
 use Rattle.reactor_core.specs.declared.acting.Settled.{Settled}
 use Rattle.reactor_core.specs.declared.reactor.Core.{Core}
 use Rattle.reactor_core.specs.declared.reactor.Parts.{Parts}
@@ -87,6 +88,16 @@ ended_by (Ok value) = None
 ended_by (Err why) = Some why
 
 -- ---- the calls of a run
+
+-- a call of a run leads to what So says of its result, and counts faults as the result tells
+pub record Steps {A H M Q W V N E : Type 0} (m : Meaning H M Q W V N E) (So : Result A Ran → ℕ → List (Entry N) → List (Entry N) → Type 0) (result : Result A Ran) (old new : Core H M Q W V N E) : Type 0 where
+  pub leads : Leads m (So result (over_of new)) old new
+  pub counts : HasCounts m (ended_by result) old new
+
+-- the same of a call that may wait, with this limit
+pub record StepsWithin {A H M Q W V N E : Type 0} (m : Meaning H M Q W V N E) (most : Option ℕ) (So : Result A Ran → ℕ → List (Entry N) → List (Entry N) → Type 0) (result : Result A Ran) (old new : Core H M Q W V N E) : Type 0 where
+  pub leads : LeadsWithin m most (So result (over_of new)) old new
+  pub counts : HasCounts m (ended_by result) old new
 
 -- an upcall was made and settled, or there was none to make
 abbrev pub ServedSo : {A N : Type 0} → Result (Option A) Ran → ℕ → List (Entry N) → List (Entry N) → Type 0

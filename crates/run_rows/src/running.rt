@@ -4,7 +4,7 @@ ghost use Rattle.ev_base.specs.Terms.{Terms};
 ghost use Rattle.reactor_journal.specs.declared.entry.Entry.{Entry};
 ghost use Rattle.reactor_core.specs.Stands.{Stands};
 ghost use Rattle.reactor_core.specs.Views.{marks_of, over_of, net_of};
-ghost use Rattle.run_rows.specs.Running.{NoneOpen, IsIdle, CanServe, CanWait, Leads, LeadsWithin, HasCounts, ServedSo, WaitedSo, TurnedSo, EndsSo, ToldSo, NotifiedSo, ended_by, LeavesParts};
+ghost use Rattle.run_rows.specs.Running.{NoneOpen, IsIdle, CanServe, CanWait, LeadsWithin, HasCounts, Steps, StepsWithin, ServedSo, WaitedSo, TurnedSo, EndsSo, ToldSo, NotifiedSo, LeavesParts};
 
 use ev_base::Net;
 use ev_types::{Handle, Kind};
@@ -92,9 +92,7 @@ fn round<
     left: Option<(u64, Handle)>,
 ) -> Result<Option<(u64, Handle)>, Ran>
     requires { CanServe ⟦<Core<H, M, Q, W, V> as Means>⟧.m most_ms core.old }
-    ensures leads { LeadsWithin ⟦<Core<H, M, Q, W, V> as Means>⟧.m most_ms
-        (TurnedSo result (over_of core.new)) core.old core.new }
-    ensures counts { HasCounts ⟦<Core<H, M, Q, W, V> as Means>⟧.m (ended_by result) core.old core.new }
+    ensures { StepsWithin ⟦<Core<H, M, Q, W, V> as Means>⟧.m most_ms TurnedSo result core.old core.new }
 {
     match turn(core, most_ms) {
         Ok(Some(settled)) => tell(core, left, settled),
@@ -113,19 +111,31 @@ fn turn<
     V: Volumes<H::Note>,
 >(core: &mut Core<H, M, Q, W, V>, most_ms: Option<u64>) -> Result<Option<Settled>, Ran>
     requires { CanServe ⟦<Core<H, M, Q, W, V> as Means>⟧.m most_ms core.old }
-    ensures leads { LeadsWithin ⟦<Core<H, M, Q, W, V> as Means>⟧.m most_ms
-        (TurnedSo result (over_of core.new)) core.old core.new }
-    ensures counts { HasCounts ⟦<Core<H, M, Q, W, V> as Means>⟧.m (ended_by result) core.old core.new }
+    ensures { StepsWithin ⟦<Core<H, M, Q, W, V> as Means>⟧.m most_ms TurnedSo result core.old core.new }
 {
     match begin_turn(core) {
         Ok(()) => {}
         Err(ran) => return Err(ran),
     }
     match serve_next(core) {
-        Ok(Some(settled)) => return Ok(Some(settled)),
-        Ok(None) => {}
-        Err(ran) => return Err(ran),
+        Ok(Some(settled)) => Ok(Some(settled)),
+        Ok(None) => wait_and_serve(core, most_ms),
+        Err(ran) => Err(ran),
     }
+}
+
+/// Waits once, where there is no upcall to make, and then makes the upcall that is next. A wait that was over ends the run where there is
+/// none.
+fn wait_and_serve<
+    H: EventHandler,
+    M: Net<End = H::End>,
+    Q: TimerQueue,
+    W: Watch<H::Note>,
+    V: Volumes<H::Note>,
+>(core: &mut Core<H, M, Q, W, V>, most_ms: Option<u64>) -> Result<Option<Settled>, Ran>
+    requires { CanWait ⟦<Core<H, M, Q, W, V> as Means>⟧.m most_ms core.old }
+    ensures { StepsWithin ⟦<Core<H, M, Q, W, V> as Means>⟧.m most_ms TurnedSo result core.old core.new }
+{
     let is_over = match wait(core, most_ms) {
         Ok(is_over) => is_over,
         Err(ran) => return Err(ran),
@@ -146,9 +156,7 @@ fn begin_turn<
     V: Volumes<H::Note>,
 >(core: &mut Core<H, M, Q, W, V>) -> Result<(), Ran>
     requires { IsIdle ⟦<Core<H, M, Q, W, V> as Means>⟧.m core.old }
-    ensures leads { Leads ⟦<Core<H, M, Q, W, V> as Means>⟧.m
-        (ToldSo result (over_of core.new)) core.old core.new }
-    ensures counts { HasCounts ⟦<Core<H, M, Q, W, V> as Means>⟧.m (ended_by result) core.old core.new }
+    ensures { Steps ⟦<Core<H, M, Q, W, V> as Means>⟧.m ToldSo result core.old core.new }
 {
     if core.is_ended() {
         return Err(Ran::Stopped);
@@ -172,9 +180,7 @@ fn serve_next<
     V: Volumes<H::Note>,
 >(core: &mut Core<H, M, Q, W, V>) -> Result<Option<Settled>, Ran>
     requires { IsIdle ⟦<Core<H, M, Q, W, V> as Means>⟧.m core.old }
-    ensures leads { Leads ⟦<Core<H, M, Q, W, V> as Means>⟧.m
-        (ServedSo result (over_of core.new)) core.old core.new }
-    ensures counts { HasCounts ⟦<Core<H, M, Q, W, V> as Means>⟧.m (ended_by result) core.old core.new }
+    ensures steps { Steps ⟦<Core<H, M, Q, W, V> as Means>⟧.m ServedSo result core.old core.new }
     ensures marks { marks_of core.new ≡ marks_of core.old }
 {
     match core.start() {
@@ -196,9 +202,7 @@ fn wait<
     V: Volumes<H::Note>,
 >(core: &mut Core<H, M, Q, W, V>, most_ms: Option<u64>) -> Result<bool, Ran>
     requires { CanWait ⟦<Core<H, M, Q, W, V> as Means>⟧.m most_ms core.old }
-    ensures leads { LeadsWithin ⟦<Core<H, M, Q, W, V> as Means>⟧.m most_ms
-        (WaitedSo result (over_of core.new)) core.old core.new }
-    ensures counts { HasCounts ⟦<Core<H, M, Q, W, V> as Means>⟧.m (ended_by result) core.old core.new }
+    ensures { StepsWithin ⟦<Core<H, M, Q, W, V> as Means>⟧.m most_ms WaitedSo result core.old core.new }
 {
     match core.poll(most_ms) {
         Ok(Polled::Over) => Ok(true),
@@ -223,9 +227,7 @@ fn tell<
     settled: Settled,
 ) -> Result<Option<(u64, Handle)>, Ran>
     requires { IsIdle ⟦<Core<H, M, Q, W, V> as Means>⟧.m core.old }
-    ensures leads { Leads ⟦<Core<H, M, Q, W, V> as Means>⟧.m
-        (NotifiedSo left settled result (over_of core.new)) core.old core.new }
-    ensures counts { HasCounts ⟦<Core<H, M, Q, W, V> as Means>⟧.m (ended_by result) core.old core.new }
+    ensures { Steps ⟦<Core<H, M, Q, W, V> as Means>⟧.m (NotifiedSo left settled) result core.old core.new }
 {
     let Some((count, handle)) = left else {
         return Ok(None);
