@@ -1,5 +1,7 @@
 -- Lists that are cut and joined, and answers.
 use Rattle.std.proofs.Common.{◌≡◌, ◌+◌, ℕ, zero, suc, List, [], ◌∷◌, ◌++◌, take, drop, ap, sym, ◌∙◌, append_assoc, append-nil, drop-drop, get_or, length, ◌<◌, flat_map, Result, OnOk, arith}
+use Rattle.std.specs.Bool.{if◌then◌else◌}
+use Rattle.std.specs.Result.{is_ok}
 use Rattle.std.specs.declared.result.Result.TheVariants.{Ok, Err}
 use Rattle.std.proofs.lemmas.List.{take-append-drop}
 use Rattle.message_block.specs.Messages.{MessageState}
@@ -29,6 +31,11 @@ flat-next f items k x lt e = let next : suc k ≡ k + 1 = omega arith in flat-su
 pub on-ok-any : {T E X : Type 0} (r : Result T E) → X → OnOk r X
 on-ok-any (Ok x) h = h
 on-ok-any (Err e) h = tt
+
+-- of two values that an answer decides between, the first one where it is Ok
+pub where-ok : {T E X : Type 0} (x a b : X) (r : Result T E) {t : T} → r ≡ Ok t → x ≡ (if is_ok r then a else b) → x ≡ a
+where-ok x a b (Ok y) is e = e
+where-ok x a b (Err y) is e = absurd (cc is)
 
 -- ---- what begins what
 

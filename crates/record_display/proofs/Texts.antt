@@ -24,6 +24,14 @@ use Rattle.record_display.proofs.Records.{decodes-behind, stuck-is-left}
 pub gathers-both : {K : Type 0} (facts : K → SinkFacts) (o : SinkFacts) (sink : SinkBuffer K) (xs ys : List MessageState) → Gathers facts o sink (text_of xs ++ text_of ys) → Gathers facts o sink (text_of (xs ++ ys))
 gathers-both facts o sink xs ys h = subst (λ text. Gathers facts o sink text) (sym (flat_map-append bytes_of xs ys)) h
 
+-- where a write failed, more can be taken for put
+pub gathers-behind : {K : Type 0} (facts : K → SinkFacts) (o : SinkFacts) (sink : SinkBuffer K) (put more : List ℕ) → is_broken sink ≡ true → Gathers facts o sink put → Gathers facts o sink (put ++ more)
+gathers-behind facts o sink put more broken h =
+    let b = h.front broken in record {
+      whole = λ e. absurd (cc (broken, e));
+      front = λ e. record { front = b.front; is_front = (b.is_front.0 ++ more, ap (λ xs. xs ++ more) b.is_front.1 ∙ append_assoc b.front b.is_front.0 more); text = b.text; rose = b.rose };
+    }
+
 -- the line of one record
 line-of : FormatsRecords → (f : List ℕ) (entry : LogRecord) → Spells f entry → bytes_of (separated (formatted (message_of f))) ≡ shown_line entry
 line-of law f entry spells =

@@ -73,3 +73,30 @@ returns-in-NoMemory-fill-clause-leaves g c = λ i first second o h.
       stops = (rest ++ lost.0, subst (λ (bytes : List ℕ). TakesInput (limit_of c.fill.new.self.input) false i (g.S.Source.facts (input_of c.fill.new.self.input)) bytes []) (append_assoc s.cut rest lost.0) lost.1.takes);
       are_put = c.flush.ensures.shows first second o s.put s.shows;
     }
+
+pub returns-in-Bad-clause-leaves : goal.returns-in-Bad-clause-leaves
+returns-in-Bad-clause-leaves g c = λ i first second o h. c.in-Bad.ensures.cuts i first second o (c.loop-pipeline.invariant.0 i first second o h)
+
+pub returns-in-NoMemory-clause-leaves : goal.returns-in-NoMemory-clause-leaves
+returns-in-NoMemory-clause-leaves g c = λ i first second o h. c.in-NoMemory.ensures.cuts i first second o (c.loop-pipeline.invariant.0 i first second o h)
+
+pub returns-in-Over-clause-limit : goal.returns-in-Over-clause-limit
+returns-in-Over-clause-limit g c = c.fill.ensures.limit ∙ ap limit_of c.put_records.ensures.input ∙ c.loop-pipeline.invariant.1
+
+pub returns-in-Failed-clause-limit : goal.returns-in-Failed-clause-limit
+returns-in-Failed-clause-limit g c = c.fill.ensures.limit ∙ ap limit_of c.put_records.ensures.input ∙ c.loop-pipeline.invariant.1
+
+pub returns-in-TooLong-clause-limit : goal.returns-in-TooLong-clause-limit
+returns-in-TooLong-clause-limit g c = c.fill.ensures.limit ∙ ap limit_of c.put_records.ensures.input ∙ c.loop-pipeline.invariant.1
+
+pub returns-in-NoMemory-fill-clause-limit : goal.returns-in-NoMemory-fill-clause-limit
+returns-in-NoMemory-fill-clause-limit g c = c.fill.ensures.limit ∙ ap limit_of c.put_records.ensures.input ∙ c.loop-pipeline.invariant.1
+
+pub returns-then-is_broken-clause-limit : goal.returns-then-is_broken-clause-limit
+returns-then-is_broken-clause-limit g c = ap limit_of c.put_records.ensures.input ∙ c.loop-pipeline.invariant.1
+
+pub returns-in-Bad-clause-limit : goal.returns-in-Bad-clause-limit
+returns-in-Bad-clause-limit g c = ap limit_of c.put_records.ensures.input ∙ c.loop-pipeline.invariant.1
+
+pub returns-in-NoMemory-clause-limit : goal.returns-in-NoMemory-clause-limit
+returns-in-NoMemory-clause-limit g c = ap limit_of c.put_records.ensures.input ∙ c.loop-pipeline.invariant.1
