@@ -54,9 +54,9 @@ def round_above(most):
 
 
 def bars(title, across, up, groups, names, values, to):
-    """For each group a bar for each name, as high as values[group][name] says."""
+    """For each group a bar for each name, as high as values[group][name] says. Where that is None there is none."""
     picture = Picture(title, across, up)
-    most = round_above(max(value for row in values for value in row))
+    most = round_above(max(value for row in values for value in row if value is not None))
     height = lambda value: HEIGHT - BOTTOM - (HEIGHT - BOTTOM - TOP) * value / most
     for part in range(5):
         y = height(most * part / 4)
@@ -66,6 +66,8 @@ def bars(title, across, up, groups, names, values, to):
     wide = 0.8 * room / len(names)
     for at, (group, row) in enumerate(zip(groups, values)):
         for number, value in enumerate(row):
+            if value is None:
+                continue
             x = LEFT + room * at + 0.1 * room + wide * number
             y = height(value)
             picture.parts.append(f'<rect x="{x:.1f}" y="{y:.1f}" width="{wide * 0.92:.1f}" height="{HEIGHT - BOTTOM - y:.1f}" fill="{COLOURS[number % len(COLOURS)]}"/>')
@@ -106,16 +108,22 @@ def lines(title, across, up, curves, to, is_log=False):
 def serve_pictures(text, to):
     """Records a second, and microseconds until a record's line is there, by workers."""
     rates = re.findall(r"^bulk, 8 connections of ([\d,]+) records, (\d+) workers: rate ([\d.]+), .*\(([\d.]+) s,", text, re.M)
+    theirs = dict(re.findall(r"^bulk, .*, ACE's TP_Reactor, (\d+) threads: rate .*\(([\d.]+) s,", text, re.M))
     if rates:
         values = []
-        for each, _, rate, took in rates:
+        for each, workers, rate, took in rates:
             records = 8 * int(each.replace(",", ""))
-            values.append([records / float(took), records / (float(took) * float(rate))])
-        bars("8 connections, records of 100 bytes", "workers", "records a second", [workers for _, workers, _, _ in rates], ["logd serve", "plain epoll server"], values, to / "rate.svg")
-    found = re.findall(r"^latency beside 900 silent, (\d+) workers: median (\d+) us, 99 % (\d+) us \(plain server (\d+) us, (\d+) us\)", text, re.M)
+            row = [records / float(took), records / (float(took) * float(rate))]
+            values.append(row + [records / float(theirs[workers]) if workers in theirs else None] * bool(theirs))
+        names = ["logd serve", "plain epoll server", "ACE's TP_Reactor"][: 2 + bool(theirs)]
+        bars("8 connections, records of 100 bytes", "workers", "records a second", [workers for _, workers, _, _ in rates], names, values, to / "rate.svg")
+    pattern = r"^latency beside 900 silent, (\d+) workers: median (\d+) us, 99 % (\d+) us \(plain server (\d+) us, (\d+) us(?:, ACE's TP_Reactor (\d+) us, \d+ us)?\)"
+    found = re.findall(pattern, text, re.M)
     if found:
-        values = [[int(it) for it in (row[1], row[3], row[2], row[4])] for row in found]
-        names = ["logd serve, median", "plain server, median", "logd serve, 99 %", "plain server, 99 %"]
+        values = [[int(it) if it else None for it in (row[1], row[3], row[2], row[4], row[5])] for row in found]
+        names = ["logd serve, median", "plain server, median", "logd serve, 99 %", "plain server, 99 %", "ACE's TP_Reactor, median"]
+        if not any(row[-1] for row in values):
+            names, values = names[:-1], [row[:-1] for row in values]
         bars("A record beside 900 silent connections", "workers", "microseconds until its line is there", [row[0] for row in found], names, values, to / "latency.svg")
 
 

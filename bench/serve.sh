@@ -2,16 +2,18 @@
 # Loads `logd serve` and a plain server on epoll that makes the same reads and writes (`plain_epoll.c`), each with 1 and with 4 workers, and checks
 # every line that they print. For each load it prints the rate of ours by that of the plain server (above 1 ours is faster), and the processor
 # time of ours by that of the plain one (below 1 ours is cheaper): the medians of nine runs of each, which take turns; how many times as fast as
-# one worker it was; and what part of the machine's processor time its host took away meanwhile (steal). A load of short connections leaves tens of
+# one worker it was; and what part of the machine's processor time its host took away meanwhile (steal). Behind that it prints the same of a server on
+# ACE's TP_Reactor (`ace_serve.cpp`), by five runs, which take turns with the plain server. A load of short connections leaves tens of
 # thousands of sockets behind that the system keeps for a minute, and that slow both servers: before each of these it rests so long, and they have
 # 15 runs, since one takes less than a tenth of a second. Then it prints how long a record's line takes to come: the medians of three runs of each.
 # Behind that come loads that only ours gets: 4,096 connections at once, peers that send a byte a second, and 10,000 hostile streams beside an honest
-# one. Needs rt, cc and python3.
+# one. Needs rt, cc and python3, and for ACE's lines a C++ compiler and the Debian package libace-dev.
 root=$(cd "$(dirname "$0")/.." && pwd)
 work=$(mktemp -d) || exit 1
 trap 'rm -rf "$work"' EXIT
 cc -O2 -pthread -o "$work/plain" "$root/bench/plain_epoll.c" || exit 1
 cc -O2 -pthread -o "$work/load" "$root/bench/serve_load.c" || exit 1
+c++ -O2 -o "$work/ace" "$root/bench/ace_serve.cpp" -lACE 2>/dev/null || echo "ACE is not here (libace-dev): its lines are left out"
 "$root/bin/logd" one </dev/null >/dev/null || exit 1
 ulimit -n "$(ulimit -Hn)"
 python3 - "$work" "$root/crates/logd/out/logd" <<'P'
@@ -46,6 +48,11 @@ def ours(port, until, workers):
 def plain(port, until, workers):
     return [work + "/plain", str(port), str(until), str(workers)]
 
+def ace(port, until, workers):
+    return [work + "/ace", str(port), str(until), str(workers)]
+
+has_ace = os.path.exists(work + "/ace")
+
 def processor_time():
     """The ticks of all processors since the system began, and how many of them its host took away."""
     with open("/proc/stat") as table:
@@ -57,9 +64,9 @@ def steal(since):
     now = processor_time()
     return 100 * (now[1] - since[1]) / max(1, now[0] - since[0])
 
-def medians(times, until, counts, load, groups):
+def medians(servers, times, until, counts, load, groups):
     """The median seconds and processor seconds of so many runs of each server with each number of workers, which take turns."""
-    runs = {(server, workers): [] for workers in counts for server in (plain, ours)}
+    runs = {(server, workers): [] for workers in counts for server in servers}
     for _ in range(times):
         for (server, workers), told in runs.items():
             port = free_port()
@@ -79,12 +86,19 @@ for name, until, load, groups, rest, times, sets in LOADS:
     for counts in sets:
         time.sleep(rest)
         since = processor_time()
-        told.update(medians(times, until, counts, load, groups))
+        told.update(medians((plain, ours), times, until, counts, load, groups))
         stolen.update((workers, steal(since)) for workers in counts)
     for workers in stolen:
         a, b = told[plain, workers], told[ours, workers]
         gains = [told[server, 1][0] / told[server, workers][0] for server in (ours, plain)]
         print(f"{name}, {workers} workers: rate {a[0] / b[0]:.2f}, processor {b[1] / a[1]:.2f} ({b[0]:.3f} s, {b[1]:.2f} s of processor), {gains[0]:.2f} times one worker (plain server {gains[1]:.2f}), steal {stolen[workers]:.1f} %", flush=True)
+    if has_ace:
+        time.sleep(rest)
+        since = processor_time()
+        told = medians((plain, ace), 5, until, (1, 4), load, groups)
+        for workers in 1, 4:
+            a, b = told[plain, workers], told[ace, workers]
+            print(f"{name}, ACE's TP_Reactor, {workers} threads: rate {a[0] / b[0]:.2f}, processor {b[1] / a[1]:.2f} ({b[0]:.3f} s, {b[1]:.2f} s of processor), steal {steal(since):.1f} %", flush=True)
 
 def latency(server, until, workers, load):
     port = free_port()
@@ -104,12 +118,13 @@ for name, until, load in [
     ("a record every 5 ms beside an endless stream for each worker", lambda workers: workers + 1, lambda workers: ["beside", str(workers), "400"]),
 ]:
     for workers in 1, 2, 4:
-        runs, since = {plain: [], ours: []}, processor_time()
+        runs, since = {server: [] for server in [plain, ours, ace][:2 + has_ace]}, processor_time()
         for _ in range(3):
             for server, told in runs.items():
                 told.append(latency(server, until(workers), workers, load(workers)))
-        a, b = ([statistics.median(each) for each in zip(*told)] for told in runs.values())
-        print(f"{name}, {workers} workers: median {b[0]} us, 99 % {b[1]} us (plain server {a[0]} us, {a[1]} us), steal {steal(since):.1f} %", flush=True)
+        a, b, *c = ([statistics.median(each) for each in zip(*told)] for told in runs.values())
+        theirs = "".join(f", ACE's TP_Reactor {it[0]} us, {it[1]} us" for it in c)
+        print(f"{name}, {workers} workers: median {b[0]} us, 99 % {b[1]} us (plain server {a[0]} us, {a[1]} us{theirs}), steal {steal(since):.1f} %", flush=True)
 for workers in 1, 4:
     for name, until, load, groups in [
         ("4,096 at once", 4096, ["silent", "4095", "1000"], ["4095x0", "1x1000"]),
