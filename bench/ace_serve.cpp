@@ -1,10 +1,12 @@
-// A logging server on ACE's TP_Reactor (C++NPv2, chapters 3 and 4), to compare `logd serve` with: an acceptor that makes a handler for each
-// connection, whose upcall reads a piece of 4,096 bytes once, writes the lines of the records that it completes in one write, and at the end a
-// closing line. It decodes and prints as `plain_epoll.c` does.
+// A logging server on ACE's TP_Reactor (C++NPv2, chapters 3 and 4), or on its Dev_Poll_Reactor, to compare `logd serve` with: an acceptor that makes
+// a handler for each connection, whose upcall reads a piece of 4,096 bytes once, writes the lines of the records that it completes in one write, and
+// at the end a closing line. It decodes and prints as `plain_epoll.c` does.
 //
-// ace_serve PORT [UNTIL [THREADS]]: ends once UNTIL connections were closed, where that is above 0. THREADS (1 if left out) threads run the
-// reactor's event loop. It has at most some 1,000 connections at once, as many as `select` takes.
+// ace_serve REACTOR PORT [UNTIL [THREADS]]: REACTOR is `tp`, which waits by `select` and has at most some 1,000 connections at once, or `dev_poll`, which
+// waits by epoll. It ends once UNTIL connections were closed, where that is above 0. THREADS (1 if left out) threads run the reactor's event loop.
+#define ACE_HAS_EVENT_POLL
 #include <ace/Acceptor.h>
+#include <ace/Dev_Poll_Reactor.h>
 #include <ace/INET_Addr.h>
 #include <ace/Reactor.h>
 #include <ace/SOCK_Acceptor.h>
@@ -14,6 +16,7 @@
 #include <ace/Thread_Manager.h>
 #include <atomic>
 #include <csignal>
+#include <memory>
 
 #define NAME "ace_serve"
 #include "plain_lines.h"
@@ -75,16 +78,18 @@ static ACE_THR_FUNC_RETURN run(void *reactor)
 
 int main(int argc, char **argv)
 {
-    if (argc < 2) stop(1, "usage: ace_serve PORT [UNTIL [THREADS]]");
-    until = argc > 2 ? strtoull(argv[2], 0, 10) : 0;
-    int threads = argc > 3 ? atoi(argv[3]) : 1;
+    if (argc < 3) stop(1, "usage: ace_serve tp|dev_poll PORT [UNTIL [THREADS]]");
+    until = argc > 3 ? strtoull(argv[3], 0, 10) : 0;
+    int threads = argc > 4 ? atoi(argv[4]) : 1;
     if (threads < 1 || threads > 64) stop(1, "1 to 64 threads");
     signal(SIGPIPE, SIG_IGN);
-    ACE_TP_Reactor implementation;
-    ACE_Reactor reactor(&implementation);
+    std::unique_ptr<ACE_Reactor_Impl> implementation;
+    if (!strcmp(argv[1], "dev_poll")) implementation.reset(new ACE_Dev_Poll_Reactor);
+    else implementation.reset(new ACE_TP_Reactor);
+    ACE_Reactor reactor(implementation.get());
     ACE_Reactor::instance(&reactor);
     ACE_Acceptor<Logging_Handler, ACE_SOCK_ACCEPTOR> acceptor;
-    ACE_INET_Addr address((u_short)atoi(argv[1]), (ACE_UINT32)INADDR_LOOPBACK);
+    ACE_INET_Addr address((u_short)atoi(argv[2]), (ACE_UINT32)INADDR_LOOPBACK);
     if (acceptor.open(address, &reactor, ACE_NONBLOCK) < 0) stop(7, "listen failed");
     // (its own queue of 5 would lose connections)
     if (listen(acceptor.get_handle(), 65535) < 0) stop(7, "listen failed");

@@ -6,7 +6,7 @@ import re
 import sys
 from pathlib import Path
 
-WIDTH, HEIGHT, LEFT, RIGHT, TOP, BOTTOM = 720, 360, 80, 210, 50, 60
+WIDTH, HEIGHT, LEFT, RIGHT, TOP, BOTTOM = 750, 360, 80, 240, 50, 60
 COLOURS = ["#1b6ca8", "#c8553d", "#588157", "#8d6a9f", "#e09f3e", "#444444", "#2a9d8f", "#b56576"]
 
 
@@ -108,22 +108,23 @@ def lines(title, across, up, curves, to, is_log=False):
 def serve_pictures(text, to):
     """Records a second, and microseconds until a record's line is there, by workers."""
     rates = re.findall(r"^bulk, 8 connections of ([\d,]+) records, (\d+) workers: rate ([\d.]+), .*\(([\d.]+) s,", text, re.M)
-    theirs = dict(re.findall(r"^bulk, .*, ACE's TP_Reactor, (\d+) threads: rate .*\(([\d.]+) s,", text, re.M))
+    theirs = {}
+    for reactor, workers, took in re.findall(r"^bulk, .*, ACE's (\w+), (\d+) threads: rate .*\(([\d.]+) s,", text, re.M):
+        theirs.setdefault(f"ACE's {reactor}", {})[workers] = float(took)
     if rates:
         values = []
         for each, workers, rate, took in rates:
             records = 8 * int(each.replace(",", ""))
             row = [records / float(took), records / (float(took) * float(rate))]
-            values.append(row + [records / float(theirs[workers]) if workers in theirs else None] * bool(theirs))
-        names = ["logd serve", "plain epoll server", "ACE's TP_Reactor"][: 2 + bool(theirs)]
+            values.append(row + [records / each[workers] if workers in each else None for each in theirs.values()])
+        names = ["logd serve", "plain epoll server", *theirs]
         bars("8 connections, records of 100 bytes", "workers", "records a second", [workers for _, workers, _, _ in rates], names, values, to / "rate.svg")
-    pattern = r"^latency beside 900 silent, (\d+) workers: median (\d+) us, 99 % (\d+) us \(plain server (\d+) us, (\d+) us(?:, ACE's TP_Reactor (\d+) us, \d+ us)?\)"
+    pattern = r"^latency beside 900 silent, (\d+) workers: median (\d+) us, 99 % (\d+) us \(plain server (\d+) us, (\d+) us((?:, ACE's \w+ \d+ us, \d+ us)*)\)"
     found = re.findall(pattern, text, re.M)
     if found:
-        values = [[int(it) if it else None for it in (row[1], row[3], row[2], row[4], row[5])] for row in found]
-        names = ["logd serve, median", "plain server, median", "logd serve, 99 %", "plain server, 99 %", "ACE's TP_Reactor, median"]
-        if not any(row[-1] for row in values):
-            names, values = names[:-1], [row[:-1] for row in values]
+        aces = [re.findall(r"(ACE's \w+) (\d+) us", row[5]) for row in found]
+        values = [[int(it) for it in (row[1], row[3], row[2], row[4])] + [int(median) for _, median in theirs] for row, theirs in zip(found, aces)]
+        names = ["logd serve, median", "plain server, median", "logd serve, 99 %", "plain server, 99 %"] + [f"{ace}, median" for ace, _ in aces[0]]
         bars("A record beside 900 silent connections", "workers", "microseconds until its line is there", [row[0] for row in found], names, values, to / "latency.svg")
 
 

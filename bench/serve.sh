@@ -2,8 +2,8 @@
 # Loads `logd serve` and a plain server on epoll that makes the same reads and writes (`plain_epoll.c`), each with 1 and with 4 workers, and checks
 # every line that they print. For each load it prints the rate of ours by that of the plain server (above 1 ours is faster), and the processor
 # time of ours by that of the plain one (below 1 ours is cheaper): the medians of nine runs of each, which take turns; how many times as fast as
-# one worker it was; and what part of the machine's processor time its host took away meanwhile (steal). Behind that it prints the same of a server on
-# ACE's TP_Reactor (`ace_serve.cpp`), by five runs, which take turns with the plain server. A load of short connections leaves tens of
+# one worker it was; and what part of the machine's processor time its host took away meanwhile (steal). Behind that it prints the same of servers on
+# ACE's TP_Reactor and Dev_Poll_Reactor (`ace_serve.cpp`), by five runs, which take turns with the plain server. A load of short connections leaves tens of
 # thousands of sockets behind that the system keeps for a minute, and that slow both servers: before each of these it rests so long, and they have
 # 15 runs, since one takes less than a tenth of a second. Then it prints how long a record's line takes to come: the medians of three runs of each.
 # Behind that come loads that only ours gets: 4,096 connections at once, peers that send a byte a second, and 10,000 hostile streams beside an honest
@@ -48,10 +48,13 @@ def ours(port, until, workers):
 def plain(port, until, workers):
     return [work + "/plain", str(port), str(until), str(workers)]
 
-def ace(port, until, workers):
-    return [work + "/ace", str(port), str(until), str(workers)]
+def tp_reactor(port, until, workers):
+    return [work + "/ace", "tp", str(port), str(until), str(workers)]
 
-has_ace = os.path.exists(work + "/ace")
+def dev_poll_reactor(port, until, workers):
+    return [work + "/ace", "dev_poll", str(port), str(until), str(workers)]
+
+ACES = {"TP_Reactor": tp_reactor, "Dev_Poll_Reactor": dev_poll_reactor} if os.path.exists(work + "/ace") else {}
 
 def processor_time():
     """The ticks of all processors since the system began, and how many of them its host took away."""
@@ -92,13 +95,13 @@ for name, until, load, groups, rest, times, sets in LOADS:
         a, b = told[plain, workers], told[ours, workers]
         gains = [told[server, 1][0] / told[server, workers][0] for server in (ours, plain)]
         print(f"{name}, {workers} workers: rate {a[0] / b[0]:.2f}, processor {b[1] / a[1]:.2f} ({b[0]:.3f} s, {b[1]:.2f} s of processor), {gains[0]:.2f} times one worker (plain server {gains[1]:.2f}), steal {stolen[workers]:.1f} %", flush=True)
-    if has_ace:
+    for reactor, ace in ACES.items():
         time.sleep(rest)
         since = processor_time()
         told = medians((plain, ace), 5, until, (1, 4), load, groups)
         for workers in 1, 4:
             a, b = told[plain, workers], told[ace, workers]
-            print(f"{name}, ACE's TP_Reactor, {workers} threads: rate {a[0] / b[0]:.2f}, processor {b[1] / a[1]:.2f} ({b[0]:.3f} s, {b[1]:.2f} s of processor), steal {steal(since):.1f} %", flush=True)
+            print(f"{name}, ACE's {reactor}, {workers} threads: rate {a[0] / b[0]:.2f}, processor {b[1] / a[1]:.2f} ({b[0]:.3f} s, {b[1]:.2f} s of processor), steal {steal(since):.1f} %", flush=True)
 
 def latency(server, until, workers, load):
     port = free_port()
@@ -118,12 +121,12 @@ for name, until, load in [
     ("a record every 5 ms beside an endless stream for each worker", lambda workers: workers + 1, lambda workers: ["beside", str(workers), "400"]),
 ]:
     for workers in 1, 2, 4:
-        runs, since = {server: [] for server in [plain, ours, ace][:2 + has_ace]}, processor_time()
+        runs, since = {server: [] for server in (plain, ours, *ACES.values())}, processor_time()
         for _ in range(3):
             for server, told in runs.items():
                 told.append(latency(server, until(workers), workers, load(workers)))
         a, b, *c = ([statistics.median(each) for each in zip(*told)] for told in runs.values())
-        theirs = "".join(f", ACE's TP_Reactor {it[0]} us, {it[1]} us" for it in c)
+        theirs = "".join(f", ACE's {reactor} {it[0]} us, {it[1]} us" for reactor, it in zip(ACES, c))
         print(f"{name}, {workers} workers: median {b[0]} us, 99 % {b[1]} us (plain server {a[0]} us, {a[1]} us{theirs}), steal {steal(since):.1f} %", flush=True)
 for workers in 1, 4:
     for name, until, load, groups in [
