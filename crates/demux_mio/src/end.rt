@@ -7,6 +7,7 @@ ghost use Rattle.demux_mio.specs.NoStory.{keeps_no_story};
 use crate::socket::{Accepted, Place, Socket};
 use ev_base::{Got, PeerEnd, Sent, Taken};
 use ev_types::NoMemory;
+use mio::net::TcpStream;
 use std::alloc::Global;
 use std::io;
 use tally::Tally;
@@ -83,8 +84,8 @@ impl MioEnd {
         self.state.socket.unwatch();
     }
 
-    /// Gives it up: its connection is closed at once or soon, and a listener at once.
-    pub(crate) fn retire(self) {
+    /// Gives up its connection, where it has one. A listener is closed.
+    pub(crate) fn into_stream(self) -> Option<TcpStream> {
         let MioEnd { state } = self;
         let EndState {
             socket,
@@ -97,7 +98,7 @@ impl MioEnd {
             gave: _,
             over: _,
         } = Box::into_inner(state);
-        socket.retire();
+        socket.into_stream()
     }
 }
 

@@ -1,8 +1,9 @@
 //! What makes nets and listeners of sockets.
 ghost use Rattle.std.specs.Prelude.{◌≡◌};
 
+use crate::closer::Closer;
 use crate::net::WAKER;
-use crate::shared::{Retired, Shared, Sharing, room_for_retired};
+use crate::shared::{Shared, Sharing};
 use crate::socket::Socket;
 use crate::{MioEnd, MioNet};
 use ev_base::{Host, ListenRefused, Wake};
@@ -11,7 +12,8 @@ use mio::{Poll, Waker};
 use std::alloc::Global;
 use std::io;
 use std::net::{Ipv4Addr, Net as Sockets, SocketAddr};
-use std::sync::Arc;
+use std::sync::{Arc, Wait};
+use std::thread::Threads;
 use std::time::{Clock, Instant};
 
 /// What wakes a waiting net. Any thread may call it.
@@ -31,6 +33,7 @@ impl Wake for MioWake {
 pub struct MioHost<R> {
     rt: R,
     faults: u64,
+    closer: Option<Closer>,
 }
 
 /// What the system gave for a listener.
@@ -45,18 +48,22 @@ struct Opened {
 impl<R: Sockets + Clock + Copy> MioHost<R> {
     ghost use Rattle.demux_mio.specs.Hosts.{mio_host_faults};
 
-    /// A host that made no call.
+    /// A host that made no call. Its nets close a connection where its end is retired.
     pub fn new(rt: R) -> MioHost<R>
         ensures { mio_host_faults result ≡ 0 }
     {
-        MioHost { rt, faults: 0 }
+        MioHost {
+            rt,
+            faults: 0,
+            closer: None,
+        }
     }
 
     /// Asks the system for all that a listener wants.
-    fn open(&self, port: u16, retired: Retired) -> io::Result<Opened> {
+    fn open(&self, port: u16) -> io::Result<Opened> {
         let poll = Poll::new(&self.rt)?;
         let waker = Waker::new(poll.registry(), WAKER)?;
-        let shared = Shared::new(poll.registry().try_clone()?, waker, retired);
+        let shared = Shared::new(poll.registry().try_clone()?, waker);
         let address = SocketAddr::from((Ipv4Addr::LOCALHOST, port));
         let listener = TcpListener::bind(&self.rt, address)?;
         let start = Instant::now(&self.rt)?;
@@ -66,6 +73,23 @@ impl<R: Sockets + Clock + Copy> MioHost<R> {
             shared,
             start,
         })
+    }
+}
+
+impl<R: Sockets + Clock + Threads + Wait + Copy + Send + 'static> MioHost<R> {
+    ghost use Rattle.demux_mio.specs.Hosts.{mio_host_faults};
+
+    /// A host that made no call, with a thread that closes the connections whose ends were retired. So a reactor does not keep its token for that, which
+    /// takes longer than to read from one. It is worth a thread where several lead in turn, and many connections are short. Where there is
+    /// no memory for it, or no thread, the host is as `new` makes it. The thread ends behind the host and the nets that it made.
+    pub fn with_closer(rt: R, alloc: Global) -> MioHost<R>
+        ensures { mio_host_faults result ≡ 0 }
+    {
+        MioHost {
+            rt,
+            faults: 0,
+            closer: Closer::start(rt, alloc),
+        }
     }
 }
 
@@ -88,10 +112,7 @@ impl<R: Sockets + Clock + Copy> Host for MioHost<R> {
         alloc: Global,
         port: u16,
     ) -> Result<(MioNet<R>, MioEnd, MioWake), ListenRefused> {
-        let Ok(retired) = room_for_retired(alloc) else {
-            return Err(ListenRefused::NoMemory);
-        };
-        let Ok(opened) = self.open(port, retired) else {
+        let Ok(opened) = self.open(port) else {
             self.faults = self.faults.saturating_add(1);
             return Err(ListenRefused::Failed);
         };
@@ -110,7 +131,10 @@ impl<R: Sockets + Clock + Copy> Host for MioHost<R> {
         let Ok(theirs) = Arc::try_clone(&shared) else {
             return Err(ListenRefused::NoMemory);
         };
-        let Ok(net) = MioNet::new(self.rt, alloc, poll, shared, start) else {
+        let Ok(closer) = self.closer.as_ref().map(Closer::try_clone).transpose() else {
+            return Err(ListenRefused::NoMemory);
+        };
+        let Ok(net) = MioNet::new(self.rt, alloc, poll, shared, closer, start) else {
             return Err(ListenRefused::NoMemory);
         };
         let waker = MioWake { shared: theirs };

@@ -18,13 +18,14 @@
 //!   neither is it lost nor does it spin. Want of memory for the new end goes the same way, which no test shows.
 //! - That a waker ends a wait. It costs a call of the system only while the net is in a wait; else the next wait returns at
 //!   once.
-//! - That the connection of a retired end is closed: at once, or, where the net was woken lately, by the next call of an end of the same net that
-//!   reads or accepts, or by the next wait, each of which may be made by any thread. So a reactor does not keep its token meanwhile where others want it.
+//! - That the connection of a retired end is closed: at once, or, where the host has a closer, soon: by its thread, or by the next wait.
+//!   So a reactor does not keep its token meanwhile. At most 64 wait for that; one more is closed at once.
 //! - That a write to a peer that is gone fails and raises no signal: the standard library sends with `MSG_NOSIGNAL`.
 //! - That up to as many connections as the system's `somaxconn` wait to be accepted. It is asked for the most that there are. No
 //!   number of descriptors is too great for epoll, as `FD_SETSIZE` is for `select`.
 #![tactic(auto)]
 
+mod closer;
 mod end;
 mod host;
 mod net;

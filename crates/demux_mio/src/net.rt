@@ -2,6 +2,7 @@
 ghost use Rattle.std.specs.Prelude.{◌≡◌, ◌≤◌, ◌<◌, ◌+◌, ◌∷◌, ◌^◌, [], ℕ, true, None, length, All, Contains, IfOk, OnErr, OnOk};
 
 use crate::MioEnd;
+use crate::closer::{Closer, MOST_RETIRED};
 use crate::readiness::Readiness;
 use crate::shared::Sharing;
 use crate::socket::Place;
@@ -43,6 +44,7 @@ pub struct MioNet<R> {
     poll: Poll,
     events: Events,
     shared: Sharing,
+    closer: Option<Closer>,
     start: Instant,
     last: u64,
     // When the listeners are tried again.
@@ -69,6 +71,7 @@ impl<R: Clock + Copy> MioNet<R> {
         alloc: Global,
         poll: Poll,
         shared: Sharing,
+        closer: Option<Closer>,
         start: Instant,
     ) -> Result<MioNet<R>, NoMemory>
         ensures { IfOk result (λ net. IsNew (mio_net_facts net)) }
@@ -79,6 +82,7 @@ impl<R: Clock + Copy> MioNet<R> {
             poll,
             events: Events::with_capacity(alloc, MOST_EVENTS)?,
             shared,
+            closer,
             start,
             last: 0,
             retry: None,
@@ -104,7 +108,7 @@ impl<R: Clock + Copy> MioNet<R> {
 
     /// How long to wait at most, where the caller names a limit or none.
     fn limit(&self, most_ms: Option<u64>) -> Option<Duration> {
-        if self.watching.is_owing() || self.shared.has_retired() {
+        if self.watching.is_owing() {
             return Some(Duration::ZERO);
         }
         let until_retry = self.retry.map(|retry| retry.saturating_sub(self.last));
@@ -115,17 +119,46 @@ impl<R: Clock + Copy> MioNet<R> {
         }
     }
 
-    /// Waits at the system, but not where somebody woke the net. A sleep that a wake cuts short costs both threads more than some looks: so where that
-    /// happened lately, it looks some times before it sleeps.
+    /// Waits at the system, but not where somebody woke the net. Before it sleeps it closes what was retired, and looks some times where a sleep was cut
+    /// short by a wake lately, which costs both threads more than the looks.
     fn wait_for_events(&mut self, limit: Option<Duration>) -> io::Result<()>
         ensures facts { mio_net_facts self.new ≡ mio_net_facts self.old }
         ensures asked { asked_of self.new ≡ asked_of self.old }
     {
-        if self.looking > 0 && limit != Some(Duration::ZERO) && self.look()? {
+        if self.close_retired(limit)?
+            || limit != Some(Duration::ZERO) && self.looking > 0 && self.look()?
+        {
             self.shared.end_wait();
             return Ok(());
         }
         self.sleep(limit)
+    }
+
+    /// Closes what was retired: where the closer sleeps at once, since to wake it takes as long, and else, beside it, while there are no events and the wait
+    /// is to last. Tells whether there are events.
+    fn close_retired(&mut self, limit: Option<Duration>) -> io::Result<bool>
+        ensures facts { mio_net_facts self.new ≡ mio_net_facts self.old }
+        ensures asked { asked_of self.new ≡ asked_of self.old }
+    {
+        for _ in 0..MOST_RETIRED {
+            let Some(closer) = &self.closer else {
+                return Ok(false);
+            };
+            if !closer.is_behind() {
+                return Ok(false);
+            }
+            if !closer.sleeps() {
+                if limit == Some(Duration::ZERO) || self.shared.is_woken() {
+                    return Ok(false);
+                }
+                self.poll.poll(&mut self.events, Some(Duration::ZERO))?;
+                if !self.events.is_empty() {
+                    return Ok(true);
+                }
+            }
+            closer.close_one();
+        }
+        Ok(false)
     }
 
     /// Looks for events without sleeping, and tells whether there are any, or somebody woke the net.
@@ -236,7 +269,6 @@ impl<R: Clock + Copy> Net for MioNet<R> {
         ensures wanted { GivesWanted result (asked_of self.old) (mio_net_facts self.new).reports }
     {
         self.note_failed_accepts();
-        self.shared.close_retired();
         let limit = self.limit(most_ms);
         if self.wait_for_events(limit).is_err() {
             self.failed_waits = self.failed_waits.saturating_add(1);
@@ -303,7 +335,9 @@ impl<R: Clock + Copy> Net for MioNet<R> {
         ensures asked { asked_of self.new ≡ Retires handle.0 ∷ asked_of self.old }
     {
         self.watching.remove(handle);
-        end.retire();
+        if let (Some(closer), Some(stream)) = (&self.closer, end.into_stream()) {
+            closer.hand_over(stream);
+        }
     }
 
     fn turn_away(&mut self, end: MioEnd) {

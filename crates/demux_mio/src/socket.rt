@@ -144,22 +144,16 @@ impl Socket {
         }
     }
 
-    /// Gives it up: it is closed at once, or, where it is a connection that was watched, soon, by whoever makes the next call.
-    pub(crate) fn retire(self) {
+    /// Gives up its connection, where it has one. A listener is closed.
+    pub(crate) fn into_stream(self) -> Option<TcpStream> {
         let Socket {
             opened,
-            place,
+            place: _,
             in_a_row: _,
         } = self;
-        if let (Opened::Stream(stream), Some(place)) = (opened, place) {
-            place.shared.retire(stream);
-        }
-    }
-
-    /// Closes a connection of the same net that was retired, if there is one.
-    fn close_one_retired(&self) {
-        if let Some(place) = &self.place {
-            place.shared.close_one_retired();
+        match opened {
+            Opened::Stream(stream) => Some(stream),
+            Opened::Nothing | Opened::Listener(_) => None,
         }
     }
 
@@ -170,7 +164,6 @@ impl Socket {
         if self.ends_row() {
             return Got::Pause;
         }
-        self.close_one_retired();
         self.begin(Kind::Read);
         let got = read_once(&mut self.opened, buf);
         self.count(got);
@@ -215,7 +208,6 @@ impl Socket {
 
     /// Accepts once. The net hears of a failure, and reports the listener again after a while.
     pub(crate) fn accept(&mut self) -> Accepted {
-        self.close_one_retired();
         self.begin(Kind::Read);
         let Opened::Listener(listener) = &self.opened else {
             return Accepted::Failed;

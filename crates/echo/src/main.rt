@@ -43,12 +43,12 @@ fn port(rt: &HostRuntime) -> Option<u16> {
 }
 
 /// Serves on this port until a wait fails or there is no memory. Tells why it ended.
-fn serve<R: Net + Clock + Threads + Wait + Copy + Send + Sync>(
+fn serve<R: Net + Clock + Threads + Wait + Copy + Send + Sync + 'static>(
     rt: R,
     alloc: Global,
     port: u16,
 ) -> &'static str {
-    let mut host = MioHost::new(rt);
+    let mut host = MioHost::with_closer(rt, alloc);
     let Ok((net, listener, waker)) = host.listen(alloc, port) else {
         return "echo: the port could not be opened";
     };

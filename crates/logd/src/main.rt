@@ -1,12 +1,17 @@
 //! `logd`, the networked logging server: the top call over standard input and output, and sockets.
 #![tactic(auto)]
 
+use command_words::Command;
 use demux_mio::MioHost;
 use ev_base::{StdSink, StdSource};
 use logging_server::{Served, fault_line, logd_main};
 use reactor_model::DropVolumes;
-use std::alloc::AllocError;
+use std::alloc::{AllocError, Global};
+use std::net::Net;
 use std::process::ExitCode;
+use std::sync::Wait;
+use std::thread::Threads;
+use std::time::Clock;
 use std::{env, io};
 
 /// The status of words that are none of the program's.
@@ -26,7 +31,7 @@ fn main(rt: HostRuntime) -> ExitCode {
     };
     let input = StdSource::new(rt.stdin());
     let output = StdSink::new(io::writer(&rt));
-    let mut host = MioHost::new(rt);
+    let mut host = host_for(rt, rt.alloc(), &words);
     let Served { status, at, .. } = logd_main(
         &rt,
         rt.alloc(),
@@ -54,6 +59,20 @@ fn command_words(rt: &HostRuntime) -> Result<Vec<String>, u8> {
     })?;
     let words: Result<Vec<String>, AllocError> = args.skip(1).collect(rt.alloc());
     words.map_err(|_| OUT_OF_MEMORY)
+}
+
+/// The host that the words want: where several workers are to serve, one that closes connections by a thread of its own.
+fn host_for<R: Net + Clock + Threads + Wait + Copy + Send + 'static>(
+    rt: R,
+    alloc: Global,
+    words: &[String],
+) -> MioHost<R> {
+    match Command::of(alloc, words) {
+        Ok(Some(Command::Serve { options, .. })) if options.workers > 1 => {
+            MioHost::with_closer(rt, alloc)
+        }
+        _ => MioHost::new(rt),
+    }
 }
 
 /// Says on standard error what the status means, where it is not 0, and ends with it.

@@ -52,7 +52,11 @@ fn a_connection_is_served(rt: HostRuntime) -> Result<(), Fail> {
         words.push(format!(in alloc; "{port}")?)?;
         let output = MemSink::new(alloc, 1_000, None).map_err(|_| Fail::from("no room"))?;
         let serve = || {
-            let mut host = MioHost::new(rt);
+            let mut host = if workers == "1" {
+                MioHost::new(rt)
+            } else {
+                MioHost::with_closer(rt, alloc)
+            };
             let input = SteadySource::new(Vec::new(alloc));
             logd_main(&rt, alloc, &words, &mut host, input, output, DropVolumes)
         };

@@ -62,7 +62,15 @@ fn handle_of(number: usize) -> u64 {
 impl Stand {
     /// A net whose listener has a port that was free, and what wakes the net.
     pub fn open(rt: HostRuntime, alloc: Global) -> Result<(Stand, MioWake), Fail> {
-        let mut host = MioHost::new(rt);
+        Stand::listen(rt, alloc, MioHost::new(rt))
+    }
+
+    /// A net as `open` makes it, of this host.
+    pub fn listen(
+        rt: HostRuntime,
+        alloc: Global,
+        mut host: MioHost<HostRuntime>,
+    ) -> Result<(Stand, MioWake), Fail> {
         match host.listen(alloc, 0) {
             Ok((net, listener, waker)) => {
                 let rig = Rig::new(alloc, net);

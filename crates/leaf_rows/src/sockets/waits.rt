@@ -4,8 +4,8 @@ use crate::asserts::assert_same;
 use crate::sockets::courses::Course;
 use crate::sockets::stand::{READ, Stand};
 use crate::sockets::steps::{Step, take};
-use demux_mio::MioWake;
-use ev_base::{Got, Wake};
+use demux_mio::{MioHost, MioWake};
+use ev_base::Wake;
 use ev_types::Kind;
 use std::alloc::Global;
 use std::sync::Arc;
@@ -74,21 +74,24 @@ fn a_wait_ends_with_its_limit_or_by_the_waker(rt: HostRuntime) -> Result<(), Fai
     Ok(())
 }
 
-/// A read of another end closes one that was retired, and a wait the other.
+/// A closer closes two that were retired, and one alone it or the next wait.
 #[test]
-fn behind_a_wake_what_is_retired_is_closed_soon(rt: HostRuntime) -> Result<(), Fail> {
-    let (mut stand, waker) = Stand::open(rt, rt.alloc())?;
+fn a_closer_closes_what_is_retired(rt: HostRuntime) -> Result<(), Fail> {
+    let alloc = rt.alloc();
+    let (mut stand, _) = Stand::listen(rt, alloc, MioHost::with_closer(rt, alloc))?;
     let mut room = [0; 100];
     let joined = stand.watch() && stand.join(READ) && stand.join(READ) && stand.join(READ);
-    waker.wake();
-    let retired = stand.is_quiet(0) && stand.retire(0) && stand.retire(1);
-    let paused = stand.read(2, &mut room) == Got::Pause;
-    let closed = stand.receive(0, &mut room) == Some(0);
-    let quiet = stand.is_quiet(0);
-    let other_closed = stand.receive(1, &mut room) == Some(0);
+    let both = joined && stand.join(READ) && stand.retire(0) && stand.retire(1);
+    let both_closed = stand.receive(0, &mut room) == Some(0)
+        && stand.receive(1, &mut room) == Some(0);
+    let looked = stand.retire(2) && stand.is_quiet(0);
+    let third_closed = stand.receive(2, &mut room) == Some(0);
+    let waited = stand.retire(3) && stand.is_quiet(20);
+    let last_closed = stand.receive(3, &mut room) == Some(0);
     drop(stand);
-    assert!(rt; joined && retired && paused);
-    assert!(rt; closed && quiet && other_closed);
+    assert!(rt; both && both_closed);
+    assert!(rt; looked && third_closed);
+    assert!(rt; waited && last_closed);
     Ok(())
 }
 

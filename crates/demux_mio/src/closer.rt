@@ -1,0 +1,172 @@
+//! A thread that closes connections.
+
+use ev_types::NoMemory;
+use mio::net::TcpStream;
+use std::alloc::{AllocError, Global};
+use std::collections::VecDeque;
+use std::hint::spin_loop;
+use std::sync::atomic::{AtomicBool, AtomicU64, Ordering};
+use std::sync::{Arc, Mutex, Wait};
+use std::thread::{Threads, spawn};
+
+/// How many retired connections wait for their close at most.
+pub(crate) const MOST_RETIRED: usize = 64;
+
+/// How often the thread looks for one before it sleeps: some 20 microseconds, in which a busy net retires the next.
+const LOOKS: u32 = 500;
+
+/// Connections that were retired and are not closed yet, the first in front, and the thread that closes them.
+#[derive(Drop)]
+struct Retired {
+    streams: Mutex<VecDeque<TcpStream>>,
+    // Whether there are any, so that nobody has to look further where there are none.
+    has_any: AtomicBool,
+    // Rises with each that is retired, and with each owner that leaves.
+    count: AtomicU64,
+    sleeps: AtomicBool,
+    owners: AtomicU64,
+}
+
+impl Retired {
+    // For one owner.
+    fn new(alloc: Global) -> Result<Retired, NoMemory> {
+        Ok(Retired {
+            streams: Mutex::new(VecDeque::with_capacity(alloc, MOST_RETIRED)?),
+            has_any: AtomicBool::new(false),
+            count: AtomicU64::new(0),
+            sleeps: AtomicBool::new(false),
+            owners: AtomicU64::new(1),
+        })
+    }
+
+    // Keeps a connection where there is a place for it and nobody takes one just now, and else closes it. Where another waits already the
+    // thread is to go on.
+    fn keep(&self, stream: TcpStream) {
+        let Some(mut streams) = self.streams.try_lock() else {
+            return;
+        };
+        if streams.len() >= MOST_RETIRED {
+            return;
+        }
+        let _ = streams.push_back(stream);
+        let several = streams.len() > 1;
+        self.has_any.store(true, Ordering::SeqCst);
+        drop(streams);
+        self.count.fetch_add(1, Ordering::SeqCst);
+        if several {
+            self.wake();
+        }
+    }
+
+    // Takes the next one, but not where another thread does.
+    fn try_next(&self) -> Option<TcpStream> {
+        let mut streams = self.streams.try_lock()?;
+        let stream = streams.pop_front();
+        self.has_any.store(!streams.is_empty(), Ordering::SeqCst);
+        stream
+    }
+
+    // Takes the next one.
+    fn next<R: Wait>(&self, rt: &R) -> Option<TcpStream> {
+        let mut streams = self.streams.lock(rt);
+        let stream = streams.pop_front();
+        self.has_any.store(!streams.is_empty(), Ordering::SeqCst);
+        stream
+    }
+
+    // Wakes the thread where it sleeps, and takes back that it does. It says so before it looks at the count for the last time, and the count has risen
+    // before this looks: so it does not sleep on.
+    fn wake(&self) {
+        if self.sleeps.load(Ordering::SeqCst) && self.sleeps.swap(false, Ordering::SeqCst) {
+            self.count.wake_one();
+        }
+    }
+
+    // Closes connections until every owner has left.
+    fn close_all<R: Wait>(&self, rt: &R) {
+        for _ in rt.forever() {
+            let count = self.count.load(Ordering::SeqCst);
+            match self.next(rt) {
+                Some(stream) => drop(stream),
+                None if self.owners.load(Ordering::SeqCst) == 0 => return,
+                None => self.rest(rt, count),
+            }
+        }
+    }
+
+    // Waits until the count is another one: looks some times, and then sleeps until somebody wakes it.
+    fn rest<R: Wait>(&self, rt: &R, count: u64) {
+        for _ in 0..LOOKS {
+            if self.count.load(Ordering::SeqCst) != count {
+                return;
+            }
+            spin_loop();
+        }
+        self.sleeps.store(true, Ordering::SeqCst);
+        self.count.park(rt, (count % (1 << 32)) as u32);
+        self.sleeps.store(false, Ordering::SeqCst);
+    }
+}
+
+/// An owner of a thread that closes connections. It ends once all its owners have gone and it has closed what waits.
+pub(crate) struct Closer {
+    retired: Arc<Retired, Global>,
+}
+
+impl Closer {
+    /// Starts one, where there is memory for it and a thread to be had.
+    pub(crate) fn start<R: Threads + Wait + Copy + Send + 'static>(
+        rt: R,
+        alloc: Global,
+    ) -> Option<Closer> {
+        let Ok(retired) = Retired::new(alloc) else {
+            return None;
+        };
+        let Ok(retired) = Arc::new(alloc, retired) else {
+            return None;
+        };
+        let Ok(theirs) = Arc::try_clone(&retired) else {
+            return None;
+        };
+        match spawn(&rt, move || theirs.close_all(&rt)) {
+            Ok(_) => Some(Closer { retired }),
+            Err(_) => None,
+        }
+    }
+
+    /// Hands a connection over to be closed soon.
+    pub(crate) fn hand_over(&self, stream: TcpStream) {
+        self.retired.keep(stream);
+    }
+
+    /// Whether there are connections that wait for their close.
+    pub(crate) fn is_behind(&self) -> bool {
+        self.retired.has_any.load(Ordering::SeqCst)
+    }
+
+    /// Closes the next one in the caller's thread.
+    pub(crate) fn close_one(&self) {
+        drop(self.retired.try_next());
+    }
+
+    /// Whether its thread sleeps, and nobody has woken it.
+    pub(crate) fn sleeps(&self) -> bool {
+        self.retired.sleeps.load(Ordering::SeqCst)
+    }
+
+    /// One more owner.
+    pub(crate) fn try_clone(&self) -> Result<Closer, AllocError> {
+        let retired = Arc::try_clone(&self.retired)?;
+        retired.owners.fetch_add(1, Ordering::SeqCst);
+        Ok(Closer { retired })
+    }
+}
+
+impl Drop for Closer {
+    fn drop(self) {
+        let Self { retired } = self;
+        retired.owners.fetch_sub(1, Ordering::SeqCst);
+        retired.count.fetch_add(1, Ordering::SeqCst);
+        retired.wake();
+    }
+}
