@@ -74,14 +74,15 @@ fn a_wait_ends_with_its_limit_or_by_the_waker(rt: HostRuntime) -> Result<(), Fai
     Ok(())
 }
 
-/// A closer closes two that were retired, and one alone it or the next wait.
+/// What was retired is closed by the closer or by the next wait.
 #[test]
 fn a_closer_closes_what_is_retired(rt: HostRuntime) -> Result<(), Fail> {
     let alloc = rt.alloc();
     let (mut stand, _) = Stand::listen(rt, alloc, MioHost::with_closer(rt, alloc))?;
     let mut room = [0; 100];
     let joined = stand.watch() && stand.join(READ) && stand.join(READ) && stand.join(READ);
-    let both = joined && stand.join(READ) && stand.retire(0) && stand.retire(1);
+    let retired = joined && stand.join(READ) && stand.retire(0) && stand.retire(1);
+    let both = retired && stand.is_quiet(0);
     let both_closed = stand.receive(0, &mut room) == Some(0)
         && stand.receive(1, &mut room) == Some(0);
     let looked = stand.retire(2) && stand.is_quiet(0);
