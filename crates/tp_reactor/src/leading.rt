@@ -117,7 +117,7 @@ impl<
         let counted = self.turns.begin();
         self.heed_callers();
         let led = held.value().lead(&self.ring, most_ms);
-        self.end_turn(counted, started_at(&led), held.seen());
+        self.end_turn(counted, has_started(&led), held.seen());
         self.token.put(&mut worker.pass, held);
         self.turns.rouse();
         led
@@ -203,7 +203,7 @@ impl<
 
     // Settles the worker's own upcall as `settle` does, and leads in the same hold of the token, so that a worker that goes on takes the token once
     // for each upcall. It does not lead where as many handlers were closed as `pause_at` says, so that the caller can post that first, nor where
-    // a volume is to be handed over, nor where a worker is to become a follower again.
+    // a volume is to be handed over.
     pub(crate) fn settle_on<R: Wait>(
         &self,
         rt: &R,
@@ -224,29 +224,29 @@ impl<
         let mut held = self.take(rt, worker);
         let counted = self.turns.begin();
         let settled = held.value().settle(done);
-        if is_reached(pause_at, settled.closed) || self.turns.has_surplus() {
-            self.end_turn(counted, None, held.seen());
+        if is_reached(pause_at, settled.closed) {
+            self.end_turn(counted, false, held.seen());
             self.token.put(&mut worker.pass, held);
             self.turns.rouse();
             return (settled, None);
         }
         self.heed_callers();
         let led = held.value().lead_on(&self.ring, most_ms);
-        self.end_turn(counted, led.as_ref().and_then(started_at), held.seen());
+        self.end_turn(counted, led.as_ref().is_some_and(has_started), held.seen());
         self.token.put(&mut worker.pass, held);
         self.turns.rouse();
         (settled, led)
     }
 
     // Ends a counted turn of a leader, and says to a follower that asks whether upcalls wait.
-    fn end_turn(&self, counted: bool, started: Option<u64>, desk: &Desk<H, M, Q, W, V>) {
+    fn end_turn(&self, counted: bool, started: bool, desk: &Desk<H, M, Q, W, V>) {
         if !counted {
             return;
         }
-        if started.is_some() && self.turns.is_asked() && desk.has_next() {
+        if started && self.turns.is_asked() && desk.has_next() {
             self.turns.tell_waiting();
         }
-        self.turns.end(started);
+        self.turns.end();
     }
 
     // Lets the next wait end at once where calls want the token.
@@ -276,11 +276,11 @@ impl<
     }
 }
 
-// At which moment a lead started an upcall, where it did.
-fn started_at<H: EventHandler>(led: &Led<H>) -> Option<u64> {
+// Whether a lead started an upcall.
+fn has_started<H: EventHandler>(led: &Led<H>) -> bool {
     match led {
-        Led::Job(job) => Some(job.now()),
-        _ => None,
+        Led::Job(_) => true,
+        _ => false,
     }
 }
 

@@ -3,7 +3,6 @@
 
 mod asking;
 mod crew;
-mod gains;
 mod leading;
 mod pool;
 mod promoting;

@@ -1,6 +1,5 @@
 //! When a follower is promoted (POSA2, Leader/Followers). It decides who leads when, and of that no contract speaks.
 
-use crate::gains::Gains;
 use std::sync::Wait;
 use std::sync::atomic::{AtomicBool, AtomicU64, Ordering};
 use std::time::Duration;
@@ -34,8 +33,6 @@ pub(crate) struct Turns {
     asked: AtomicBool,
     waiting: AtomicU64,
     delayed: AtomicU64,
-    // Whether one more that leads is a gain.
-    gains: Gains,
 }
 
 impl Turns {
@@ -50,7 +47,6 @@ impl Turns {
             asked: AtomicBool::new(false),
             waiting: AtomicU64::new(0),
             delayed: AtomicU64::new(0),
-            gains: Gains::new(),
         }
     }
 
@@ -113,22 +109,9 @@ impl Turns {
         }
     }
 
-    // A counted turn ends, which started an upcall at this moment, where it started one.
-    pub(crate) fn end(&self, started: Option<u64>) {
-        let before = self.count.fetch_add(1, Ordering::SeqCst);
-        if let Some(now) = started {
-            self.gains.note(now, before);
-        }
-    }
-
-    // Whether a worker is to become a follower, since as many as lead are no gain.
-    pub(crate) fn has_surplus(&self) -> bool {
-        self.gains.is_surplus()
-    }
-
-    // Whether the worker that asks is to become one.
-    pub(crate) fn dismisses(&self) -> bool {
-        self.gains.dismisses() && !self.is_alone()
+    // A counted turn ends.
+    pub(crate) fn end(&self) {
+        self.count.fetch_add(1, Ordering::SeqCst);
     }
 
     // Wakes a follower that sleeps until a turn ends. A turn raises the count before this looks, and a follower says that it sleeps before it
@@ -149,8 +132,8 @@ impl Turns {
             self.doze.park_timeout(rt, 0, Duration::from_micros(DOZE));
             let risen = self.count.load(Ordering::SeqCst).wrapping_sub(before);
             if risen > 0 {
-                if self.is_wanted(risen / 2) && self.gains.allows() {
-                    return self.gains.try_one();
+                if self.is_wanted(risen / 2) {
+                    return;
                 }
             } else if before % 2 == 0 {
                 return;

@@ -147,7 +147,7 @@ impl<
         self.tell(worker, until, settled, waits);
         match led {
             Some(led) => led,
-            None => self.lead_on(rt, worker, most_ms, self.turns.dismisses()),
+            None => self.lead_now(rt, worker, most_ms),
         }
     }
 
