@@ -7,15 +7,20 @@ use ev_base::{StdSink, StdSource};
 use logging_server::{Served, fault_line, logd_main};
 use reactor_model::DropVolumes;
 use std::alloc::{AllocError, Global};
+use std::io::Stdout;
 use std::net::Net;
 use std::process::ExitCode;
 use std::sync::Wait;
 use std::thread::Threads;
 use std::time::Clock;
 use std::{env, io};
+use write_behind::WriteBehind;
 
 /// The status of words that are none of the program's.
 const USAGE: u8 = 1;
+
+/// The status of a failed write.
+const WRITE_FAILED: u8 = 4;
 
 /// The status of want of memory.
 const OUT_OF_MEMORY: u8 = 6;
@@ -30,9 +35,15 @@ fn main(rt: HostRuntime) -> ExitCode {
         Err(status) => return end_with(&rt, status, 0),
     };
     let input = StdSource::new(rt.stdin());
-    let output = StdSink::new(io::writer(&rt));
-    let mut host = host_for(rt, rt.alloc(), &words);
-    let Served { status, at, .. } = logd_main(
+    let several = has_several_workers(rt.alloc(), &words);
+    let output = output_for(rt, rt.alloc(), rt.stdout(), several);
+    let mut host = host_for(rt, rt.alloc(), several);
+    let Served {
+        status,
+        at,
+        output,
+        ..
+    } = logd_main(
         &rt,
         rt.alloc(),
         &words,
@@ -41,6 +52,12 @@ fn main(rt: HostRuntime) -> ExitCode {
         output,
         DropVolumes,
     );
+    let written = output.finish();
+    let status = if status == 0 && !written {
+        WRITE_FAILED
+    } else {
+        status
+    };
     end_with(&rt, status, at)
 }
 
@@ -61,18 +78,38 @@ fn command_words(rt: &HostRuntime) -> Result<Vec<String>, u8> {
     words.map_err(|_| OUT_OF_MEMORY)
 }
 
-/// The host that the words want: where several workers are to serve, one that closes connections by a thread of its own.
+/// Whether the words want a server with several workers.
+fn has_several_workers(alloc: Global, words: &[String]) -> bool {
+    match Command::of(alloc, words) {
+        Ok(Some(Command::Serve { options, .. })) => options.workers > 1,
+        _ => false,
+    }
+}
+
+/// The host: for several workers one that closes connections by a thread of its own.
 fn host_for<R: Net + Clock + Threads + Wait + Copy + Send + 'static>(
     rt: R,
     alloc: Global,
-    words: &[String],
+    several: bool,
 ) -> MioHost<R> {
-    match Command::of(alloc, words) {
-        Ok(Some(Command::Serve { options, .. })) if options.workers > 1 => {
-            MioHost::with_closer(rt, alloc)
-        }
-        _ => MioHost::new(rt),
+    if several {
+        MioHost::with_closer(rt, alloc)
+    } else {
+        MioHost::new(rt)
     }
+}
+
+/// The output over standard output: for several workers, of whom one has the token while it writes, with a thread that writes behind.
+fn output_for<R: Clock + Threads + Wait + Copy + Send + 'static>(
+    rt: R,
+    alloc: Global,
+    stdout: Stdout,
+    several: bool,
+) -> WriteBehind<R, StdSink<Stdout>> {
+    if several && let Ok(output) = WriteBehind::start(rt, alloc, StdSink::new(stdout)) {
+        return output;
+    }
+    WriteBehind::at_once(rt, StdSink::new(stdout))
 }
 
 /// Says on standard error what the status means, where it is not 0, and ends with it.
