@@ -3,11 +3,10 @@
 
 use command_words::Command;
 use demux_mio::MioHost;
-use ev_base::{StdSink, StdSource};
+use ev_base::{Sink, Source, StdSink, StdSource};
 use logging_server::{Served, fault_line, logd_main};
 use reactor_model::DropVolumes;
 use std::alloc::{AllocError, Global};
-use std::io::Stdout;
 use std::net::Net;
 use std::process::ExitCode;
 use std::sync::Wait;
@@ -36,29 +35,55 @@ fn main(rt: HostRuntime) -> ExitCode {
     };
     let input = StdSource::new(rt.stdin());
     let several = has_several_workers(rt.alloc(), &words);
-    let output = output_for(rt, rt.alloc(), rt.stdout(), several);
-    let mut host = host_for(rt, rt.alloc(), several);
+    let (status, at) = if several
+        && let Ok(output) = WriteBehind::start(rt, rt.alloc(), StdSink::new(rt.stdout()))
+    {
+        run_behind(rt, rt.alloc(), &words, input, output)
+    } else {
+        let mut host = host_for(rt, rt.alloc(), several);
+        let output = StdSink::new(io::writer(&rt));
+        let (status, at, _) = run(&rt, rt.alloc(), &words, &mut host, input, output);
+        (status, at)
+    };
+    end_with(&rt, status, at)
+}
+
+/// Does what the words want, and gives the status, its number and the output.
+fn run<
+    R: Net + Clock + Threads + Wait + Copy + Send + Sync + 'static,
+    S: Source + Drop,
+    K: Sink + Send,
+>(
+    rt: &R,
+    alloc: Global,
+    words: &[String],
+    host: &mut MioHost<R>,
+    input: S,
+    output: K,
+) -> (u8, u64, K) {
     let Served {
         status,
         at,
         output,
         ..
-    } = logd_main(
-        &rt,
-        rt.alloc(),
-        &words,
-        &mut host,
-        input,
-        output,
-        DropVolumes,
-    );
+    } = logd_main(rt, alloc, words, host, input, output, DropVolumes);
+    (status, at, output)
+}
+
+/// Serves by several workers, of whom one has the token while lines are written: so a thread writes them, and another closes connections. Where all went
+/// well but a write of the thread's behind the last line failed, the status is that of a failed write.
+fn run_behind<
+    R: Net + Clock + Threads + Wait + Copy + Send + Sync + 'static,
+    S: Source + Drop,
+    K: Sink + Send + Drop + 'static,
+>(rt: R, alloc: Global, words: &[String], input: S, output: WriteBehind<R, K>) -> (u8, u64) {
+    let mut host = host_for(rt, alloc, true);
+    let (status, at, output) = run(&rt, alloc, words, &mut host, input, output);
     let written = output.finish();
-    let status = if status == 0 && !written {
-        WRITE_FAILED
-    } else {
-        status
-    };
-    end_with(&rt, status, at)
+    if status == 0 && !written {
+        return (WRITE_FAILED, at);
+    }
+    (status, at)
 }
 
 /// Takes a large block and lets it go. From then on the C library's allocator keeps up to twice as much freed memory for what is taken next. Else it
@@ -97,19 +122,6 @@ fn host_for<R: Net + Clock + Threads + Wait + Copy + Send + 'static>(
     } else {
         MioHost::new(rt)
     }
-}
-
-/// The output over standard output: for several workers, of whom one has the token while it writes, with a thread that writes behind.
-fn output_for<R: Clock + Threads + Wait + Copy + Send + 'static>(
-    rt: R,
-    alloc: Global,
-    stdout: Stdout,
-    several: bool,
-) -> WriteBehind<R, StdSink<Stdout>> {
-    if several && let Ok(output) = WriteBehind::start(rt, alloc, StdSink::new(stdout)) {
-        return output;
-    }
-    WriteBehind::at_once(rt, StdSink::new(stdout))
 }
 
 /// Says on standard error what the status means, where it is not 0, and ends with it.

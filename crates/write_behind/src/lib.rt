@@ -7,7 +7,8 @@
 //!
 //! - That the sink below gets all that was put, in order, and in the end all of it, unless a write of it failed: then it gets nothing more, and each later
 //!   write is a fault. At most 64 KiB wait; who puts more waits for room.
-//! - That a write comes at once where the one before it is long past, and that the thread ends once the sink is finished or dropped.
+//! - That `finish` tells that all was written where it was; that a write comes at once where the one before it is long past; and that the thread ends once
+//!   the sink is finished or dropped.
 #![tactic(auto)]
 
 mod pace;

@@ -103,13 +103,3 @@ fn a_fault_is_told_at_the_end(rt: HostRuntime) -> Result<(), Fail> {
     assert!(rt; taken.len() < limit + MOST_TAKEN && are_in_front(&taken));
     Ok(())
 }
-
-#[test]
-fn without_a_thread_a_piece_is_written_at_once(rt: HostRuntime) -> Result<(), Fail> {
-    let (sink, taken) = slow_sink(rt, rt.alloc(), usize::MAX)?;
-    let mut output = WriteBehind::at_once(rt, sink);
-    assert!(rt; write_all(&mut output, b"line\n"));
-    let is_there = taken.lock(&rt).as_slice() == b"line\n".as_slice();
-    assert!(rt; is_there && output.finish());
-    Ok(())
-}

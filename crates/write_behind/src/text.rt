@@ -5,7 +5,7 @@ use ev_types::NoMemory;
 use std::alloc::Global;
 
 /// How many bytes it has room for: 64 KiB.
-pub(crate) const ROOM: usize = 65_536;
+const ROOM: usize = 65_536;
 
 /// A text in a place of fixed length.
 #[derive(Drop)]

@@ -113,7 +113,7 @@ impl<K: Sink + Drop> Unwritten<K> {
     }
 
     // Writes what is put, until no more will be.
-    fn write_all<R: Wait>(&self, rt: &R, room: Text) {
+    fn run<R: Wait>(&self, rt: &R, room: Text) {
         let mut mine = room;
         for _ in rt.forever() {
             let put = self.put.load(Ordering::SeqCst);
@@ -190,7 +190,7 @@ impl<K: Sink + Send + Drop + 'static> Writer<K> {
         let Ok(theirs) = Arc::try_clone(&unwritten) else {
             return Err(NoMemory);
         };
-        match spawn(&rt, move || theirs.write_all(&rt, room)) {
+        match spawn(&rt, move || theirs.run(&rt, room)) {
             Ok(_) => Ok(Writer {
                 unwritten,
                 pace: Pace::new(),
