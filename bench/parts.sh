@@ -5,9 +5,9 @@
 root=$(cd "$(dirname "$0")/.." && pwd)
 work=$(mktemp -d) || exit 1
 trap 'rm -rf "$work"' EXIT
-(cd "$root/crates/bench_parts" && rt run >/dev/null 2>&1 </dev/null) || { echo "bench_parts could not be built" >&2; exit 1; }
+(cd "$root/crates/bench_parts_run" && rt run >/dev/null 2>&1 </dev/null) || { echo "bench_parts could not be built" >&2; exit 1; }
 c++ -O2 -o "$work/ace" "$root/bench/ace_parts.cpp" -lACE 2>/dev/null || echo "ACE is not here (libace-dev): its column is left out"
-"$root/crates/bench_parts/out/bench_parts" time >"$work/ours" || exit 1
+"$root/crates/bench_parts_run/out/bench_parts_run" time >"$work/ours" || exit 1
 [ -x "$work/ace" ] && "$work/ace" >"$work/theirs"
 awk -F': ' '
     FILENAME ~ /theirs$/ { theirs[$1] = $2; next }

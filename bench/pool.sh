@@ -1,12 +1,12 @@
 #!/bin/sh
-# Runs crates/bench_reactor by one thread and by pools in turn, five times each, and prints medians: what an event costs in a pool of 1, 2, 4
+# Runs crates/bench_reactor_run by one thread and by pools in turn, five times each, and prints medians: what an event costs in a pool of 1, 2, 4
 # and 8 workers over 1, 100 and 4,000 handles, in nanoseconds, as a multiple of what it costs in the one-thread reactor with the same handlers,
 # and as one of what it costs there with handlers that are 8 bytes smaller and count nothing; how many upcalls of about 20 microseconds of
 # work are made in a second by 1, 2, 4 and 8 workers; and how long the slowest of 10,000 removals, and of the settlings beside them, took
 # while a leader waited at a net for up to 10 seconds. Needs rt and python3; read the ratios on a machine that does nothing else.
 root=$(cd "$(dirname "$0")/.." && pwd)
-(cd "$root/crates/bench_reactor" && rt run >/dev/null 2>&1 </dev/null) || exit 1
-exec python3 - "$root/crates/bench_reactor/out/bench_reactor" <<'P'
+(cd "$root/crates/bench_reactor_run" && rt run >/dev/null 2>&1 </dev/null) || exit 1
+exec python3 - "$root/crates/bench_reactor_run/out/bench_reactor_run" <<'P'
 import collections, re, statistics, subprocess, sys
 program = sys.argv[1]
 TURNS = 5

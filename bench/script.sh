@@ -7,10 +7,10 @@ work=$(mktemp -d) || exit 1
 trap 'rm -rf "$work"' EXIT
 c++ -O2 -std=c++17 -o "$work/gen" "$root/bench/gen_script.cpp" || exit 1
 c++ -O2 -std=c++17 -o "$work/plain" "$root/bench/plain_script.cpp" || exit 1
-(cd "$root/crates/bench_parts" && rt run >/dev/null 2>&1 </dev/null) || { echo "bench_parts could not be built" >&2; exit 1; }
+(cd "$root/crates/bench_parts_run" && rt run >/dev/null 2>&1 </dev/null) || { echo "bench_parts could not be built" >&2; exit 1; }
 "$work/gen" 1000 7 >"$work/script" || exit 1
 "$work/plain" <"$work/script" >"$work/theirs" || exit 1
-"$root/crates/bench_parts/out/bench_parts" time script <"$work/script" >"$work/ours" || exit 1
+"$root/crates/bench_parts_run/out/bench_parts_run" time script <"$work/script" >"$work/ours" || exit 1
 read -r bad theirs <"$work/theirs"
 read -r found ours <"$work/ours"
 [ "$bad" = "$found" ] || { echo "the first bad lines differ: $bad and $found" >&2; exit 1; }

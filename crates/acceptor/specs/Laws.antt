@@ -1,8 +1,9 @@
 -- What the turns of an acceptor come to, all in all.
-use Rattle.std.specs.Prelude.{◌≡◌, ◌≤◌, ◌<◌, ℕ, zero, suc, List, [], ◌∷◌, ◌++◌, length, flat_map, Option, Some, None}
+use Rattle.std.specs.Prelude.{◌≡◌, ◌≤◌, ◌<◌, ℕ, zero, suc, List, [], ◌∷◌, ◌++◌, length, flat_map}
+use Rattle.std.specs.Prelude.{Option, Some, None}
 use Rattle.std.specs.List.{count_by}
 use Rattle.ev_base.specs.Story.{Offer, Connection, NoneThere, OneFailure, Offering}
-use Rattle.reactor_journal.specs.Event.{Item}
+use Rattle.reactor_model.specs.reactor_journal.specs.Event.{Item}
 use Rattle.log_handler.specs.declared.note.ServerNote.{ServerNote}
 use Rattle.log_handler.specs.declared.note.ServerNote.TheVariants as note
 use Rattle.log_handler.specs.Laws.{on_input, asks_again}
@@ -29,8 +30,8 @@ serials_of (Connection serial ∷ offers) = serial ∷ serials_of offers
 serials_of (NoneThere ∷ offers) = serials_of offers
 serials_of (OneFailure ∷ offers) = serials_of offers
 
--- A front of the offers that were left was taken, with so many connections. Where the story numbers its connections from this one
--- on, these have the numbers from it on.
+-- A front of the offers that were left was taken, with so many connections. Where the story numbers
+-- its connections from this one on, these have the numbers from it on.
 pub record TakesFront (start now : Offering) (first many : ℕ) : Type 0 where
   pub front : List Offer
   pub left : start.left ≡ front ++ now.left
@@ -45,7 +46,8 @@ TakesOffers (Some start) None first many = ⊥
 TakesOffers (Some start) (Some now) first many = TakesFront start now first many
 
 -- what the turns of an acceptor come to that has had them from its start on
-pub record Accounts (offering : Option Offering) (had : List (Item ServerNote)) (p : Progress) : Type 0 where
+pub record Accounts (offering : Option Offering) (had : List (Item ServerNote))
+    (p : Progress) : Type 0 where
   -- the connections are noted with the numbers 0, 1, 2 and so on, and no more than it may take
   pub notes : flat_map number_in had ≡ numbers_from 0 p.taken
   pub most : p.taken ≤ most_connections
@@ -54,8 +56,10 @@ pub record Accounts (offering : Option Offering) (had : List (Item ServerNote)) 
   -- each turn of input made one accept while it might take one more, and no other turn did
   pub accepts : p.taken < most_connections → p.accepts ≡ count_by on_input had
   pub no_others : p.accepts ≤ count_by on_input had
-  -- the ends that it took are a front of the listener's story, where that is told, and connection c is that of number c
+  -- the ends that it took are a front of the listener's story, where that is told, and connection c
+  -- is that of number c
   pub offers : TakesOffers offering p.offering 0 p.taken
 
 abbrev pub CoursesAccount : Type 0
-CoursesAccount = (offering : Option Offering) (had : List (Item ServerNote)) (p : Progress) → Course (at_start offering) had p → Accounts offering had p
+CoursesAccount = (offering : Option Offering) (had : List (Item ServerNote)) (p : Progress)
+    → Course (at_start offering) had p → Accounts offering had p

@@ -4,3 +4,7 @@ pub mod Acceptors
 pub mod Servers
 pub mod Steps
 pub mod Laws
+pub use Rattle.log_handler.specs.cdr_record
+pub use Rattle.log_handler.specs.log_lines
+pub use Rattle.reactor_model.specs.reactor_journal
+pub use Rattle.log_handler

@@ -1,5 +1,5 @@
-//! The acceptor of the logging server, and the handlers of the server: the acceptor and the connections that it takes (C++NPv2
-//! chapter 4, `Logging_Acceptor`; POSA2, Acceptor-Connector).
+//! The acceptor of the logging server, and the handlers of the server: the acceptor and the
+//! connections that it takes (C++NPv2 chapter 4, `Logging_Acceptor`; POSA2, Acceptor-Connector).
 #![tactic(auto)]
 
 mod acceptor;

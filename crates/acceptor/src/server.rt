@@ -1,19 +1,19 @@
 //! The handlers of the server.
 ghost use Rattle.std.specs.Prelude.{◌≡◌, ◌≢◌, ℕ, List, Option, Some, None, true, false};
-ghost use Rattle.ev_types.specs.declared.upcall.Upcall.TheVariants.{Input};
-ghost use Rattle.ev_types.specs.declared.upcall.Why.TheVariants.{Own};
+ghost use Rattle.ev_base.specs.ev_types.specs.declared.upcall.Upcall.TheVariants.{Input};
+ghost use Rattle.ev_base.specs.ev_types.specs.declared.upcall.Why.TheVariants.{Own};
 ghost use Rattle.ev_base.specs.Terms.{Terms};
-ghost use Rattle.reactor_journal.specs.Event.{Item, Origin};
+ghost use Rattle.reactor_model.specs.reactor_journal.specs.Event.{Item, Origin};
 ghost use Rattle.reactor_model.specs.Handling.{NoClose, EndsInClose, Names};
 ghost use Rattle.reactor_model.specs.Turns.{TakesTurn, KeepsPromises};
 ghost use Rattle.log_handler.specs.Connections.{serial_named, connections};
 ghost use Rattle.log_handler.specs.Notes.{is_piece};
-ghost use Rattle.acceptor.specs.Servers.{ServerFits, ServerGone, servers, is_accepted, end_of_server};
+ghost use Rattle.acceptor.specs.Servers.{ServerFits, ServerGone, servers, is_accepted};
+ghost use Rattle.acceptor.specs.Servers.{end_of_server};
 ghost use Rattle.acceptor.specs.Steps.{TellsInput, ActsSo, NotesShut};
 
 use crate::acceptor::Acceptor;
-use ev_base::{Net, PeerEnd};
-use ev_types::{Handle, Mask, NetFailed, Upcall, Why};
+use ev_base::{Handle, Mask, Net, NetFailed, PeerEnd, Upcall, Why};
 use log_handler::{LogConnection, ServerNote};
 use reactor_model::{EventHandler, Turn};
 
@@ -25,8 +25,8 @@ pub enum ServerHandler<E: PeerEnd> {
     Talk(LogConnection<E>),
 }
 
-/// The turn of a connection as one of the server's handlers. It notes what it took, and so never `Accepted`, whose turn always offers a
-/// connection.
+/// The turn of a connection as one of the server's handlers. It notes what it took, and so never
+/// `Accepted`, whose turn always offers a connection.
 fn talked<E: PeerEnd>(turn: Turn<LogConnection<E>>) -> Turn<ServerHandler<E>>
     requires quiet { turn.act ≡ None }
     requires piece { is_piece turn.note ≡ true }
@@ -54,14 +54,17 @@ impl<E: PeerEnd> EventHandler for ServerHandler<E> {
     ghost means = { servers E.tells E.keeps };
 
     fn upcall(&mut self, up: Upcall, now: u64) -> Turn<ServerHandler<E>>
-        ensures turn { (t : Terms) (origin : Option (Origin ServerNote)) (had : List (Item ServerNote)) → NoClose had
-            → ServerFits E.tells E.keeps t origin self.old had → TakesTurn (servers E.tells E.keeps) t origin up now had self.new result }
+        ensures turn { (t : Terms) (origin : Option (Origin ServerNote))
+            (had : List (Item ServerNote)) → NoClose had
+            → ServerFits E.tells E.keeps t origin self.old had
+            → TakesTurn (servers E.tells E.keeps) t origin up now had self.new result }
         ensures promises { KeepsPromises (servers E.tells E.keeps) up result }
 
         // An acceptor stops the reactor at a notice, and offers a connection where it accepted one.
         ensures acts { ActsSo self.old up result }
 
-        // Of input: what an acceptor's one accept came to, and where a connection's one read paused.
+        // Of input: what an acceptor's one accept came to, and where a connection's one read
+        // paused.
         ensures tells { up ≡ Input → TellsInput E.tells self.old self.new result }
     {
         match self {
@@ -83,14 +86,19 @@ impl<E: PeerEnd> EventHandler for ServerHandler<E> {
     }
 
     fn handle_close(self, why: Why) -> (E, ServerNote)
-        ensures gone { (t : Terms) (origin : Option (Origin ServerNote)) (had : List (Item ServerNote)) → (why ≡ Own → EndsInClose had)
-            → ServerFits E.tells E.keeps t origin self had → ServerGone E.tells E.keeps t origin result.0 had why result.1 }
-        ensures serial { (t : Terms) (origin : Option (Origin ServerNote)) (had : List (Item ServerNote))
-            → ServerFits E.tells E.keeps t origin self had → Names (serial_named t origin) (E.tells result.0).serial }
-        ensures kept { (t : Terms) (origin : Option (Origin ServerNote)) (had : List (Item ServerNote))
-            → ServerFits E.tells E.keeps t origin self had → E.keeps t result.0 }
+        ensures gone { (t : Terms) (origin : Option (Origin ServerNote))
+            (had : List (Item ServerNote)) → (why ≡ Own → EndsInClose had)
+            → ServerFits E.tells E.keeps t origin self had
+            → ServerGone E.tells E.keeps t origin result.0 had why result.1 }
+        ensures serial { (t : Terms) (origin : Option (Origin ServerNote))
+            (had : List (Item ServerNote)) → ServerFits E.tells E.keeps t origin self had
+            → Names (serial_named t origin) (E.tells result.0).serial }
+        ensures kept { (t : Terms) (origin : Option (Origin ServerNote))
+            (had : List (Item ServerNote)) → ServerFits E.tells E.keeps t origin self had
+            → E.keeps t result.0 }
 
-        // The end that it gives is its own, and the note of an acceptor is the same for every reason.
+        // The end that it gives is its own, and the note of an acceptor is the same for every
+        // reason.
         ensures end { result.0 ≡ end_of_server self }
         ensures shut { NotesShut self result.1 }
     {

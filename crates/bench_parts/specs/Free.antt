@@ -9,7 +9,8 @@ abbrev pub IsFree : {T E Q : Type 0} {kept : Keeping T E Q} → Token T E Q → 
 IsFree token pass = (token_of pass ≡ id_of token) × ((view_of pass).base ≡ None)
 
 -- The root pass of a token, which made no other pass yet.
-pub record IsRoot {T E Q : Type 0} {kept : Keeping T E Q} (token : Token T E Q) (pass : Pass T E Q kept) : Type 0 where
+pub record IsRoot {T E Q : Type 0} {kept : Keeping T E Q} (token : Token T E Q)
+    (pass : Pass T E Q kept) : Type 0 where
   pub free : IsFree token pass
   pub root : (view_of pass).root ≡ true
   pub alone : (view_of pass).children ≡ 0

@@ -8,8 +8,8 @@ use std::alloc::Global;
 use std::sync::Wait;
 use std::thread::Threads;
 
-/// Puts so many messages through a passing task on a thread of its own, and tells how many came out. Messages that came out are put
-/// again.
+/// Puts so many messages through a passing task on a thread of its own, and tells how many came
+/// out. Messages that came out are put again.
 pub fn run<R: Threads + Wait + Copy + Send + 'static>(
     rt: &R,
     alloc: Global,

@@ -1,5 +1,5 @@
-//! What it costs to check a journal: with few handles and many waiting events, with 10,000 armed timers, and with 10,000 live
-//! handles.
+//! What it costs to check a journal: with few handles and many waiting events, with 10,000 armed
+//! timers, and with 10,000 live handles.
 
 use crate::journals::{backlog, periodic, served};
 use ev_types::NoMemory;

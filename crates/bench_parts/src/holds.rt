@@ -48,7 +48,8 @@ pub fn token_with<B: Drop>(
     }
 }
 
-/// So many threads hold a token so often each: 1, 2, 4 or 8. The answer is how many holds there were.
+/// So many threads hold a token so often each: 1, 2, 4 or 8. The answer is how many holds there
+/// were.
 pub fn hold_by<R: Threads + Wait + Sync, T: Kept + Send>(
     rt: &R,
     token: &Token<T>,
@@ -110,10 +111,12 @@ fn hold_by_eight<R: Threads + Wait + Sync, T: Kept + Send>(
     let (left, right) = join(
         rt,
         move || -> u64
-            requires { IsFree token.now root × IsFree token.now b × IsFree token.now c × IsFree token.now d }
+            requires { IsFree token.now root × IsFree token.now b × IsFree token.now c
+                × IsFree token.now d }
         { four(rt, token, (root, b), (c, d), turns) },
         move || -> u64
-            requires { IsFree token.now e × IsFree token.now f × IsFree token.now g × IsFree token.now h }
+            requires { IsFree token.now e × IsFree token.now f × IsFree token.now g
+                × IsFree token.now h }
         { four(rt, token, (e, f), (g, h), turns) },
     );
     left.saturating_add(right)
@@ -128,7 +131,8 @@ fn four<R: Threads + Wait + Sync, T: Kept + Send>(
     right: Two<T>,
     turns: u64,
 ) -> u64
-    requires { IsFree token.now left.0 × IsFree token.now left.1 × IsFree token.now right.0 × IsFree token.now right.1 }
+    requires { IsFree token.now left.0 × IsFree token.now left.1 × IsFree token.now right.0
+        × IsFree token.now right.1 }
 {
     let (a, b) = left;
     let (c, d) = right;

@@ -4,19 +4,13 @@ use ev_types::{Answer, Handle, Kind, Mask, NoMemory};
 use reactor_journal::Entry;
 use std::alloc::Global;
 
-const MASK: Mask = Mask {
-    read: true,
-    write: false,
-    except: false,
-};
-
 /// Opens so many handles.
 fn opened(alloc: Global, handles: u64) -> Result<Vec<Entry<u64>>, NoMemory> {
     let mut journal = Vec::new(alloc);
     for handle in 0..handles {
         journal.push(Entry::Opened {
             handle: Handle(handle),
-            mask: MASK,
+            mask: Mask::READ,
         })?;
     }
     Ok(journal)
@@ -43,7 +37,8 @@ fn turn(journal: &mut Vec<Entry<u64>>, event: u64) -> Result<(), NoMemory> {
     Ok(())
 }
 
-/// Eight handles; a third of the entries are notifications, which all wait before the first is started.
+/// Eight handles; a third of the entries are notifications, which all wait before the first is
+/// started.
 pub fn backlog(alloc: Global, entries: u64) -> Result<Vec<Entry<u64>>, NoMemory> {
     let mut journal = opened(alloc, 8)?;
     let events = entries / 3;

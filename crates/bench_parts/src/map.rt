@@ -6,7 +6,8 @@ use std::alloc::Global;
 use std::collections::BTreeMap;
 use timer_queue::Timer;
 
-/// Inserts so many timers and takes them out in order, in one map so often. The answer is how many there were.
+/// Inserts so many timers and takes them out in order, in one map so often. The answer is how many
+/// there were.
 pub fn run(alloc: Global, size: u64, rounds: u64) -> Result<u64, NoMemory> {
     let mut map = BTreeMap::new(alloc);
     let mut expired = 0u64;

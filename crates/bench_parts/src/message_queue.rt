@@ -5,7 +5,8 @@ use ev_types::NoMemory;
 use message_block::{HIGH, LOW, Message, MessageQueue};
 use std::alloc::Global;
 
-/// Takes the message at the head of a queue of 16 and puts it at the tail, so many times, and tells how often that went well.
+/// Takes the message at the head of a queue of 16 and puts it at the tail, so many times, and tells
+/// how often that went well.
 pub fn run(alloc: Global, count: u64) -> Result<u64, NoMemory> {
     let mut queue = MessageQueue::new(alloc, HIGH, LOW);
     for _ in 0..16 {

@@ -1,5 +1,5 @@
-//! What it costs to pass messages on: through a message queue, through streams of 1, 3 and 8 passing modules, and through a passing
-//! task on a thread of its own.
+//! What it costs to pass messages on: through a message queue, through streams of 1, 3 and 8
+//! passing modules, and through a passing task on a thread of its own.
 
 use crate::cost::cost;
 use crate::{beside, message_queue, streams};

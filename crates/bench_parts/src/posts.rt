@@ -101,15 +101,19 @@ fn four_to_one<R: Threads + Sync>(rt: &R, alloc: Global, count: u64) -> u64
     let (_, taken) = join(
         rt,
         move || -> ((), ())
-            requires { (poster_ring root ≡ id_of shared.now) × (poster_ring b ≡ id_of shared.now) × (poster_ring c ≡ id_of shared.now) × (poster_ring d ≡ id_of shared.now) × (count ≤ 2 ^ 56) }
+            requires { (poster_ring root ≡ id_of shared.now) × (poster_ring b ≡ id_of shared.now)
+                × (poster_ring c ≡ id_of shared.now) × (poster_ring d ≡ id_of shared.now)
+                × (count ≤ 2 ^ 56) }
         {
             join(
                 rt,
                 move || -> ()
-                    requires { (poster_ring root ≡ id_of shared.now) × (poster_ring b ≡ id_of shared.now) × (count ≤ 2 ^ 56) }
+                    requires { (poster_ring root ≡ id_of shared.now)
+                        × (poster_ring b ≡ id_of shared.now) × (count ≤ 2 ^ 56) }
                 { post_both(rt, shared, root, b, count) },
                 move || -> ()
-                    requires { (poster_ring c ≡ id_of shared.now) × (poster_ring d ≡ id_of shared.now) × (count ≤ 2 ^ 56) }
+                    requires { (poster_ring c ≡ id_of shared.now)
+                        × (poster_ring d ≡ id_of shared.now) × (count ≤ 2 ^ 56) }
                 { post_both(rt, shared, c, d, count) },
             )
         },
@@ -121,7 +125,8 @@ fn four_to_one<R: Threads + Sync>(rt: &R, alloc: Global, count: u64) -> u64
 }
 
 fn post_both<R: Threads + Sync>(rt: &R, ring: &Ring, a: Poster, b: Poster, count: u64)
-    requires { (poster_ring a ≡ id_of ring.now) × (poster_ring b ≡ id_of ring.now) × (count ≤ 2 ^ 56) }
+    requires { (poster_ring a ≡ id_of ring.now) × (poster_ring b ≡ id_of ring.now)
+        × (count ≤ 2 ^ 56) }
 {
     join(
         rt,

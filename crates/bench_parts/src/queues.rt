@@ -4,7 +4,8 @@ ghost use Rattle.std.specs.Prelude.{◌≡◌, ◌≤◌, []};
 use ev_types::{Handle, NoMemory};
 use timer_queue::{Timer, TimerQueue};
 
-/// Schedules so many timers with scattered deadlines and expires them, in one queue so often. The answer is how many expired.
+/// Schedules so many timers with scattered deadlines and expires them, in one queue so often. The
+/// answer is how many expired.
 pub fn run<Q: TimerQueue>(queue: &mut Q, size: u64, rounds: u64) -> Result<u64, NoMemory> {
     let mut expired = 0u64;
     for _ in 0..rounds {

@@ -9,8 +9,8 @@ use std::time::Instant;
 /// How often a text is read where that is timed.
 const TIMES: usize = 5;
 
-/// Says what the text on standard input is, or, where it is timed, reads it five times and prints the number of its first bad line, or 0,
-/// and the nanoseconds of the fastest time.
+/// Says what the text on standard input is, or, where it is timed, reads it five times and prints
+/// the number of its first bad line, or 0, and the nanoseconds of the fastest time.
 pub fn run(rt: &HostRuntime, timed: bool) -> io::Result<()> {
     let mut text = Vec::new(rt.alloc());
     rt.stdin().read_to_end(&mut text)?;
@@ -24,7 +24,8 @@ pub fn run(rt: &HostRuntime, timed: bool) -> io::Result<()> {
     }
 }
 
-/// The number of the first bad line of a text, or 0 where it is a script; None where there was no memory.
+/// The number of the first bad line of a text, or 0 where it is a script; None where there was no
+/// memory.
 fn first_bad(alloc: Global, text: &[u8]) -> Option<u64> {
     match parse_script(alloc, text, 0) {
         Ok(_) => Some(0),

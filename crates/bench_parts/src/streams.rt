@@ -7,7 +7,8 @@ use ev_types::NoMemory;
 use module_stream::{Module, PassTask, Passed, Stream};
 use std::alloc::Global;
 
-/// Puts a message through a stream of so many passing modules, so many times, and tells how often it came out: in a list, or alone.
+/// Puts a message through a stream of so many passing modules, so many times, and tells how often
+/// it came out: in a list, or alone.
 pub fn run(alloc: Global, modules: u32, count: u64, listed: bool) -> Result<u64, NoMemory> {
     let mut stream = Stream::new(alloc);
     for name in 0..modules {

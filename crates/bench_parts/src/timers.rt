@@ -1,4 +1,5 @@
-//! What it costs to schedule timers and to expire them, in the three timer queues and in a plain `BTreeMap`.
+//! What it costs to schedule timers and to expire them, in the three timer queues and in a plain
+//! `BTreeMap`.
 
 use crate::cost::cost;
 use crate::{map, queues};
@@ -15,7 +16,8 @@ const SPOKES: usize = 256;
 
 const RESOLUTION: u64 = 100;
 
-/// How many timers expire in each queue where it is timed, in rounds of as many as stand in it at once.
+/// How many timers expire in each queue where it is timed, in rounds of as many as stand in it at
+/// once.
 const TIMED: u64 = 100_000;
 
 /// Runs 100 timers, or where it is timed 100 to 100,000.

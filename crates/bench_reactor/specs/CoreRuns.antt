@@ -5,13 +5,15 @@ use Rattle.timer_queue.specs.Content.{Content}
 use Rattle.reactor_model.specs.Volumes.{tells_nothing}
 use Rattle.reactor_model.specs.declared.volumes.DropVolumes.{DropVolumes}
 use Rattle.reactor_model.specs.declared.watch.NoWatch.{NoWatch}
-use Rattle.reactor_state.specs.State.{Shows, HasPlaces, IsPlaced}
+use Rattle.reactor_core.specs.reactor_state.specs.State.{Shows, HasPlaces, IsPlaced}
 use Rattle.reactor_core.specs.Stands.{Meaning, meaning}
-use Rattle.core_rows.specs.RoundRobin.{round_robin_facts}
-use Rattle.core_rows.specs.declared.round_robin.RoundRobinNet.{RoundRobinNet}
-use Rattle.tp_rows.specs.Members.{member}
-use Rattle.tp_rows.specs.declared.member.Member.{Member}
+use Rattle.test_nets.specs.RoundRobin.{round_robin_facts}
+use Rattle.test_nets.specs.declared.round_robin.RoundRobinNet.{RoundRobinNet}
+use Rattle.test_pool.specs.Members.{member}
+use Rattle.test_pool.specs.declared.member.Member.{Member}
 
 -- a reactor of members over a net that reports its handles in turn, whose volumes are let go
 abbrev pub member_core : Meaning Member RoundRobinNet Content NoWatch DropVolumes ℕ PlayEnd
-member_core = meaning member round_robin_facts (λ t n. Unit {0}) (Shows (λ q. q.timers)) (HasPlaces (λ q. q.spare)) IsPlaced (λ t watch h. Unit {0}) (λ watch. 0) (λ watch. false) (λ watch. 0) (λ v. tells_nothing)
+member_core = meaning member round_robin_facts (λ t n. Unit {0}) (Shows (λ q. q.timers))
+    (HasPlaces (λ q. q.spare)) IsPlaced (λ t watch h. Unit {0}) (λ watch. 0) (λ watch. false)
+    (λ watch. 0) (λ v. tells_nothing)

@@ -4,8 +4,9 @@ use Rattle.ev_base.specs.Net.{NetFacts}
 use Rattle.demux.specs.declared.play_end.PlayEnd.{PlayEnd}
 use Rattle.bench_reactor.specs.declared.pool.slow_net.SlowNet.{SlowNet}
 
--- It may fail, stands at moment 0, reports what its last wait did, which is nothing, and tells nothing of the past. It has places for as many handles as there are numbers, since an
--- attach that finds no memory fails.
+-- It may fail, stands at moment 0, reports what its last wait did, which is nothing, and tells
+-- nothing of the past. It has places for as many handles as there are numbers, since an attach that
+-- finds no memory fails.
 abbrev pub slow_facts : {R : Type 0} → SlowNet R → NetFacts PlayEnd
 slow_facts n = record {
   failed_waits = 0;

@@ -1,17 +1,18 @@
-//! What an event costs in the one-thread reactor: to wait for it, to start its upcall, to make it and to settle it. The handles are
-//! reported or notified in turn, 256 for each wait, also where handles between them were closed, and the journal is handed over in
-//! volumes of 65,536 entries, which are let go. A call that is refused is made once more.
+//! What an event costs in the one-thread reactor: to wait for it, to start its upcall, to make it
+//! and to settle it. The handles are reported or notified in turn, 256 for each wait, also where
+//! handles between them were closed, and the journal is handed over in volumes of 65,536 entries,
+//! which are let go. A call that is refused is made once more.
 
 ghost use Rattle.std.specs.Prelude.{◌≤◌};
 ghost use Rattle.core_loop.specs.Idle.{IsIdle};
-ghost use Rattle.core_rows.specs.RoundRobin.{round_robin_rows};
+ghost use Rattle.test_nets.specs.RoundRobin.{round_robin_rows};
 
 mod calls;
 mod gaps;
 mod runs;
 
 use calls::run_calls;
-use ev_types::Handle;
+use ev_base::Handle;
 use gaps::Gaps;
 use runs::{
     BenchRows, EVENTS_OF_WAIT, Refused, entries_of, reactor, register_all, serve_posts,
@@ -29,7 +30,8 @@ enum By {
     Posts(Gaps),
 }
 
-/// How many events a run had, how many nanoseconds they took, and how many entries it handed over and held in the end.
+/// How many events a run had, how many nanoseconds they took, and how many entries it handed over
+/// and held in the end.
 #[derive(Clone, Copy)]
 struct Served {
     events: u64,
@@ -79,7 +81,8 @@ fn report_long(rt: &HostRuntime, waits: u64) -> io::Result<()> {
     report(rt, false, By::Posts(Gaps::None), 4_000, waits)
 }
 
-/// Events of each kind with 1, 100 and 4,000 handles, and with gaps between these, for so many waits.
+/// Events of each kind with 1, 100 and 4,000 handles, and with gaps between these, for so many
+/// waits.
 fn report_each(rt: &HostRuntime, timed: bool, waits: u64) -> io::Result<()> {
     for by in [By::Reports, By::Posts(Gaps::None)] {
         for handles in [1, 100, 4_000] {
@@ -92,7 +95,8 @@ fn report_each(rt: &HostRuntime, timed: bool, waits: u64) -> io::Result<()> {
     Ok(())
 }
 
-/// Prints the journal of the short run that makes every call, first the entries that were handed over.
+/// Prints the journal of the short run that makes every call, first the entries that were handed
+/// over.
 fn report_calls(rt: &HostRuntime) -> io::Result<()> {
     let calls = match run_calls(rt.alloc()) {
         Ok(calls) => calls,

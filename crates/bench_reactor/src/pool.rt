@@ -1,5 +1,6 @@
-//! What an event costs in a pool of workers: to lead, to make the upcall and to settle it. The handles are reported in turn, 256 for each
-//! wait, and the journal is handed over in volumes of 65,536 entries, which are let go.
+//! What an event costs in a pool of workers: to lead, to make the upcall and to settle it. The
+//! handles are reported in turn, 256 for each wait, and the journal is handed over in volumes of
+//! 65,536 entries, which are let go.
 
 ghost use Rattle.std.specs.Prelude.{◌≤◌};
 
@@ -16,7 +17,7 @@ use std::io;
 use std::sync::Wait;
 use std::thread::Threads;
 use std::time::{Clock, Instant};
-use tp_rows::{NoPool, next_number};
+use test_pool::{NoPool, next_number};
 
 /// How many events a run has that is timed.
 const MANY: u64 = 1_000_000;
@@ -27,10 +28,11 @@ const FEW: u64 = 2_048;
 /// How many turns of a generator of numbers are timed, to find how many take 20 microseconds.
 const TURNS: u32 = 20_000_000;
 
-/// Serves events by pools of 1, 2, 4 and 8 workers, and by the one-thread reactor of the same net, and prints how each run ended. Where
-/// it is timed there are about 1,000,000 events in each run, and it prints nanoseconds for each; then how many upcalls of about 20
-/// microseconds of work workers make in a second; and how long the slowest of 10,000 removals, and of 10,000 settlings, took beside a
-/// leader whose net waits up to 10 seconds.
+/// Serves events by pools of 1, 2, 4 and 8 workers, and by the one-thread reactor of the same net,
+/// and prints how each run ended. Where it is timed there are about 1,000,000 events in each run,
+/// and it prints nanoseconds for each; then how many upcalls of about 20 microseconds of work
+/// workers make in a second; and how long the slowest of 10,000 removals, and of 10,000 settlings,
+/// took beside a leader whose net waits up to 10 seconds.
 pub fn report_pools<R: Threads + Wait + Clock + Print + Copy + Send + Sync>(
     rt: &R,
     alloc: Global,
@@ -50,7 +52,8 @@ pub fn report_pools<R: Threads + Wait + Clock + Print + Copy + Send + Sync>(
     Ok(())
 }
 
-/// Serves events by the one-thread reactor, and tells how many nanoseconds they took, or prints that a run was made.
+/// Serves events by the one-thread reactor, and tells how many nanoseconds they took, or prints
+/// that a run was made.
 fn report_core<R: Threads + Wait + Clock + Print + Copy + Send + Sync>(
     rt: &R,
     alloc: Global,
@@ -78,7 +81,8 @@ fn report_core<R: Threads + Wait + Clock + Print + Copy + Send + Sync>(
     }
 }
 
-/// Serves events by a pool, and prints how many nanoseconds they took beside those of the one-thread reactor, or how the run ended.
+/// Serves events by a pool, and prints how many nanoseconds they took beside those of the
+/// one-thread reactor, or how the run ended.
 fn report_pool<R: Threads + Wait + Clock + Print + Copy + Send + Sync>(
     rt: &R,
     alloc: Global,
@@ -121,7 +125,8 @@ fn turns_of_20_microseconds<R: Clock + Print>(rt: &R) -> io::Result<u32> {
     Ok(u32::try_from(turns).unwrap_or(TURNS))
 }
 
-/// Prints how many upcalls of 20 microseconds of work are made in a second, by one worker and by four.
+/// Prints how many upcalls of 20 microseconds of work are made in a second, by one worker and by
+/// four.
 fn report_work<R: Threads + Wait + Clock + Print + Copy + Send + Sync>(
     rt: &R,
     alloc: Global,

@@ -21,7 +21,8 @@ abbrev pub count_of : {S : Type 0} → BoundedInput S → ℕ
 count_of bounded = bounded.gave
 
 -- since its source told these facts it gave these bytes, and no read failed
-pub record Gave {S : Type 0} (facts : S → SourceFacts) (i : SourceFacts) (bounded : BoundedInput S) (taken : List ℕ) : Type 0 where
+pub record Gave {S : Type 0} (facts : S → SourceFacts) (i : SourceFacts) (bounded : BoundedInput S)
+    (taken : List ℕ) : Type 0 where
   pub takes : TakesInput (limit_of bounded) false i (facts (input_of bounded)) taken []
   pub counts : count_of bounded ≡ length taken
 
@@ -31,18 +32,24 @@ pub record IsTooLong (limit : ℕ) (i j : SourceFacts) (taken : List ℕ) : Type
   pub takes : TakesInput limit false i j taken (more ∷ [])
 
 -- what a read into a buffer gave, behind these bytes
-abbrev pub Reads : {S : Type 0} → (S → SourceFacts) → SourceFacts → List ℕ → List ℕ → Part → BoundedInput S → Type 0
+abbrev pub Reads : {S : Type 0} → (S → SourceFacts) → SourceFacts → List ℕ → List ℕ → Part
+    → BoundedInput S → Type 0
 Reads facts i taken buffer (part.Bytes n) new = Gave facts i new (taken ++ take n buffer)
-Reads facts i taken buffer part.Over new = IsReadToEnd (facts (input_of new)) × Gave facts i new taken
-Reads facts i taken buffer part.Failed new = TakesInput (limit_of new) true i (facts (input_of new)) taken []
-Reads facts i taken buffer part.TooLong new = IsTooLong (limit_of new) i (facts (input_of new)) taken
+Reads facts i taken buffer part.Over new =
+    IsReadToEnd (facts (input_of new)) × Gave facts i new taken
+Reads facts i taken buffer part.Failed new =
+    TakesInput (limit_of new) true i (facts (input_of new)) taken []
+Reads facts i taken buffer part.TooLong new =
+    IsTooLong (limit_of new) i (facts (input_of new)) taken
 
 -- a read into a buffer gives some bytes of it, which are counted, or none
 abbrev pub Counts : {S : Type 0} → BoundedInput S → List ℕ → Part → BoundedInput S → Type 0
-Counts old buffer (part.Bytes n) new = (1 ≤ n) × (n ≤ length buffer) × (count_of new ≡ count_of old + n)
+Counts old buffer (part.Bytes n) new =
+    (1 ≤ n) × (n ≤ length buffer) × (count_of new ≡ count_of old + n)
 Counts old buffer _ new = count_of new ≡ count_of old
 
--- how reading the whole input ended, and the bytes that were read; where there was no memory some of them are gone
+-- how reading the whole input ended, and the bytes that were read; where there was no memory some
+-- of them are gone
 abbrev pub ReadsWhole : ℕ → SourceFacts → List ℕ → Ending → SourceFacts → Type 0
 ReadsWhole limit i bytes ending.Over j = IsReadToEnd j × TakesInput limit false i j bytes []
 ReadsWhole limit i bytes ending.Failed j = TakesInput limit true i j bytes []
@@ -54,7 +61,8 @@ pub record IsReadWhole (limit : ℕ) (i j : SourceFacts) (text : List ℕ) : Typ
   pub takes : TakesInput limit false i j text []
   pub over : IsReadToEnd j
 
--- some bytes were read, and no read failed; or the read behind them failed; or one byte more than the limit was there
+-- some bytes were read, and no read failed; or the read behind them failed; or one byte more than
+-- the limit was there
 abbrev pub ReadsSome : ℕ → SourceFacts → SourceFacts → Type 0
 ReadsSome limit i j = (taken : List ℕ) × TakesInput limit false i j taken []
 

@@ -17,7 +17,8 @@ pub enum Part {
     TooLong,
 }
 
-/// A source of which at most `limit` bytes are given. Behind them one byte more is read, to see whether it is there.
+/// A source of which at most `limit` bytes are given. Behind them one byte more is read, to see
+/// whether it is there.
 #[derive(Drop)]
 pub struct BoundedInput<S> {
     input: S,
@@ -28,7 +29,8 @@ pub struct BoundedInput<S> {
 }
 
 impl<S: Source> BoundedInput<S> {
-    ghost use Rattle.bounded_input.specs.Reading.{input_of, limit_of, count_of, Gave, Reads, Counts};
+    ghost use Rattle.bounded_input.specs.Reading.{input_of, limit_of, count_of, Gave, Reads};
+    ghost use Rattle.bounded_input.specs.Reading.{Counts};
 
     /// The first `limit` bytes of this source.
     pub fn new(input: S, limit: u64) -> BoundedInput<S>
@@ -50,10 +52,12 @@ impl<S: Source> BoundedInput<S> {
         self.gave
     }
 
-    /// Reads into a buffer that is not empty. After another answer than `Bytes` it is to be read no more.
+    /// Reads into a buffer that is not empty. After another answer than `Bytes` it is to be read no
+    /// more.
     pub fn read(&mut self, buffer: &mut [u8]) -> Part
         requires room { 0 < length buffer.old }
-        ensures reads { (i : SourceFacts) (taken : List ℕ) → Gave S.facts i self.old taken → Reads S.facts i taken buffer.new result self.new }
+        ensures reads { (i : SourceFacts) (taken : List ℕ) → Gave S.facts i self.old taken
+            → Reads S.facts i taken buffer.new result self.new }
         ensures counts { Counts self.old buffer.new result self.new }
         ensures limit { limit_of self.new ≡ limit_of self.old }
     {
@@ -69,7 +73,8 @@ impl<S: Source> BoundedInput<S> {
     fn read_part(&mut self, buffer: &mut [u8]) -> Part
         requires some { 0 < length buffer.old }
         requires room { count_of self.old + length buffer.old ≤ limit_of self.old }
-        ensures reads { (i : SourceFacts) (taken : List ℕ) → Gave S.facts i self.old taken → Reads S.facts i taken buffer.new result self.new }
+        ensures reads { (i : SourceFacts) (taken : List ℕ) → Gave S.facts i self.old taken
+            → Reads S.facts i taken buffer.new result self.new }
         ensures counts { Counts self.old buffer.new result self.new }
         ensures limit { limit_of self.new ≡ limit_of self.old }
     {
@@ -87,7 +92,8 @@ impl<S: Source> BoundedInput<S> {
     // Looks whether a byte stands behind the last that may be given.
     fn look_behind(&mut self) -> Part
         requires full { count_of self.old ≡ limit_of self.old }
-        ensures reads { (i : SourceFacts) (taken buffer : List ℕ) → Gave S.facts i self.old taken → Reads S.facts i taken buffer result self.new }
+        ensures reads { (i : SourceFacts) (taken buffer : List ℕ) → Gave S.facts i self.old taken
+            → Reads S.facts i taken buffer result self.new }
         ensures counts { (buffer : List ℕ) → Counts self.old buffer result self.new }
         ensures limit { limit_of self.new ≡ limit_of self.old }
     {

@@ -36,7 +36,8 @@ pub struct Whole<S> {
 
 /// Reads all of an input, of which `limit` bytes may be given.
 pub fn read_whole<S: Source>(alloc: Global, input: S, limit: u64) -> Whole<S>
-    ensures { ReadsWhole limit (S.facts input) result.bytes.items result.ending (S.facts result.input) }
+    ensures { ReadsWhole limit (S.facts input) result.bytes.items result.ending
+        (S.facts result.input) }
 {
     let mut bounded = BoundedInput::new(input, limit);
     let mut bytes = Vec::new(alloc);
@@ -50,7 +51,9 @@ pub fn read_whole<S: Source>(alloc: Global, input: S, limit: u64) -> Whole<S>
 
 // Reads on behind the bytes that were read, to the end.
 fn read_on<S: Source>(bounded: &mut BoundedInput<S>, bytes: &mut Vec<u8>) -> Ending
-    ensures { (i : SourceFacts) → Gave S.facts i bounded.old bytes.old.items → ReadsWhole (limit_of bounded.old) i bytes.new.items result (S.facts (input_of bounded.new)) }
+    ensures { (i : SourceFacts) → Gave S.facts i bounded.old bytes.old.items
+        → ReadsWhole (limit_of bounded.old) i bytes.new.items result
+        (S.facts (input_of bounded.new)) }
 {
     let mut chunk = [0; SIZE];
     loop {

@@ -1,5 +1,7 @@
--- What a list that goes on is read as: first what it was read as before, and then what is left with the rest.
-use Rattle.std.proofs.Common.{◌≡◌, ◌≤◌, ◌<◌, ℕ, zero, suc, ◌+◌, List, [], ◌∷◌, ◌++◌, length, drop, refl, sym, ◌∙◌, ap, arith}
+-- What a list that goes on is read as: first what it was read as before, and then what is left with
+-- the rest.
+use Rattle.std.proofs.Common.{◌≡◌, ◌≤◌, ◌<◌, ℕ, zero, suc, ◌+◌, List, [], ◌∷◌, ◌++◌, length, drop}
+use Rattle.std.proofs.Common.{refl, sym, ◌∙◌, ap, arith}
 use Rattle.std.proofs.lemmas.List.{length-append, length-drop, drop-append-le}
 use Rattle.cdr_record.specs.declared.grammar.First.{First}
 use Rattle.cdr_record.specs.declared.grammar.First.TheVariants.{More, Bad, One}
@@ -18,18 +20,22 @@ first_nil = refl
 
 -- ---- one step
 
-records_within-one : (k n : ℕ) (t : List ℕ) → first_of t ≡ One n → records_within (suc k) t ≡ record_in t ∷ records_within k (drop n t)
+records_within-one : (k n : ℕ) (t : List ℕ) → first_of t ≡ One n
+    → records_within (suc k) t ≡ record_in t ∷ records_within k (drop n t)
 records_within-one k n t e = rw (e, records_within) refl
 
-left_within-one : (k n : ℕ) (t : List ℕ) → first_of t ≡ One n → left_within (suc k) t ≡ left_within k (drop n t)
+left_within-one : (k n : ℕ) (t : List ℕ) → first_of t ≡ One n
+    → left_within (suc k) t ≡ left_within k (drop n t)
 left_within-one k n t e = rw (e, left_within) refl
 
-records_within-stop : (k : ℕ) (t : List ℕ) (v : First) → first_of t ≡ v → Stops v → records_within (suc k) t ≡ []
+records_within-stop : (k : ℕ) (t : List ℕ) (v : First) → first_of t ≡ v → Stops v
+    → records_within (suc k) t ≡ []
 records_within-stop k t More e s = rw (e, records_within) refl
 records_within-stop k t (Bad w) e s = rw (e, records_within) refl
 records_within-stop k t (One n) e s = absurd s
 
-left_within-stop : (k : ℕ) (t : List ℕ) (v : First) → first_of t ≡ v → Stops v → left_within (suc k) t ≡ t
+left_within-stop : (k : ℕ) (t : List ℕ) (v : First) → first_of t ≡ v → Stops v
+    → left_within (suc k) t ≡ t
 left_within-stop k t More e s = rw (e, left_within) refl
 left_within-stop k t (Bad w) e s = rw (e, left_within) refl
 left_within-stop k t (One n) e s = absurd s
@@ -58,7 +64,8 @@ same_by_first j k t (Bad w) e go = record {
 same_by_first j k t (One n) e go =
     let rest = go n e in
     record {
-      records = records_within-one j n t e ∙ ap (λ rs. record_in t ∷ rs) rest.records ∙ sym (records_within-one k n t e);
+      records = records_within-one j n t e ∙ ap (λ rs. record_in t ∷ rs) rest.records
+          ∙ sym (records_within-one k n t e);
       left = left_within-one j n t e ∙ rest.left ∙ sym (left_within-one k n t e);
     }
 
@@ -70,7 +77,8 @@ nothing_within (suc k) = record {
 }
 
 nothing_within' : (k : ℕ) → SameReading k zero []
-nothing_within' k = let s = nothing_within k in record { records = sym s.records; left = sym s.left }
+nothing_within' k = let s = nothing_within k in
+    record { records = sym s.records; left = sym s.left }
 
 pub same_turns : (j k : ℕ) (t : List ℕ) → length t ≤ j → length t ≤ k → SameReading j k t
 same_turns zero k [] hj hk = nothing_within k
@@ -78,7 +86,8 @@ same_turns zero k (x ∷ t) hj hk = absurd (omega arith)
 same_turns (suc j) zero [] hj hk = nothing_within' (suc j)
 same_turns (suc j) zero (x ∷ t) hj hk = absurd (omega arith)
 same_turns (suc j) (suc k) t hj hk =
-    same_by_first j k t (first_of t) refl (λ n e. same_turns j k (drop n t) (fewer t n j e hj) (fewer t n k e hk))
+    same_by_first j k t (first_of t) refl
+    (λ n e. same_turns j k (drop n t) (fewer t n j e hj) (fewer t n k e hk))
 
 -- ---- the step without turns
 
@@ -94,9 +103,11 @@ unfolding records_of left_of
 steps_over [] n e = let l = one_is_some n [] e in absurd (omega (arith, l))
 steps_over (x ∷ t) n e =
     let small = fewer (x ∷ t) n (length t) e (omega arith) in
-    let same = same_turns (length t) (length (drop n (x ∷ t))) (drop n (x ∷ t)) small (omega arith) in
+    let same = same_turns (length t) (length (drop n (x ∷ t))) (drop n (x ∷ t)) small (omega arith)
+    in
     record {
-      records = records_within-one (length t) n (x ∷ t) e ∙ ap (λ rs. record_in (x ∷ t) ∷ rs) same.records;
+      records = records_within-one (length t) n (x ∷ t) e
+          ∙ ap (λ rs. record_in (x ∷ t) ∷ rs) same.records;
       left = left_within-one (length t) n (x ∷ t) e ∙ same.left;
     }
 
@@ -119,18 +130,23 @@ pub record IsLeft (t left : List ℕ) : Type 0 where
   pub stops : Stops (first_of left)
   pub within : length left ≤ length t
 
-left_by_first : (t : List ℕ) (v : First) → first_of t ≡ v → ((n : ℕ) → first_of t ≡ One n → IsLeft (drop n t) (left_of (drop n t))) → IsLeft t (left_of t)
-left_by_first t More e go = let s = stops_at t More e tt in rw s.left (record { stops = rw e tt; within = omega arith })
-left_by_first t (Bad w) e go = let s = stops_at t (Bad w) e tt in rw s.left (record { stops = rw e tt; within = omega arith })
+left_by_first : (t : List ℕ) (v : First) → first_of t ≡ v
+    → ((n : ℕ) → first_of t ≡ One n → IsLeft (drop n t) (left_of (drop n t))) → IsLeft t (left_of t)
+left_by_first t More e go = let s = stops_at t More e tt in
+    rw s.left (record { stops = rw e tt; within = omega arith })
+left_by_first t (Bad w) e go = let s = stops_at t (Bad w) e tt in
+    rw s.left (record { stops = rw e tt; within = omega arith })
 left_by_first t (One n) e go =
     let s = steps_over t n e in
     let rest = go n e in
     rw s.left (record { stops = rest.stops; within = omega (arith, rest.within, length-drop n t) })
 
 left_in_turns : (k : ℕ) (t : List ℕ) → length t ≤ k → IsLeft t (left_of t)
-left_in_turns zero [] h = let s = stops_at [] More first_nil tt in rw s.left (record { stops = rw first_nil tt; within = omega arith })
+left_in_turns zero [] h = let s = stops_at [] More first_nil tt in
+    rw s.left (record { stops = rw first_nil tt; within = omega arith })
 left_in_turns zero (x ∷ t) h = absurd (omega arith)
-left_in_turns (suc k) t h = left_by_first t (first_of t) refl (λ n e. left_in_turns k (drop n t) (fewer t n k e h))
+left_in_turns (suc k) t h = left_by_first t (first_of t) refl
+    (λ n e. left_in_turns k (drop n t) (fewer t n k e h))
 
 pub is_left : (t : List ℕ) → IsLeft t (left_of t)
 is_left t = left_in_turns (length t) t (omega arith)
@@ -146,9 +162,12 @@ one_goes_on t u n e =
     let w = (first_one t n e).0 in
     record_in-append t u (omega (arith, w.whole, w.least)) (omega (arith, w.whole, w.least, w.room))
 
-goes_on_by_first : (t u : List ℕ) (v : First) → first_of t ≡ v → ((n : ℕ) → first_of t ≡ One n → GoesOn (drop n t) u) → GoesOn t u
-goes_on_by_first t u More e go = let s = stops_at t More e tt in record { records = rw (s.records, s.left) refl; left = rw s.left refl }
-goes_on_by_first t u (Bad w) e go = let s = stops_at t (Bad w) e tt in record { records = rw (s.records, s.left) refl; left = rw s.left refl }
+goes_on_by_first : (t u : List ℕ) (v : First) → first_of t ≡ v
+    → ((n : ℕ) → first_of t ≡ One n → GoesOn (drop n t) u) → GoesOn t u
+goes_on_by_first t u More e go = let s = stops_at t More e tt in
+    record { records = rw (s.records, s.left) refl; left = rw s.left refl }
+goes_on_by_first t u (Bad w) e go = let s = stops_at t (Bad w) e tt in
+    record { records = rw (s.records, s.left) refl; left = rw s.left refl }
 goes_on_by_first t u (One n) e go =
     let s = steps_over t n e in
     let grown = steps_over (t ++ u) n (one_stays t u n e) in
@@ -160,9 +179,11 @@ goes_on_by_first t u (One n) e go =
     }
 
 goes_on_in_turns : (k : ℕ) (t u : List ℕ) → length t ≤ k → GoesOn t u
-goes_on_in_turns zero [] u h = let s = stops_at [] More first_nil tt in record { records = rw (s.records, s.left) refl; left = rw s.left refl }
+goes_on_in_turns zero [] u h = let s = stops_at [] More first_nil tt in
+    record { records = rw (s.records, s.left) refl; left = rw s.left refl }
 goes_on_in_turns zero (x ∷ t) u h = absurd (omega arith)
-goes_on_in_turns (suc k) t u h = goes_on_by_first t u (first_of t) refl (λ n e. goes_on_in_turns k (drop n t) u (fewer t n k e h))
+goes_on_in_turns (suc k) t u h = goes_on_by_first t u (first_of t) refl
+    (λ n e. goes_on_in_turns k (drop n t) u (fewer t n k e h))
 
 pub goes_on : (t u : List ℕ) → GoesOn t u
 goes_on t u = goes_on_in_turns (length t) t u (omega arith)

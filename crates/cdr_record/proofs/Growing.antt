@@ -1,7 +1,9 @@
 -- What stands first in a list is known by a few numbers, and stays as the list grows.
-use Rattle.std.proofs.Common.{◌≡◌, ◌≤◌, ◌<◌, ℕ, ◌+◌, ◌-◌, ◌==◌, List, ◌++◌, length, drop, refl, sym, ◌∙◌, ap, arith, nat_lt, if◌then◌else◌}
+use Rattle.std.proofs.Common.{◌≡◌, ◌≤◌, ◌<◌, ℕ, ◌+◌, ◌-◌, ◌==◌, List, ◌++◌, length, drop, refl, sym}
+use Rattle.std.proofs.Common.{◌∙◌, ap, arith, nat_lt, if◌then◌else◌}
 use Rattle.std.proofs.lemmas.Bool.Decides.{nat_tests}
-use Rattle.std.proofs.lemmas.List.{length-append, length-drop, drop-append-le, take-append-le, get_or_append_left}
+use Rattle.std.proofs.lemmas.List.{length-append, length-drop, drop-append-le, take-append-le}
+use Rattle.std.proofs.lemmas.List.{get_or_append_left}
 use Rattle.byteorder.specs.Numbers.{big_from-append, little_from-append}
 use Rattle.cdr_record.specs.declared.record.Order.{Order}
 use Rattle.cdr_record.specs.declared.record.Order.TheVariants.{Big, Little}
@@ -9,7 +11,9 @@ use Rattle.cdr_record.specs.declared.bad.BadWhy.{BadWhy}
 use Rattle.cdr_record.specs.declared.bad.BadWhy.TheVariants as why
 use Rattle.cdr_record.specs.declared.grammar.First.{First}
 use Rattle.cdr_record.specs.declared.grammar.First.TheVariants.{More, Bad, One}
-use Rattle.cdr_record.specs.Grammar.{first_of, number, order_of, octet, word_at, payload_length, fields_length, HasFields, message_length, seconds_size, seconds_width, record_in}
+use Rattle.cdr_record.specs.Grammar.{first_of, number, order_of, octet, word_at, payload_length}
+use Rattle.cdr_record.specs.Grammar.{fields_length, HasFields, message_length, seconds_size}
+use Rattle.cdr_record.specs.Grammar.{seconds_width, record_in}
 
 -- what stands first, by the numbers of bytes, octet, payload, fields and message
 abbrev pub verdict : ℕ → ℕ → ℕ → ℕ → ℕ → First
@@ -23,7 +27,8 @@ verdict l o p f m =
     else if nat_lt (p - f) m then Bad why.Message
     else One (8 + p)
 
-pub first_verdict : (t : List ℕ) → first_of t ≡ verdict (length t) (octet t) (payload_length t) (fields_length t) (message_length t)
+pub first_verdict : (t : List ℕ) → first_of t
+    ≡ verdict (length t) (octet t) (payload_length t) (fields_length t) (message_length t)
 unfolding first_of
 first_verdict t = refl
 
@@ -43,12 +48,14 @@ pub verdict_whole : (l o p f m : ℕ) → IsWhole l o p f m → verdict l o p f 
 verdict_whole l o p f m w = grind (arith, nat_tests)
 
 -- as the list grows, what was read stays
-pub verdict_bad_stays : (l o p f m l' o' p' f' m' : ℕ) (w : BadWhy) → l ≤ l' → (0 < l → o' ≡ o) → (0 < l → f' ≡ f) → (8 ≤ l → p' ≡ p) → (8 + f ≤ l → m' ≡ m)
+pub verdict_bad_stays : (l o p f m l' o' p' f' m' : ℕ) (w : BadWhy) → l ≤ l' → (0 < l → o' ≡ o)
+    → (0 < l → f' ≡ f) → (8 ≤ l → p' ≡ p) → (8 + f ≤ l → m' ≡ m)
     → verdict l o p f m ≡ Bad w → verdict l' o' p' f' m' ≡ Bad w
 verdict_bad_stays l o p f m l' o' p' f' m' w grows eo ef ep em e = grind (arith, nat_tests)
 
 -- a number reads no byte past its end
-pub number-append : (order : Order) (n : ℕ) (xs ys : List ℕ) → n ≤ length xs → number order n (xs ++ ys) ≡ number order n xs
+pub number-append : (order : Order) (n : ℕ) (xs ys : List ℕ) → n ≤ length xs
+    → number order n (xs ++ ys) ≡ number order n xs
 unfolding number
 number-append Big n xs ys h = big_from-append n xs ys h
 number-append Little n xs ys h = little_from-append n xs ys h
@@ -57,23 +64,28 @@ pub octet-append : (t u : List ℕ) → 0 < length t → octet (t ++ u) ≡ octe
 octet-append t u h = get_or_append_left t u 0 0 h
 
 -- the number at a place reads no byte past its end
-pub number_at-append : (order : Order) (n at : ℕ) (t u : List ℕ) → at + n ≤ length t → number order n (drop at (t ++ u)) ≡ number order n (drop at t)
+pub number_at-append : (order : Order) (n at : ℕ) (t u : List ℕ) → at + n ≤ length t
+    → number order n (drop at (t ++ u)) ≡ number order n (drop at t)
 number_at-append order n at t u h =
     let le : at ≤ length t = omega arith in
     let room : n ≤ length (drop at t) = omega (arith, length-drop at t) in
     rw (drop-append-le at t u le) (number-append order n (drop at t) u room)
 
-pub word_at-append : (at : ℕ) (t u : List ℕ) → 0 < length t → at + 4 ≤ length t → word_at at (t ++ u) ≡ word_at at t
-word_at-append at t u some h = rw (octet-append t u some) (number_at-append (order_of (octet t)) 4 at t u h)
+pub word_at-append : (at : ℕ) (t u : List ℕ) → 0 < length t → at + 4 ≤ length t
+    → word_at at (t ++ u) ≡ word_at at t
+word_at-append at t u some h = rw (octet-append t u some)
+    (number_at-append (order_of (octet t)) 4 at t u h)
 
 pub fields_length-append : (t u : List ℕ) → 0 < length t → fields_length (t ++ u) ≡ fields_length t
 fields_length-append t u some = rw (octet-append t u some) refl
 
-pub message_length-append : (t u : List ℕ) → HasFields t → message_length (t ++ u) ≡ message_length t
+pub message_length-append : (t u : List ℕ) → HasFields t
+    → message_length (t ++ u) ≡ message_length t
 message_length-append t u h =
     let some : 0 < length t = omega arith in
     let room : 20 + seconds_size (octet t) + 4 ≤ length t = omega arith in
-    rw (octet-append t u some) (number_at-append (order_of (octet t)) 4 (20 + seconds_size (octet t)) t u room)
+    rw (octet-append t u some) (number_at-append (order_of (octet t)) 4
+    (20 + seconds_size (octet t)) t u room)
 
 -- the seconds take 4 or 8 bytes
 pub seconds_size-most : (first : ℕ) → seconds_size first ≤ 8
@@ -81,7 +93,8 @@ unfolding seconds_size seconds_width
 seconds_size-most first = grind (arith, nat_tests)
 
 -- the fields of a record that is whole stay as the list grows
-pub record_in-append : (t u : List ℕ) → HasFields t → 8 + fields_length t + message_length t ≤ length t → record_in (t ++ u) ≡ record_in t
+pub record_in-append : (t u : List ℕ) → HasFields t
+    → 8 + fields_length t + message_length t ≤ length t → record_in (t ++ u) ≡ record_in t
 unfolding record_in
 record_in-append t u h g =
     let size = seconds_size (octet t) in
@@ -93,7 +106,8 @@ record_in-append t u h g =
     let usec = number_at-append order 4 (16 + size) t u (omega arith) in
     let message = number_at-append order 4 (20 + size) t u (omega arith) in
     let start : 24 + size ≤ length t = omega arith in
-    let end : message_length t ≤ length (drop (24 + size) t) = omega (arith, length-drop (24 + size) t) in
+    let end : message_length t ≤ length (drop (24 + size) t) =
+    omega (arith, length-drop (24 + size) t) in
     rw (
       octet-append t u some,
       kind,
@@ -107,15 +121,20 @@ record_in-append t u h g =
 
 -- what a list that begins with a record says of it
 pub first_one : (t : List ℕ) (n : ℕ) → first_of t ≡ One n
-    → IsWhole (length t) (octet t) (payload_length t) (fields_length t) (message_length t) × (n ≡ 8 + payload_length t)
-first_one t n e = verdict_one (length t) (octet t) (payload_length t) (fields_length t) (message_length t) n (sym (first_verdict t) ∙ e)
+    → IsWhole (length t) (octet t) (payload_length t) (fields_length t) (message_length t)
+    × (n ≡ 8 + payload_length t)
+first_one t n e = verdict_one (length t) (octet t) (payload_length t) (fields_length t)
+    (message_length t) n (sym (first_verdict t) ∙ e)
 
-pub first_whole : (t : List ℕ) → IsWhole (length t) (octet t) (payload_length t) (fields_length t) (message_length t) → first_of t ≡ One (8 + payload_length t)
-first_whole t w = first_verdict t ∙ verdict_whole (length t) (octet t) (payload_length t) (fields_length t) (message_length t) w
+pub first_whole : (t : List ℕ) → IsWhole (length t) (octet t) (payload_length t) (fields_length t)
+    (message_length t) → first_of t ≡ One (8 + payload_length t)
+first_whole t w = first_verdict t ∙ verdict_whole (length t) (octet t) (payload_length t)
+    (fields_length t) (message_length t) w
 
 -- the record has bytes, and they are there
 pub one_within : (t : List ℕ) (n : ℕ) → first_of t ≡ One n → (0 < n) × (n ≤ length t)
-one_within t n e = let one = first_one t n e in let w = one.0 in (omega (arith, one.1), omega (arith, one.1, w.whole))
+one_within t n e = let one = first_one t n e in let w = one.0 in
+    (omega (arith, one.1), omega (arith, one.1, w.whole))
 
 -- One stays as the list grows
 pub one_stays : (t u : List ℕ) (n : ℕ) → first_of t ≡ One n → first_of (t ++ u) ≡ One n
@@ -128,7 +147,8 @@ one_stays t u n e =
     let ep = word_at-append 4 t u some (omega (arith, w.header)) in
     let em = message_length-append t u (omega (arith, w.whole, w.least)) in
     let longer = length-append t u in
-    let grown : IsWhole (length (t ++ u)) (octet (t ++ u)) (payload_length (t ++ u)) (fields_length (t ++ u)) (message_length (t ++ u)) = record {
+    let grown : IsWhole (length (t ++ u)) (octet (t ++ u)) (payload_length (t ++ u))
+    (fields_length (t ++ u)) (message_length (t ++ u)) = record {
       version = rw eo w.version;
       header = omega (arith, w.header, longer);
       least = rw (ef, ep) w.least;
@@ -143,9 +163,11 @@ pub bad_stays : (t u : List ℕ) (w : BadWhy) → first_of t ≡ Bad w → first
 bad_stays t u w e =
     first_verdict (t ++ u)
     ∙ verdict_bad_stays (length t) (octet t) (payload_length t) (fields_length t) (message_length t)
-    (length (t ++ u)) (octet (t ++ u)) (payload_length (t ++ u)) (fields_length (t ++ u)) (message_length (t ++ u)) w
+    (length (t ++ u)) (octet (t ++ u)) (payload_length (t ++ u)) (fields_length (t ++ u))
+    (message_length (t ++ u)) w
     (omega (arith, length-append t u)) (octet-append t u) (fields_length-append t u)
-    (λ h. word_at-append 4 t u (omega arith) h) (message_length-append t u) (sym (first_verdict t) ∙ e)
+    (λ h. word_at-append 4 t u (omega arith) h) (message_length-append t u)
+    (sym (first_verdict t) ∙ e)
 
 -- One needs no byte past its record
 pub one_shrinks : (f u : List ℕ) → first_of (f ++ u) ≡ One (length f) → first_of f ≡ One (length f)
@@ -160,7 +182,8 @@ one_shrinks f u e =
     let least : fields_length f ≤ payload_length f = rw (ef, ep) at w.least in
     let size : length f ≡ 8 + payload_length f = one.1 ∙ ap (λ (p : ℕ). 8 + p) ep in
     let em = message_length-append f u (omega arith) in
-    let shrunk : IsWhole (length f) (octet f) (payload_length f) (fields_length f) (message_length f) = record {
+    let shrunk : IsWhole (length f) (octet f) (payload_length f) (fields_length f)
+    (message_length f) = record {
       version = rw eo at w.version;
       header = header;
       least = least;

@@ -1,5 +1,6 @@
 -- What a whole stream of bytes is read as, and how a decoder that is fed in pieces stands for it.
-use Rattle.std.specs.Prelude.{◌≡◌, ℕ, zero, suc, ◌-◌, ◌^◌, min, List, [], ◌∷◌, length, drop, Option, Some, None}
+use Rattle.std.specs.Prelude.{◌≡◌, ℕ, zero, suc, ◌-◌, ◌^◌, min, List, [], ◌∷◌, length, drop, Option}
+use Rattle.std.specs.Prelude.{Some, None}
 use Rattle.cdr_record.specs.declared.record.LogRecord.{LogRecord}
 use Rattle.cdr_record.specs.declared.bad.Bad.{Bad}
 use Rattle.cdr_record.specs.declared.grammar.First.{First}
@@ -20,8 +21,8 @@ abbrev pub left_within : ℕ → List ℕ → List ℕ
 left_within zero t = t
 left_within (suc most) t = elim (first_of t) [ first.One n ↦ left_within most (drop n t) | _ ↦ t ]
 
--- All records that stand one behind another at the front, and what is left behind them. A record has at
--- least one byte, so there are no more records than bytes.
+-- All records that stand one behind another at the front, and what is left behind them. A record
+-- has at least one byte, so there are no more records than bytes.
 unfoldable pub records_of : List ℕ → List LogRecord
 records_of t = records_within (length t) t
 
@@ -36,8 +37,8 @@ taken_of t = length t - length (left_of t)
 abbrev pub told : ℕ → ℕ
 told place = min place (2 ^ 64 - 1)
 
--- How reading stops: with nothing left, with so many bytes of an unfinished record, or at a bad record,
--- whose first byte is at that place.
+-- How reading stops: with nothing left, with so many bytes of an unfinished record, or at a bad
+-- record, whose first byte is at that place.
 pub data Stop : Type 0 where
   Clean : Stop
   Partial : ℕ → Stop
@@ -85,8 +86,8 @@ abbrev pub kept_of : List ℕ → First → List ℕ
 kept_of left (first.Bad why) = []
 kept_of left _ = left
 
--- What callers see of a decoder: how many bytes the records took that it gave, as told; the bytes of an
--- unfinished record; and the bad record at which it stopped.
+-- What callers see of a decoder: how many bytes the records took that it gave, as told; the bytes
+-- of an unfinished record; and the bad record at which it stopped.
 pub record DecoderState : Type 0 where
   pub offset : ℕ
   pub rest : List ℕ

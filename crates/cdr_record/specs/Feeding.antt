@@ -5,18 +5,22 @@ use Rattle.cdr_record.specs.declared.decoder.Fed.{Fed}
 use Rattle.cdr_record.specs.declared.bad.Bad.{Bad}
 use Rattle.cdr_record.specs.Decoding.{DecoderState, StandsFor, decode, bad_of}
 
--- The decoder was fed a piece. For each list that it stood for, it stands now for that list and the piece;
--- the records that came are those that the whole has behind those of the list; and a bad record is told
--- exactly where reading the whole stops at one.
-pub record Feeds (old : DecoderState) (piece : List ℕ) (fed : Fed) (new : DecoderState) : Type 0 where
-  pub stands : (t : List ℕ) → StandsFor old t → StandsFor new (t ++ piece)
-  pub records : (t : List ℕ) → StandsFor old t → (decode (t ++ piece)).records ≡ (decode t).records ++ fed.records
-  pub bad : (t : List ℕ) → StandsFor old t → fed.bad ≡ bad_of (t ++ piece)
-  pub same_bad : new.bad ≡ fed.bad
+-- The decoder was fed a piece. For each list that it stood for, it stands now for that list and the
+-- piece; the records that came are those that the whole has behind those of the list; and a bad
+-- record is told exactly where reading the whole stops at one.
+pub record Feeds (old : DecoderState) (piece : List ℕ) (fed : Fed) (new : DecoderState) : Type 0
+  where
+    pub stands : (t : List ℕ) → StandsFor old t → StandsFor new (t ++ piece)
+    pub records : (t : List ℕ) → StandsFor old t
+        → (decode (t ++ piece)).records ≡ (decode t).records ++ fed.records
+    pub bad : (t : List ℕ) → StandsFor old t → fed.bad ≡ bad_of (t ++ piece)
+    pub same_bad : new.bad ≡ fed.bad
 
 -- The decoder was fed a piece, and the records that came stand now behind those that a list had.
-abbrev pub FeedsTo : DecoderState → List ℕ → List LogRecord → Option Bad → List LogRecord → DecoderState → Type 0
-FeedsTo old piece before bad after new = (fed : Fed) × (fed.bad ≡ bad) × (after ≡ before ++ fed.records) × Feeds old piece fed new
+abbrev pub FeedsTo : DecoderState → List ℕ → List LogRecord → Option Bad → List LogRecord
+    → DecoderState → Type 0
+FeedsTo old piece before bad after new =
+    (fed : Fed) × (fed.bad ≡ bad) × (after ≡ before ++ fed.records) × Feeds old piece fed new
 
 -- a decoder that was fed nothing
 abbrev pub fresh : DecoderState

@@ -1,7 +1,8 @@
--- The log record of the networked logging server (C++ Network Programming, vol. 2) as CDR, the Common Data
--- Representation, spells it: a header of 8 bytes and a payload. Each number of the payload is aligned from
--- the payload's own start, so nothing stands between the fields. Version 1 is the book's. Version 2, whose
--- seconds have 64 bits, is this project's own, and so is the rule that padding and slack may hold anything.
+-- The log record of the networked logging server (C++ Network Programming, vol. 2) as CDR, the
+-- Common Data Representation, spells it: a header of 8 bytes and a payload. Each number of the
+-- payload is aligned from the payload's own start, so nothing stands between the fields. Version 1
+-- is the book's. Version 2, whose seconds have 64 bits, is this project's own, and so is the rule
+-- that padding and slack may hold anything.
 --
 --     version 1   version 2
 --     0           0            order octet: 0 and 1 are version 1, 2 and 3 version 2; an odd one is little-endian
@@ -13,7 +14,8 @@
 --     20 to 23    24 to 27     microseconds, signed
 --     24 to 27    28 to 31     the message's length
 --     from 28     from 32      the message, and behind it slack
-use Rattle.std.specs.Prelude.{◌≡◌, ◌≤◌, ℕ, ◌+◌, ◌-◌, ◌%◌, ◌==◌, nat_lt, if◌then◌else◌, List, length, take, drop, slice_index, ℤ}
+use Rattle.std.specs.Prelude.{◌≡◌, ◌≤◌, ℕ, ◌+◌, ◌-◌, ◌%◌, ◌==◌, nat_lt, if◌then◌else◌, List, length}
+use Rattle.std.specs.Prelude.{take, drop, slice_index, ℤ}
 use Rattle.std.specs.Int.{Width, w32, w64, byte_len, cast_signed}
 use Rattle.byteorder.specs.Endian.{big_number, little_number}
 use Rattle.cdr_record.specs.declared.record.Order.{Order}
@@ -52,7 +54,8 @@ word_at at f = number (order_of (octet f)) 4 (drop at f)
 abbrev pub payload_length : List ℕ → ℕ
 payload_length f = word_at 4 f
 
--- how much of the payload is no message: type, process id, seconds, microseconds and the message's length
+-- how much of the payload is no message: type, process id, seconds, microseconds and the message's
+-- length
 abbrev pub fields_length : List ℕ → ℕ
 fields_length f = 16 + seconds_size (octet f)
 
@@ -66,7 +69,8 @@ message_length f = word_at (20 + seconds_size (octet f)) f
 
 -- the seconds of the record at the front of a list
 abbrev pub seconds_in : List ℕ → ℤ
-seconds_in f = cast_signed (seconds_width (octet f)) (number (order_of (octet f)) (seconds_size (octet f)) (drop 16 f))
+seconds_in f = cast_signed (seconds_width (octet f))
+    (number (order_of (octet f)) (seconds_size (octet f)) (drop 16 f))
 
 -- the record whose fields stand at the front of a list
 unfoldable pub record_in : List ℕ → LogRecord
@@ -78,8 +82,9 @@ record_in f = record {
   text = take (message_length f) (drop (24 + seconds_size (octet f)) f);
 }
 
--- f spells the record r: its header is in range, it has as many bytes as the header says, the message has
--- room in it, and its fields are those of r. All other bytes of f, padding and slack, are free.
+-- f spells the record r: its header is in range, it has as many bytes as the header says, the
+-- message has room in it, and its fields are those of r. All other bytes of f, padding and slack,
+-- are free.
 pub record Spells (f : List ℕ) (r : LogRecord) : Type 0 where
   pub version : octet f ≤ 3
   pub least : fields_length f ≤ payload_length f
@@ -88,8 +93,8 @@ pub record Spells (f : List ℕ) (r : LogRecord) : Type 0 where
   pub room : message_length f ≤ payload_length f - fields_length f
   pub fields : r ≡ record_in f
 
--- What stands first in a list of bytes: more is needed to know, no record can stand there, or one record
--- of so many bytes. Nothing is asked of a byte before it is there.
+-- What stands first in a list of bytes: more is needed to know, no record can stand there, or one
+-- record of so many bytes. Nothing is asked of a byte before it is there.
 unfoldable pub first_of : List ℕ → First
 first_of t =
     if length t == 0 then More

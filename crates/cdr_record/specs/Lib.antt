@@ -4,3 +4,4 @@ pub mod Feeding
 pub mod Grammar
 pub mod Laws
 pub mod Spelling
+pub use Rattle.ev_types

@@ -14,9 +14,11 @@ bytes_of Little size n = little_bytes size n
 
 -- the seconds behind an order octet
 abbrev pub seconds_bytes : ℕ → ℤ → List ℕ
-seconds_bytes first sec = bytes_of (order_of first) (seconds_size first) (cast_unsigned (seconds_width first) sec)
+seconds_bytes first sec = bytes_of (order_of first) (seconds_size first)
+    (cast_unsigned (seconds_width first) sec)
 
--- A record behind an order octet, with padding 0 and no slack: the payload is its fields and the message.
+-- A record behind an order octet, with padding 0 and no slack: the payload is its fields and the
+-- message.
 unfoldable pub spelling : ℕ → LogRecord → List ℕ
 spelling first r =
     let order = order_of first in

@@ -1,6 +1,7 @@
 //! The decoder of a stream of records that comes in any pieces.
 
-ghost use Rattle.std.specs.Prelude.{◌≡◌, ◌≤◌, ◌<◌, ◌-◌, ◌*◌, ◌++◌, [], None, IsSome, IfOk, IsOkAnd, OnOk, OnErr, ℕ, List, length, take, drop, min};
+ghost use Rattle.std.specs.Prelude.{◌≡◌, ◌≤◌, ◌<◌, ◌-◌, ◌*◌, ◌++◌, [], None, IsSome, IfOk, IsOkAnd};
+ghost use Rattle.std.specs.Prelude.{OnOk, OnErr, ℕ, List, length, take, drop, min};
 ghost use Rattle.cdr_record.specs.Grammar as G;
 ghost use Rattle.cdr_record.specs.Decoding as D;
 ghost use Rattle.cdr_record.specs.Feeding.{Feeds, FeedsTo, fresh};
@@ -23,8 +24,9 @@ pub struct Fed {
     pub bad: Option<Bad>,
 }
 
-/// Decodes a stream of records that comes in any pieces. It keeps the bytes of an unfinished record, and a
-/// bad record once there is one: from then on each feed gives no records and the same bad record.
+/// Decodes a stream of records that comes in any pieces. It keeps the bytes of an unfinished
+/// record, and a bad record once there is one: from then on each feed gives no records and the same
+/// bad record.
 #[derive(Debug, Drop)]
 pub struct Decoder {
     rest: Vec<u8>,
@@ -64,7 +66,8 @@ impl Decoder {
         ensures ok { IfOk result (λ fed. Feeds self.old piece.now fed self.new) }
 
         // After a bad record there are no records and the same bad record again.
-        ensures stays_bad { IsSome self.old.bad → IsOkAnd result (λ fed. (fed.records ≡ []) × (fed.bad ≡ self.old.bad)) }
+        ensures stays_bad { IsSome self.old.bad → IsOkAnd result
+            (λ fed. (fed.records ≡ []) × (fed.bad ≡ self.old.bad)) }
         ensures err { OnErr result (self.new ≡ self.old) }
     {
         let alloc = *self.rest.allocator();
@@ -80,15 +83,18 @@ impl Decoder {
         Ok(Fed { records, bad })
     }
 
-    /// Takes the next piece of the stream as `feed` does, and appends the records that are whole now to a list. It gives the bad record at which
-    /// the stream stops, if that has come. An `Err` leaves the decoder as it was; the list may have some records more.
+    /// Takes the next piece of the stream as `feed` does, and appends the records that are whole
+    /// now to a list. It gives the bad record at which the stream stops, if that has come. An `Err`
+    /// leaves the decoder as it was; the list may have some records more.
     pub fn feed_to<L: RecordList>(
         &mut self,
         piece: &[u8],
         list: &mut L,
     ) -> Result<Option<Bad>, NoMemory>
-        ensures ok { IfOk result (λ bad. FeedsTo self.old piece.now (L.records list.old) bad (L.records list.new) self.new) }
-        ensures stays_bad { IsSome self.old.bad → (result ≡ Ok self.old.bad) × (L.records list.new ≡ L.records list.old) }
+        ensures ok { IfOk result (λ bad. FeedsTo self.old piece.now (L.records list.old) bad
+            (L.records list.new) self.new) }
+        ensures stays_bad { IsSome self.old.bad → (result ≡ Ok self.old.bad)
+            × (L.records list.new ≡ L.records list.old) }
         ensures err { OnErr result (self.new ≡ self.old) }
     {
         let stopped = self.bad;
@@ -109,16 +115,16 @@ impl Decoder {
         }
     }
 
-    /// How many bytes of an unfinished record the decoder keeps: 0 where the stream so far ends with a
-    /// record, and after a bad record.
+    /// How many bytes of an unfinished record the decoder keeps: 0 where the stream so far ends
+    /// with a record, and after a bad record.
     pub fn rest_len(&self) -> u64
         ensures { result ≡ length self.now.rest }
     {
         self.rest.len() as u64
     }
 
-    /// How many bytes of the stream the records took that were given: the place where the unfinished record
-    /// or the bad one begins. It is `u64::MAX` where there are more than that.
+    /// How many bytes of the stream the records took that were given: the place where the
+    /// unfinished record or the bad one begins. It is `u64::MAX` where there are more than that.
     pub fn offset(&self) -> u64
         ensures { result ≡ self.now.offset }
     {
@@ -126,15 +132,17 @@ impl Decoder {
     }
 }
 
-/// How many records a piece of so many bytes completes at most, and one more: an unfinished one, those that stand in it whole, and what a
-/// caller may add. A list with room for so many does not grow.
+/// How many records a piece of so many bytes completes at most, and one more: an unfinished one,
+/// those that stand in it whole, and what a caller may add. A list with room for so many does not
+/// grow.
 fn most_records(bytes: usize) -> usize
     ensures { bytes < 28 * result }
 {
     (bytes / SHORTEST_RECORD).saturating_add(2)
 }
 
-/// How many bytes a step took for whole records, at most `u64::MAX`, and what stands first behind them.
+/// How many bytes a step took for whole records, at most `u64::MAX`, and what stands first behind
+/// them.
 #[derive(Clone, Copy)]
 struct Step {
     taken: u64,
@@ -151,15 +159,16 @@ fn bad_at(at: u64, first: First) -> Option<Bad>
     }
 }
 
-/// Takes the records off the front of a list of bytes while one stands there. Gives what is left behind them,
-/// and what stands first there.
+/// Takes the records off the front of a list of bytes while one stands there. Gives what is left
+/// behind them, and what stands first there.
 fn take_records<'a, L: RecordList>(
     list: &mut L,
     bytes: &'a [u8],
 ) -> Result<(&'a [u8], First), AllocError>
     ensures left { IfOk result (λ found. found.0.now ≡ D.left_of bytes.now) }
     ensures first { IfOk result (λ found. found.1 ≡ G.first_of (D.left_of bytes.now)) }
-    ensures records { OnOk result (L.records list.new ≡ L.records list.old ++ D.records_of bytes.now) }
+    ensures records { OnOk result (L.records list.new ≡ L.records list.old
+        ++ D.records_of bytes.now) }
 {
     let mut left = bytes;
     'records: loop {
@@ -192,8 +201,10 @@ fn take_whole<L: RecordList>(
 ) -> Result<Step, AllocError>
     ensures taken { IfOk result (λ step. step.taken ≡ D.told (D.taken_of piece.now)) }
     ensures first { IfOk result (λ step. step.first ≡ G.first_of (D.left_of piece.now)) }
-    ensures records { OnOk result (L.records list.new ≡ L.records list.old ++ D.records_of piece.now) }
-    ensures rest { OnOk result (rest.new.items ≡ D.kept_of (D.left_of piece.now) (G.first_of (D.left_of piece.now))) }
+    ensures records { OnOk result (L.records list.new ≡ L.records list.old
+        ++ D.records_of piece.now) }
+    ensures rest { OnOk result (rest.new.items ≡ D.kept_of (D.left_of piece.now)
+        (G.first_of (D.left_of piece.now))) }
     ensures err { OnErr result (rest.new.items ≡ rest.old.items) }
 {
     let (left, first) = take_records(list, piece)?;
@@ -209,7 +220,8 @@ fn take_whole<L: RecordList>(
     })
 }
 
-/// Moves bytes of a piece behind the rest until that has `wanted`, or the piece ends, and says how many.
+/// Moves bytes of a piece behind the rest until that has `wanted`, or the piece ends, and says how
+/// many.
 fn fill(rest: &mut Vec<u8>, piece: &[u8], wanted: usize) -> Result<usize, AllocError>
     ensures count { IfOk result (λ n. n ≡ min (wanted - length rest.old.items) (length piece.now)) }
     ensures ok { IfOk result (λ n. rest.new.items ≡ rest.old.items ++ take n piece.now) }
@@ -220,15 +232,17 @@ fn fill(rest: &mut Vec<u8>, piece: &[u8], wanted: usize) -> Result<usize, AllocE
     Ok(count)
 }
 
-/// Moves bytes of a piece behind an unfinished record until it is known what stands first there, or the
-/// piece ends. Says how many, and what stands first.
+/// Moves bytes of a piece behind an unfinished record until it is known what stands first there, or
+/// the piece ends. Says how many, and what stands first.
 fn complete(rest: &mut Vec<u8>, piece: &[u8]) -> Result<(usize, First), AllocError>
     requires { G.first_of rest.old.items ≡ first.More }
     ensures within { IfOk result (λ found. found.0 ≤ length piece.now) }
-    ensures moved { IfOk result (λ found. rest.new.items ≡ rest.old.items ++ take found.0 piece.now) }
+    ensures moved { IfOk result (λ found. rest.new.items
+        ≡ rest.old.items ++ take found.0 piece.now) }
     ensures first { IfOk result (λ found. found.1 ≡ G.first_of rest.new.items) }
     ensures all { IfOk result (λ found. found.1 ≡ first.More → found.0 ≡ length piece.now) }
-    ensures one { IfOk result (λ found. (n : ℕ) → found.1 ≡ first.One n → n ≡ length rest.new.items) }
+    ensures one { IfOk result (λ found. (n : ℕ) → found.1 ≡ first.One n
+        → n ≡ length rest.new.items) }
     ensures err { OnErr result (take (length rest.old.items) rest.new.items ≡ rest.old.items) }
 {
     let header = fill(rest, piece, HEADER)?;
@@ -252,10 +266,14 @@ fn take_piece<L: RecordList>(
     piece: &[u8],
 ) -> Result<Step, AllocError>
     requires { G.first_of rest.old.items ≡ first.More }
-    ensures taken { IfOk result (λ step. step.taken ≡ D.told (D.taken_of (rest.old.items ++ piece.now))) }
-    ensures first { IfOk result (λ step. step.first ≡ G.first_of (D.left_of (rest.old.items ++ piece.now))) }
-    ensures records { OnOk result (L.records list.new ≡ L.records list.old ++ D.records_of (rest.old.items ++ piece.now)) }
-    ensures rest { OnOk result (rest.new.items ≡ D.kept_of (D.left_of (rest.old.items ++ piece.now)) (G.first_of (D.left_of (rest.old.items ++ piece.now)))) }
+    ensures taken { IfOk result (λ step. step.taken ≡ D.told
+        (D.taken_of (rest.old.items ++ piece.now))) }
+    ensures first { IfOk result (λ step. step.first ≡ G.first_of
+        (D.left_of (rest.old.items ++ piece.now))) }
+    ensures records { OnOk result (L.records list.new ≡ L.records list.old
+        ++ D.records_of (rest.old.items ++ piece.now)) }
+    ensures rest { OnOk result (rest.new.items ≡ D.kept_of (D.left_of (rest.old.items ++ piece.now))
+        (G.first_of (D.left_of (rest.old.items ++ piece.now)))) }
     ensures err { OnErr result (take (length rest.old.items) rest.new.items ≡ rest.old.items) }
 {
     if rest.is_empty() {

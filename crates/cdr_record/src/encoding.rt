@@ -1,6 +1,7 @@
 //! The encoders of both versions of the record.
 
-ghost use Rattle.std.specs.Prelude.{◌≡◌, ◌≤◌, ◌<◌, ◌+◌, ◌++◌, ℕ, ℤ, length, IfOk, IsErrAnd, OnOk, FitsSigned};
+ghost use Rattle.std.specs.Prelude.{◌≡◌, ◌≤◌, ◌<◌, ◌+◌, ◌++◌, ℕ, ℤ, length, IfOk, IsErrAnd, OnOk};
+ghost use Rattle.std.specs.Prelude.{FitsSigned};
 ghost use Rattle.std.specs.Int.{w32};
 ghost use Rattle.cdr_record.specs.Spelling as S;
 
@@ -129,18 +130,22 @@ fn octet_of(order: Order) -> u8
 
 /// The canonical spelling of a record in version 1: padding 0 and no slack.
 ///
-/// `TooLong` comes exactly where the message has more than 65,536 bytes, and `SecondsWide` exactly where the
-/// message fits and the seconds do not fit 32 bits.
+/// `TooLong` comes exactly where the message has more than 65,536 bytes, and `SecondsWide` exactly
+/// where the message fits and the seconds do not fit 32 bits.
 pub fn encode(alloc: Global, r: &LogRecord, order: Order) -> Result<Bytes, EncodeRefused>
     ensures ok { IfOk result (λ bytes. bytes ≡ S.canon r.now order) }
 
     // A message that is too long is refused, and no other is refused as too long.
-    ensures too_long { 65536 < length r.now.text → result ≡ Err (EncodeRefused.TooLong (length r.now.text)) }
-    ensures too_long_only { (n : ℕ) → result ≡ Err (EncodeRefused.TooLong n) → (65536 < length r.now.text) × (n ≡ length r.now.text) }
+    ensures too_long { 65536 < length r.now.text → result
+        ≡ Err (EncodeRefused.TooLong (length r.now.text)) }
+    ensures too_long_only { (n : ℕ) → result ≡ Err (EncodeRefused.TooLong n)
+        → (65536 < length r.now.text) × (n ≡ length r.now.text) }
 
     // So are seconds that are too wide, where the message fits.
-    ensures seconds_wide { length r.now.text ≤ 65536 → ¬ FitsSigned w32 r.now.sec → result ≡ Err (EncodeRefused.SecondsWide r.now.sec) }
-    ensures seconds_wide_only { (s : ℤ) → result ≡ Err (EncodeRefused.SecondsWide s) → (length r.now.text ≤ 65536) × ¬ FitsSigned w32 r.now.sec × (s ≡ r.now.sec) }
+    ensures seconds_wide { length r.now.text ≤ 65536 → ¬ FitsSigned w32 r.now.sec
+        → result ≡ Err (EncodeRefused.SecondsWide r.now.sec) }
+    ensures seconds_wide_only { (s : ℤ) → result ≡ Err (EncodeRefused.SecondsWide s)
+        → (length r.now.text ≤ 65536) × ¬ FitsSigned w32 r.now.sec × (s ≡ r.now.sec) }
 {
     let length = r.text.as_slice().len();
     if length > LONGEST_MESSAGE {
@@ -155,15 +160,18 @@ pub fn encode(alloc: Global, r: &LogRecord, order: Order) -> Result<Bytes, Encod
     Ok(Bytes::new(spell(alloc, octet_of(order), r)?))
 }
 
-/// The canonical spelling of a record in version 2, whose seconds have 64 bits: padding 0 and no slack.
+/// The canonical spelling of a record in version 2, whose seconds have 64 bits: padding 0 and no
+/// slack.
 ///
 /// `TooLong` comes exactly where the message has more than 65,536 bytes, and `SecondsWide` never.
 pub fn encode_2(alloc: Global, r: &LogRecord, order: Order) -> Result<Bytes, EncodeRefused>
     ensures ok { IfOk result (λ bytes. bytes ≡ S.canon_2 r.now order) }
 
     // A message that is too long is refused, and no other is refused as too long.
-    ensures too_long { 65536 < length r.now.text → result ≡ Err (EncodeRefused.TooLong (length r.now.text)) }
-    ensures too_long_only { (n : ℕ) → result ≡ Err (EncodeRefused.TooLong n) → (65536 < length r.now.text) × (n ≡ length r.now.text) }
+    ensures too_long { 65536 < length r.now.text → result
+        ≡ Err (EncodeRefused.TooLong (length r.now.text)) }
+    ensures too_long_only { (n : ℕ) → result ≡ Err (EncodeRefused.TooLong n)
+        → (65536 < length r.now.text) × (n ≡ length r.now.text) }
 
     // No seconds are too wide.
     ensures never_seconds_wide { (s : ℤ) → ¬ (result ≡ Err (EncodeRefused.SecondsWide s)) }

@@ -95,8 +95,8 @@ fn message_length(bytes: &[u8]) -> usize
     word(order_of(bytes[0]), &bytes[place..]) as usize
 }
 
-/// What stands first in a list of bytes. Nothing is asked of a byte before it is there, and a record that stands there, or a bad
-/// one, stays as more bytes come.
+/// What stands first in a list of bytes. Nothing is asked of a byte before it is there, and a
+/// record that stands there, or a bad one, stays as more bytes come.
 #[tactic(auto, unfolding(crate::specs::Grammar::first_of))]
 pub fn first_in(bytes: &[u8]) -> First
     ensures { result ≡ G.first_of bytes.now }
@@ -150,8 +150,10 @@ fn signed_at(bytes: &[u8], place: usize) -> i32
 /// The message of the record at the front.
 fn message_in(bytes: &[u8]) -> &[u8]
     requires fields { 8 + G.fields_length bytes.now ≤ length bytes.now }
-    requires message { 8 + G.fields_length bytes.now + G.message_length bytes.now ≤ length bytes.now }
-    ensures { result.now ≡ take (G.message_length bytes.now) (drop (24 + G.seconds_size (G.octet bytes.now)) bytes.now) }
+    requires message { 8 + G.fields_length bytes.now + G.message_length bytes.now
+        ≤ length bytes.now }
+    ensures { result.now ≡ take (G.message_length bytes.now)
+        (drop (24 + G.seconds_size (G.octet bytes.now)) bytes.now) }
 {
     let start = 24 + seconds_size(bytes[0]);
     let length = message_length(bytes);
@@ -162,7 +164,8 @@ fn message_in(bytes: &[u8]) -> &[u8]
 /// The record at the front, with its message borrowed.
 pub(crate) fn record_in(bytes: &[u8]) -> RecordRef<'_>
     requires fields { 8 + G.fields_length bytes.now ≤ length bytes.now }
-    requires message { 8 + G.fields_length bytes.now + G.message_length bytes.now ≤ length bytes.now }
+    requires message { 8 + G.fields_length bytes.now + G.message_length bytes.now
+        ≤ length bytes.now }
     ensures { owned result ≡ G.record_in bytes.now }
 {
     RecordRef {

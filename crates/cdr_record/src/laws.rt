@@ -1,4 +1,5 @@
-//! The laws of the grammar and of the decoder. Each function here has a law as its contract and does nothing.
+//! The laws of the grammar and of the decoder. Each function here has a law as its contract and
+//! does nothing.
 
 ghost use Rattle.cdr_record.specs.Laws as L;
 
@@ -22,8 +23,8 @@ pub fn first_stays()
     ensures { L.FirstStays }
 {}
 
-/// Each stream is spellings of the records that it is decoded to, one behind another, and a rest at whose
-/// front no record stands, and it is so of no other records.
+/// Each stream is spellings of the records that it is decoded to, one behind another, and a rest at
+/// whose front no record stands, and it is so of no other records.
 pub fn decode_cuts()
     ensures { L.DecodeCuts }
 {}
@@ -43,13 +44,14 @@ pub fn bad_ends_reading()
     ensures { L.BadEndsReading }
 {}
 
-/// A decoder has a bad record exactly where reading all that it was fed stops at one, with its place and its
-/// cause, and else as many bytes as are unfinished.
+/// A decoder has a bad record exactly where reading all that it was fed stops at one, with its
+/// place and its cause, and else as many bytes as are unfinished.
 pub fn tells_stop()
     ensures { L.TellsStop }
 {}
 
-/// The records that a decoder gave for the pieces that it was fed, all in all, are those of all bytes.
+/// The records that a decoder gave for the pieces that it was fed, all in all, are those of all
+/// bytes.
 pub fn gives_all()
     ensures { L.GivesAll }
 {}

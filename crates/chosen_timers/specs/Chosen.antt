@@ -1,7 +1,7 @@
 -- What a contract sees of a timer queue of a chosen kind.
 use Rattle.std.specs.Prelude.{ℕ, List, Option, Some, None}
-use Rattle.command_words.specs.declared.options.Timers.{Timers}
-use Rattle.command_words.specs.declared.options.Timers.TheVariants as timers
+use Rattle.cmd_line.specs.declared.options.Timers.{Timers}
+use Rattle.cmd_line.specs.declared.options.Timers.TheVariants as timers
 use Rattle.timer_queue.specs.declared.timer.Timer.{Timer}
 use Rattle.timer_queue.specs.Timers.{in_order}
 use Rattle.timer_wheel.specs.Spokes.{timers_of as placed_timers}

@@ -4,7 +4,7 @@
 ghost use Rattle.std.specs.Prelude.{◌≡◌, [], Some, IfOk};
 ghost use Rattle.chosen_timers.specs.Chosen.{kind_of, resolution_of, timers_of};
 
-use command_words::Timers;
+use cmd_line::Timers;
 use ev_types::{Handle, NoMemory};
 use std::alloc::Global;
 use timer_heap::HeapTimers;
@@ -14,7 +14,8 @@ use timer_wheel::WheelTimers;
 /// The milliseconds of a tick of the wheel.
 const RESOLUTION: u64 = 100;
 
-/// A timer queue of one of the three kinds. What it answers depends on its timers alone, whichever it is.
+/// A timer queue of one of the three kinds. What it answers depends on its timers alone, whichever
+/// it is.
 #[derive(Drop)]
 pub enum ChosenTimers {
     /// A sorted list.
@@ -30,7 +31,8 @@ impl ChosenTimers {
     pub fn new(alloc: Global, kind: Timers) -> Result<ChosenTimers, NoMemory>
         ensures kind { IfOk result (λ queue. kind_of queue ≡ kind) }
         ensures timers { IfOk result (λ queue. timers_of queue ≡ []) }
-        ensures resolution { IfOk result (λ queue. kind ≡ Timers.Wheel → resolution_of queue ≡ Some 100) }
+        ensures resolution { IfOk result (λ queue. kind ≡ Timers.Wheel
+            → resolution_of queue ≡ Some 100) }
     {
         match kind {
             Timers::List => Ok(ChosenTimers::List(SortedTimers::new(alloc))),

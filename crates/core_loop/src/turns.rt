@@ -1,12 +1,19 @@
 //! The calls of a one-thread reactor whose upcalls are settled as soon as they were made.
-ghost use Rattle.std.specs.Prelude.{◌≡◌, ℕ, IfErr, IfNone, IfOk, IfSome, OnErr, OnOk, Some};
+ghost use Rattle.std.specs.Prelude.{◌≡◌, ℕ, IfErr, IfNone, IfOk, IfSome, None, OnErr, OnOk, Some};
 ghost use Rattle.ev_base.specs.Counts.{Rose};
+ghost use Rattle.reactor_model.specs.reactor_journal.specs.Past.{past_of};
 ghost use Rattle.reactor_core.specs.Faults.{HasNotFallen};
+ghost use Rattle.reactor_core.specs.Offering.{RegisterGives};
+ghost use Rattle.reactor_core.specs.Polling.{FitsLimit, Polls};
+ghost use Rattle.reactor_core.specs.Refusals.{LeavesOffer};
+ghost use Rattle.reactor_core.specs.Registering.{IsOffered};
+ghost use Rattle.reactor_core.specs.Stands.{From};
 ghost use Rattle.reactor_core.specs.Views.{net_of, volumes_of};
-ghost use Rattle.core_loop.specs.Idle.{EndsSo, FailsVolume, HasClosed, HasEnded, IsIdle, IsOut, IsOutOrIdle, LeavesParts, MayTake, StepEndsSo, WasOver, WasStopped};
+ghost use Rattle.core_loop.specs.Idle.{EndsUpcall, EndsSo, FailsVolume, StartsUpcall, HasClosed};
+ghost use Rattle.core_loop.specs.Idle.{HasEnded, HasNoUpcall, IsIdle, IsOut, LeavesParts, MayTake};
+ghost use Rattle.core_loop.specs.Idle.{StaysIdle, StaysWithin, StepEndsSo, WaitedOver, WasStopped};
 
-use ev_base::Net;
-use ev_types::{Handle, Mask};
+use ev_base::{Handle, Mask, Net};
 use reactor_core::{
     Core, Done, HandOverRefused, Means, Parts, PollRefused, Polled, RegisterRefused, StartRefused,
 };
@@ -19,7 +26,8 @@ use timer_queue::TimerQueue;
 pub enum RunEnd {
     /// At least as many handlers were closed or refused as were asked for.
     Enough,
-    /// Nothing can be reported any more: the last wait was answered so.
+    /// Nothing can be reported any more, as the last wait was answered, and there is no upcall to
+    /// make.
     Over,
     /// The reactor was stopped.
     Stopped,
@@ -31,7 +39,7 @@ pub enum RunEnd {
     NoMemory,
 }
 
-/// Registers a handler.
+/// Registers a handler (`Core::register`), without a timer. Its answers are those of that call.
 pub fn register<
     H: EventHandler,
     M: Net<End = H::End>,
@@ -40,7 +48,13 @@ pub fn register<
     V: Volumes<H::Note>,
 >(core: &mut Core<H, M, Q, W, V>, handler: H, mask: Mask) -> Result<Handle, (H, RegisterRefused)>
     requires { MayTake ⟦<Core<H, M, Q, W, V> as Means>⟧.m core.old handler }
-    ensures { IsIdle ⟦<Core<H, M, Q, W, V> as Means>⟧.m core.new }
+    ensures idle { IsIdle ⟦<Core<H, M, Q, W, V> as Means>⟧.m core.new }
+    ensures gives { From ⟦<Core<H, M, Q, W, V> as Means>⟧.m core.old
+        (λ t F h. IsOffered H.means t (past_of h) handler
+        → RegisterGives ⟦<Core<H, M, Q, W, V> as Means>⟧.m t F h mask None core.old result
+        core.new) }
+    ensures refused { LeavesOffer ⟦<Core<H, M, Q, W, V> as Means>⟧.m handler core.old result
+        core.new }
 {
     core.register(handler, mask, None)
 }
@@ -54,9 +68,14 @@ fn start<
     V: Volumes<H::Note>,
 >(core: &mut Core<H, M, Q, W, V>) -> Result<Option<Done<H>>, StartRefused>
     requires { IsIdle ⟦<Core<H, M, Q, W, V> as Means>⟧.m core.old }
-    ensures ok { IfOk result (λ done. IsOutOrIdle ⟦<Core<H, M, Q, W, V> as Means>⟧.m core.new done) }
-    ensures err { OnErr result (IsIdle ⟦<Core<H, M, Q, W, V> as Means>⟧.m core.new) }
-    ensures waits { (M.facts (net_of core.new)).failed_waits ≡ (M.facts (net_of core.old)).failed_waits }
+    ensures ok { IfOk result (λ done. StartsUpcall ⟦<Core<H, M, Q, W, V> as Means>⟧.m core.old done
+        core.new) }
+    ensures some { (done : Done H H.Note H.End) → result ≡ Ok (Some done)
+        → HasNoUpcall ⟦<Core<H, M, Q, W, V> as Means>⟧.m core.old → ⊥ }
+    ensures none { result ≡ Ok None → HasNoUpcall ⟦<Core<H, M, Q, W, V> as Means>⟧.m core.new }
+    ensures err { OnErr result (StaysIdle ⟦<Core<H, M, Q, W, V> as Means>⟧.m core.old core.new) }
+    ensures waits { (M.facts (net_of core.new)).failed_waits
+        ≡ (M.facts (net_of core.old)).failed_waits }
     ensures volumes { volumes_of core.new ≡ volumes_of core.old }
 {
     match core.start() {
@@ -66,7 +85,8 @@ fn start<
     }
 }
 
-/// Settles the upcall that is on its way. Tells how many handlers were closed or refused until then.
+/// Settles the upcall that is on its way. Tells how many handlers were closed or refused until
+/// then.
 fn settle<
     H: EventHandler,
     M: Net<End = H::End>,
@@ -76,13 +96,16 @@ fn settle<
 >(core: &mut Core<H, M, Q, W, V>, done: Done<H>) -> u64
     requires { IsOut ⟦<Core<H, M, Q, W, V> as Means>⟧.m core.old done }
     ensures closed { HasClosed ⟦<Core<H, M, Q, W, V> as Means>⟧.m result core.new }
-    ensures waits { (M.facts (net_of core.new)).failed_waits ≡ (M.facts (net_of core.old)).failed_waits }
+    ensures back { EndsUpcall ⟦<Core<H, M, Q, W, V> as Means>⟧.m core.old done core.new }
+    ensures waits { (M.facts (net_of core.new)).failed_waits
+        ≡ (M.facts (net_of core.old)).failed_waits }
     ensures volumes { volumes_of core.new ≡ volumes_of core.old }
 {
     core.settle(done).closed
 }
 
-/// Makes the next upcall, where there is one, and settles it. Tells how many handlers were closed or refused until then.
+/// Makes the next upcall and settles it, and tells how many handlers were closed or refused until
+/// then. None comes exactly where there is no upcall to make.
 pub fn turn<
     H: EventHandler,
     M: Net<End = H::End>,
@@ -92,8 +115,14 @@ pub fn turn<
 >(core: &mut Core<H, M, Q, W, V>) -> Result<Option<u64>, StartRefused>
     requires { IsIdle ⟦<Core<H, M, Q, W, V> as Means>⟧.m core.old }
     ensures idle { IsIdle ⟦<Core<H, M, Q, W, V> as Means>⟧.m core.new }
-    ensures closed { (closed : ℕ) → result ≡ Ok (Some closed) → HasClosed ⟦<Core<H, M, Q, W, V> as Means>⟧.m closed core.new }
-    ensures waits { (M.facts (net_of core.new)).failed_waits ≡ (M.facts (net_of core.old)).failed_waits }
+    ensures closed { (closed : ℕ) → result ≡ Ok (Some closed)
+        → HasClosed ⟦<Core<H, M, Q, W, V> as Means>⟧.m closed core.new }
+    ensures some { (closed : ℕ) → result ≡ Ok (Some closed)
+        → HasNoUpcall ⟦<Core<H, M, Q, W, V> as Means>⟧.m core.old → ⊥ }
+    ensures none { result ≡ Ok None → HasNoUpcall ⟦<Core<H, M, Q, W, V> as Means>⟧.m core.new }
+    ensures stays { StaysIdle ⟦<Core<H, M, Q, W, V> as Means>⟧.m core.old core.new }
+    ensures waits { (M.facts (net_of core.new)).failed_waits
+        ≡ (M.facts (net_of core.old)).failed_waits }
     ensures volumes { volumes_of core.new ≡ volumes_of core.old }
 {
     match start(core) {
@@ -103,7 +132,7 @@ pub fn turn<
     }
 }
 
-/// Waits once.
+/// Waits once, at most `most_ms` milliseconds (`Core::poll`), where there is no upcall to make.
 pub fn poll<
     H: EventHandler,
     M: Net<End = H::End>,
@@ -111,12 +140,20 @@ pub fn poll<
     W: Watch<H::Note>,
     V: Volumes<H::Note>,
 >(core: &mut Core<H, M, Q, W, V>, most_ms: Option<u64>) -> Result<Polled, PollRefused>
-    requires { IsIdle ⟦<Core<H, M, Q, W, V> as Means>⟧.m core.old }
+    requires { HasNoUpcall ⟦<Core<H, M, Q, W, V> as Means>⟧.m core.old }
     ensures idle { IsIdle ⟦<Core<H, M, Q, W, V> as Means>⟧.m core.new }
-    ensures over { result ≡ Ok Polled.Over → WasOver ⟦<Core<H, M, Q, W, V> as Means>⟧.m core.new }
-    ensures stopped { result ≡ Err PollRefused.Stopped → HasEnded ⟦<Core<H, M, Q, W, V> as Means>⟧.m core.new }
-    ensures failed { result ≡ Err PollRefused.NetFailed → Rose (M.facts (net_of core.old)).failed_waits (M.facts (net_of core.new)).failed_waits }
-    ensures waits { HasNotFallen (M.facts (net_of core.old)).failed_waits (M.facts (net_of core.new)).failed_waits }
+    ensures within { StaysWithin ⟦<Core<H, M, Q, W, V> as Means>⟧.m most_ms core.old core.new }
+    ensures waits_once { IfOk result (λ polled. From ⟦<Core<H, M, Q, W, V> as Means>⟧.m core.old
+        (λ t F h. FitsLimit t most_ms
+        → Polls ⟦<Core<H, M, Q, W, V> as Means>⟧.m t F h most_ms polled core.old core.new)) }
+    ensures over { result ≡ Ok Polled.Over
+        → WaitedOver ⟦<Core<H, M, Q, W, V> as Means>⟧.m core.new }
+    ensures stopped { result ≡ Err PollRefused.Stopped → HasEnded ⟦<Core<H, M, Q, W, V> as Means>⟧.m
+        core.new }
+    ensures failed { result ≡ Err PollRefused.NetFailed
+        → Rose (M.facts (net_of core.old)).failed_waits (M.facts (net_of core.new)).failed_waits }
+    ensures waits { HasNotFallen (M.facts (net_of core.old)).failed_waits
+        (M.facts (net_of core.new)).failed_waits }
     ensures volumes { volumes_of core.new ≡ volumes_of core.old }
 {
     core.poll(most_ms)
@@ -131,10 +168,12 @@ fn hand_over<
     V: Volumes<H::Note>,
 >(core: &mut Core<H, M, Q, W, V>) -> Result<(), RunEnd>
     requires { IsIdle ⟦<Core<H, M, Q, W, V> as Means>⟧.m core.old }
-    ensures idle { IsIdle ⟦<Core<H, M, Q, W, V> as Means>⟧.m core.new }
+    ensures stays { StaysIdle ⟦<Core<H, M, Q, W, V> as Means>⟧.m core.old core.new }
     ensures net { net_of core.new ≡ net_of core.old }
-    ensures ok { OnOk result ((V.facts (volumes_of core.new)).faults ≡ (V.facts (volumes_of core.old)).faults) }
-    ensures err { IfErr result (λ end. FailsVolume (V.facts (volumes_of core.old)).faults end (V.facts (volumes_of core.new)).faults) }
+    ensures ok { OnOk result ((V.facts (volumes_of core.new)).faults
+        ≡ (V.facts (volumes_of core.old)).faults) }
+    ensures err { IfErr result (λ end. FailsVolume (V.facts (volumes_of core.old)).faults end
+        (V.facts (volumes_of core.new)).faults) }
 {
     match core.hand_over() {
         Ok(_) => Ok(()),
@@ -153,8 +192,11 @@ fn step<
 >(core: &mut Core<H, M, Q, W, V>, most_ms: Option<u64>, until: Option<u64>) -> Option<RunEnd>
     requires { IsIdle ⟦<Core<H, M, Q, W, V> as Means>⟧.m core.old }
     ensures idle { IsIdle ⟦<Core<H, M, Q, W, V> as Means>⟧.m core.new }
-    ensures ends { IfSome result (λ end. StepEndsSo ⟦<Core<H, M, Q, W, V> as Means>⟧.m until (M.facts (net_of core.old)).failed_waits end core.new) }
-    ensures waits { HasNotFallen (M.facts (net_of core.old)).failed_waits (M.facts (net_of core.new)).failed_waits }
+    ensures within { StaysWithin ⟦<Core<H, M, Q, W, V> as Means>⟧.m most_ms core.old core.new }
+    ensures ends { IfSome result (λ end. StepEndsSo ⟦<Core<H, M, Q, W, V> as Means>⟧.m until
+        (M.facts (net_of core.old)).failed_waits end core.new) }
+    ensures waits { HasNotFallen (M.facts (net_of core.old)).failed_waits
+        (M.facts (net_of core.new)).failed_waits }
     ensures volumes { volumes_of core.new ≡ volumes_of core.old }
 {
     match turn(core) {
@@ -163,7 +205,7 @@ fn step<
             _ => None,
         },
         Ok(None) => match poll(core, most_ms) {
-            Ok(Polled::Over) => Some(RunEnd::Over),
+            Ok(Polled::Over) if !core.has_next() => Some(RunEnd::Over),
             Ok(_) => None,
             Err(PollRefused::Stopped) => Some(RunEnd::Stopped),
             Err(PollRefused::NetFailed) => Some(RunEnd::NetFault),
@@ -183,9 +225,14 @@ fn advance<
 >(core: &mut Core<H, M, Q, W, V>, most_ms: Option<u64>, until: Option<u64>) -> Option<RunEnd>
     requires { IsIdle ⟦<Core<H, M, Q, W, V> as Means>⟧.m core.old }
     ensures idle { IsIdle ⟦<Core<H, M, Q, W, V> as Means>⟧.m core.new }
-    ensures ends { IfSome result (λ end. EndsSo ⟦<Core<H, M, Q, W, V> as Means>⟧.m until (M.facts (net_of core.old)).failed_waits (V.facts (volumes_of core.old)).faults end core.new) }
-    ensures waits { HasNotFallen (M.facts (net_of core.old)).failed_waits (M.facts (net_of core.new)).failed_waits }
-    ensures volumes { IfNone result ((V.facts (volumes_of core.new)).faults ≡ (V.facts (volumes_of core.old)).faults) }
+    ensures within { StaysWithin ⟦<Core<H, M, Q, W, V> as Means>⟧.m most_ms core.old core.new }
+    ensures ends { IfSome result (λ end. EndsSo ⟦<Core<H, M, Q, W, V> as Means>⟧.m until
+        (M.facts (net_of core.old)).failed_waits (V.facts (volumes_of core.old)).faults end
+        core.new) }
+    ensures waits { HasNotFallen (M.facts (net_of core.old)).failed_waits
+        (M.facts (net_of core.new)).failed_waits }
+    ensures volumes { IfNone result ((V.facts (volumes_of core.new)).faults
+        ≡ (V.facts (volumes_of core.old)).faults) }
 {
     match hand_over(core) {
         Ok(()) => step(core, most_ms, until),
@@ -193,8 +240,9 @@ fn advance<
     }
 }
 
-/// Makes turns, and waits, at most `most_ms` milliseconds, where there is none to make, until `until` handlers were closed or refused, nothing
-/// can be reported any more, the reactor is stopped, or something fails.
+/// Makes turns, and waits, at most `most_ms` milliseconds, where there is none to make, until
+/// `until` handlers were closed or refused, nothing can be reported any more, the reactor is
+/// stopped, or something fails.
 pub fn run<
     R: Wait,
     H: EventHandler,
@@ -205,7 +253,10 @@ pub fn run<
 >(rt: &R, core: &mut Core<H, M, Q, W, V>, most_ms: Option<u64>, until: Option<u64>) -> RunEnd
     requires { IsIdle ⟦<Core<H, M, Q, W, V> as Means>⟧.m core.old }
     ensures idle { IsIdle ⟦<Core<H, M, Q, W, V> as Means>⟧.m core.new }
-    ensures ends { EndsSo ⟦<Core<H, M, Q, W, V> as Means>⟧.m until (M.facts (net_of core.old)).failed_waits (V.facts (volumes_of core.old)).faults result core.new }
+    ensures within { StaysWithin ⟦<Core<H, M, Q, W, V> as Means>⟧.m most_ms core.old core.new }
+    ensures ends { EndsSo ⟦<Core<H, M, Q, W, V> as Means>⟧.m until
+        (M.facts (net_of core.old)).failed_waits (V.facts (volumes_of core.old)).faults result
+        core.new }
 {
     for _ in rt.forever() {
         if let Some(end) = advance(core, most_ms, until) {
@@ -225,8 +276,10 @@ fn stop<
 >(core: &mut Core<H, M, Q, W, V>)
     requires { IsIdle ⟦<Core<H, M, Q, W, V> as Means>⟧.m core.old }
     ensures stopped { WasStopped ⟦<Core<H, M, Q, W, V> as Means>⟧.m core.new }
-    ensures waits { (M.facts (net_of core.new)).failed_waits ≡ (M.facts (net_of core.old)).failed_waits }
-    ensures attaches { (M.facts (net_of core.new)).failed_attaches ≡ (M.facts (net_of core.old)).failed_attaches }
+    ensures waits { (M.facts (net_of core.new)).failed_waits
+        ≡ (M.facts (net_of core.old)).failed_waits }
+    ensures attaches { (M.facts (net_of core.new)).failed_attaches
+        ≡ (M.facts (net_of core.old)).failed_attaches }
 {
     core.stop();
 }
@@ -242,7 +295,8 @@ pub fn close<
     requires { IsIdle ⟦<Core<H, M, Q, W, V> as Means>⟧.m core }
     ensures leaves { LeavesParts ⟦<Core<H, M, Q, W, V> as Means>⟧.m Q.timers result }
     ensures waits { (M.facts result.net).failed_waits ≡ (M.facts (net_of core)).failed_waits }
-    ensures attaches { (M.facts result.net).failed_attaches ≡ (M.facts (net_of core)).failed_attaches }
+    ensures attaches { (M.facts result.net).failed_attaches
+        ≡ (M.facts (net_of core)).failed_attaches }
 {
     let mut core = core;
     stop(&mut core);

@@ -10,7 +10,8 @@ abbrev pub last_of : ℕ → Option Try
 last_of zero = None
 last_of (suc tries) = Some Paused
 
--- it is a connection's end without a number or a story; it has no bytes to give, took none and never failed
+-- it is a connection's end without a number or a story; it has no bytes to give, took none and
+-- never failed
 abbrev pub play_end_facts : PlayEnd → EndFacts
 play_end_facts end = record {
   listener = false;
@@ -18,6 +19,8 @@ play_end_facts end = record {
   last_read = last_of end.reads;
   writes = end.writes;
   last_write = last_of end.writes;
+  finishes = 0;
+  last_finish = None;
   faults = 0;
   gave = 0;
   over = false;

@@ -1,20 +1,23 @@
 -- The net that the tests of a reactor use: its moments and reports are laid down when it is made.
-use Rattle.std.specs.Prelude.{◌≡◌, ◌+◌, ◌^◌, ℕ, Bool, true, not, ◌&&◌, ◌||◌, ◌==◌, nat_le, nat_lt, List, [], ◌∷◌, length, map, filter, slice_index, if◌then◌else◌, Option, Some, None}
+use Rattle.std.specs.Prelude.{◌≡◌, ◌+◌, ◌^◌, ℕ, Bool, true, not, ◌&&◌, ◌||◌, ◌==◌, nat_le, nat_lt}
+use Rattle.std.specs.Prelude.{List, [], ◌∷◌, length, map, filter, slice_index, if◌then◌else◌}
+use Rattle.std.specs.Prelude.{Option, Some, None}
 use Rattle.std.specs.List.{list_any, list_all}
-use Rattle.ev_types.specs.declared.upcall.Mask.{Mask}
+use Rattle.ev_base.specs.ev_types.specs.declared.upcall.Mask.{Mask}
 use Rattle.ev_base.specs.Net.{NetFacts, Call, Waits, mask_has}
 use Rattle.ev_base.specs.declared.net.Report.{Report}
 use Rattle.ev_base.specs.declared.net.Waited.{Waited}
 use Rattle.ev_base.specs.declared.net.Waited.TheVariants.{Reports, Quiet, Over}
-use Rattle.net_calls.specs.Calls.{reports_of}
+use Rattle.ev_base.specs.Calls.{reports_of}
 use Rattle.demux.specs.declared.play_end.PlayEnd.{PlayEnd}
 use Rattle.demux.specs.declared.watched.Watched.{Watched}
 use Rattle.demux.specs.declared.watched.Retired.{Retired}
 
--- What contracts see of the net. Its lists of ends and calls have the latest first, those of moments and reports the
--- order in which they were laid down.
+-- What contracts see of the net. Its lists of ends and calls have the latest first, those of
+-- moments and reports the order in which they were laid down.
 pub record PlayContent : Type 0 where
-  -- the moment of each wait in milliseconds, and the number of the next wait, which stays at their number once they are used up
+  -- the moment of each wait in milliseconds, and the number of the next wait, which stays at their
+  -- number once they are used up
   pub moments : List ℕ
   pub waits : ℕ
   -- the reports of the last wait
@@ -92,23 +95,31 @@ new_play moments planned = record {
 abbrev pub is_attached : ℕ → List Watched → Bool
 is_attached handle watched = list_any (λ w. w.handle.0 == handle) watched
 
--- Its handle was retired behind the wait that a report was laid down for, or was retired and is not attached now.
+-- Its handle was retired behind the wait that a report was laid down for, or was retired and is not
+-- attached now.
 abbrev pub is_gone : Bool → List Retired → ℕ × Report → Bool
-is_gone attached retired planned = list_any (λ r. r.handle.0 == planned.1.handle.0 && (nat_lt planned.0 r.waits || not attached)) retired
+is_gone attached retired planned =
+    list_any (λ r. r.handle.0 == planned.1.handle.0 && (nat_lt planned.0 r.waits || not attached))
+    retired
 
--- At wait number `wait` a report is dropped: it was laid down for this wait or an earlier one, and its end is gone.
+-- At wait number `wait` a report is dropped: it was laid down for this wait or an earlier one, and
+-- its end is gone.
 abbrev pub is_dropped : ℕ → List Watched → List Retired → ℕ × Report → Bool
-is_dropped wait watched retired planned = nat_le planned.0 wait && is_gone (is_attached planned.1.handle.0 watched) retired planned
+is_dropped wait watched retired planned =
+    nat_le planned.0 wait && is_gone (is_attached planned.1.handle.0 watched) retired planned
 
 -- the handle of a report is attached with its kind in the mask
 abbrev pub wants : List Watched → Report → Bool
-wants watched report = list_any (λ w. w.handle.0 == report.handle.0 && mask_has w.mask report.kind) watched
+wants watched report = list_any (λ w. w.handle.0 == report.handle.0 && mask_has w.mask report.kind)
+    watched
 
--- At wait number `wait` a report is given: it was laid down for this wait or an earlier one, and it is wanted.
+-- At wait number `wait` a report is given: it was laid down for this wait or an earlier one, and it
+-- is wanted.
 abbrev pub is_given : ℕ → List Watched → ℕ × Report → Bool
 is_given wait watched planned = nat_le planned.0 wait && wants watched planned.1
 
--- the reports that a wait does not drop, and of such reports those that it gives and those that it leaves
+-- the reports that a wait does not drop, and of such reports those that it gives and those that it
+-- leaves
 abbrev pub kept_at : ℕ → List Watched → List Retired → List (ℕ × Report) → List (ℕ × Report)
 kept_at wait watched retired planned = filter (λ p. not (is_dropped wait watched retired p)) planned
 
@@ -120,7 +131,8 @@ left_at wait watched planned = filter (λ p. not (is_given wait watched p)) plan
 
 -- what the next wait gives and leaves
 abbrev pub given_by_wait : PlayContent → List Report
-given_by_wait n = reports_of (given_at n.waits n.watched (kept_at n.waits n.watched n.retired n.waiting))
+given_by_wait n = reports_of (given_at n.waits n.watched
+    (kept_at n.waits n.watched n.retired n.waiting))
 
 abbrev pub left_by_wait : PlayContent → List (ℕ × Report)
 left_by_wait n = left_at n.waits n.watched (kept_at n.waits n.watched n.retired n.waiting)
@@ -130,12 +142,18 @@ abbrev pub answer_at : ℕ → List Report → Waited
 answer_at now [] = Quiet now
 answer_at now (report ∷ reports) = Reports now (length (report ∷ reports))
 
--- Wait number k answers at moment number k, whatever its limit is. It gives the reports that were laid down for it or held
--- back before, and are wanted now. Behind the last moment each wait answers Over at that moment, or at 0 where there is none.
+-- Wait number k answers at moment number k, whatever its limit is. It gives the reports that were
+-- laid down for it or held back before, and are wanted now. Behind the last moment each wait
+-- answers Over at that moment, or at 0 where there is none.
 abbrev pub PlaysWait : Option ℕ → PlayContent → Option ℕ → Waited → PlayContent → Type 0
 PlaysWait (Some moment) old most answer new =
     (answer ≡ answer_at moment (given_by_wait old))
-    × (new ≡ record old { waits = old.waits + 1; given = given_by_wait old; waiting = left_by_wait old; calls = Waits most answer (given_by_wait old) ∷ old.calls })
+    × (new ≡ record old {
+      waits = old.waits + 1;
+      given = given_by_wait old;
+      waiting = left_by_wait old;
+      calls = Waits most answer (given_by_wait old) ∷ old.calls;
+    })
 PlaysWait None old most answer new =
     (answer ≡ Over (reached old.waits old.moments))
     × (new ≡ record old { given = []; calls = Waits most answer [] ∷ old.calls })
@@ -158,4 +176,5 @@ not_watching handle watched = filter (λ w. not (w.handle.0 == handle)) watched
 -- the end that was retired last of those of a handle
 abbrev pub retired_of : ℕ → List Retired → Option PlayEnd
 retired_of handle [] = None
-retired_of handle (r ∷ retired) = if r.handle.0 == handle then Some r.end else retired_of handle retired
+retired_of handle (r ∷ retired) = if r.handle.0
+    == handle then Some r.end else retired_of handle retired

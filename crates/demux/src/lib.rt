@@ -1,5 +1,5 @@
-//! Demultiplexers in memory (POSA2, Reactor: Synchronous Event Demultiplexer): `PlayNet`, which plays moments and reports that
-//! a test laid down, with its ends, `PlayEnd`.
+//! Demultiplexers in memory (POSA2, Reactor: Synchronous Event Demultiplexer): `PlayNet`, which
+//! plays moments and reports that a test laid down, with its ends, `PlayEnd`.
 #![tactic(auto)]
 
 mod planned;

@@ -1,8 +1,10 @@
 //! The reports that were laid down for a net, as a wait sorts them.
-ghost use Rattle.std.specs.Prelude.{◌≡◌, ◌≤◌, ◌<◌, ◌+◌, ◌-◌, length, take, drop, ◌++◌, slice_range, vec_len};
-ghost use Rattle.net_calls.specs.Calls.{reports_of};
+ghost use Rattle.std.specs.Prelude.{◌≡◌, ◌≤◌, ◌<◌, ◌+◌, ◌-◌, length, take, drop, ◌++◌, slice_range};
+ghost use Rattle.std.specs.Prelude.{vec_len};
+ghost use Rattle.ev_base.specs.Calls.{reports_of};
 ghost use Rattle.demux.specs.PlayRoom.{rotated};
-ghost use Rattle.demux.specs.PlayNet.{reached, is_attached, is_gone, is_dropped, wants, is_given, answer_at, kept_at, given_at, left_at};
+ghost use Rattle.demux.specs.PlayNet.{reached, is_attached, is_gone, is_dropped, wants, is_given};
+ghost use Rattle.demux.specs.PlayNet.{answer_at, kept_at, given_at, left_at};
 
 use crate::watched::{Retired, Watched, mask_has};
 use ev_base::{Report, Waited};
@@ -86,16 +88,19 @@ fn drop_gone(
 fn bring(planned: &mut [(usize, Report)], from: usize, to: usize)
     requires before { to ≤ from }
     requires within { from < length planned.old }
-    ensures { planned.new ≡ take to planned.old ++ rotated (from - to) (slice_range planned.old to (from + 1)) ++ drop (from + 1) planned.old }
+    ensures { planned.new ≡ take to planned.old ++ rotated (from - to)
+        (slice_range planned.old to (from + 1)) ++ drop (from + 1) planned.old }
 {
     planned[to..from + 1].rotate_right(1);
 }
 
-// Moves the reports that are given at a wait behind the others, each part in its order, and tells how many the others are.
+// Moves the reports that are given at a wait behind the others, each part in its order, and tells
+// how many the others are.
 fn part(wait: usize, watched: &[Watched], planned: &mut Vec<(usize, Report)>) -> usize
     ensures len { vec_len planned.new ≡ vec_len planned.old }
     ensures left { result ≡ length (left_at wait watched.now planned.old.items) }
-    ensures parted { planned.new.items ≡ left_at wait watched.now planned.old.items ++ given_at wait watched.now planned.old.items }
+    ensures parted { planned.new.items ≡ left_at wait watched.now planned.old.items
+        ++ given_at wait watched.now planned.old.items }
 {
     let mut left = 0;
     for at in 0..planned.len() {
@@ -107,8 +112,8 @@ fn part(wait: usize, watched: &[Watched], planned: &mut Vec<(usize, Report)>) ->
     left
 }
 
-// Sorts the reports as a wait does: drops those to be dropped, and moves those to be given behind the others. It tells
-// how many the others are.
+// Sorts the reports as a wait does: drops those to be dropped, and moves those to be given behind
+// the others. It tells how many the others are.
 pub(crate) fn sort_out(
     wait: usize,
     watched: &[Watched],
@@ -116,8 +121,11 @@ pub(crate) fn sort_out(
     planned: &mut Vec<(usize, Report)>,
 ) -> usize
     ensures bound { vec_len planned.new ≤ vec_len planned.old }
-    ensures left { result ≡ length (left_at wait watched.now (kept_at wait watched.now retired.now planned.old.items)) }
-    ensures parted { planned.new.items ≡ left_at wait watched.now (kept_at wait watched.now retired.now planned.old.items) ++ given_at wait watched.now (kept_at wait watched.now retired.now planned.old.items) }
+    ensures left { result ≡ length (left_at wait watched.now
+        (kept_at wait watched.now retired.now planned.old.items)) }
+    ensures parted { planned.new.items ≡ left_at wait watched.now
+        (kept_at wait watched.now retired.now planned.old.items)
+        ++ given_at wait watched.now (kept_at wait watched.now retired.now planned.old.items) }
 {
     drop_gone(wait, watched, retired, planned);
     part(wait, watched, planned)

@@ -54,9 +54,11 @@ impl PeerEnd for PlayEnd {
 
     // It needs no listener, since it pauses as the other calls do.
     fn accept(&mut self) -> Taken<PlayEnd>
-        ensures accepts { Accepts play_end_facts (play_end_facts self.old) result (play_end_facts self.new) }
+        ensures accepts { Accepts play_end_facts (play_end_facts self.old) result
+            (play_end_facts self.new) }
         ensures kept { KeepsOn play_end_keeps self.old self.new }
-        ensures given { (t : Terms) → play_end_keeps t self.old → KeptByGiven (play_end_keeps t) result }
+        ensures given { (t : Terms) → play_end_keeps t self.old
+            → KeptByGiven (play_end_keeps t) result }
         ensures pauses { result ≡ Taken.Pause }
     {
         self.reads = self.reads.saturating_add(1);

@@ -1,22 +1,24 @@
-//! A demultiplexer for the tests of a reactor, whose moments and reports are laid down when it is made.
-ghost use Rattle.std.specs.Prelude.{◌≡◌, ◌≤◌, ◌<◌, ◌∷◌, ◌-◌, ℕ, true, length, slice_get, option_map, Some, None, OnOk, IsOk, Contains};
-ghost use Rattle.demux.specs.PlayNet.{play_net_facts, do_not_fall, are_bounded, new_play, PlaysWait, watching, with_mask, not_watching, retired_of};
+//! A demultiplexer for the tests of a reactor, whose moments and reports are laid down when it is
+//! made.
+ghost use Rattle.std.specs.Prelude.{◌≡◌, ◌≤◌, ◌<◌, ◌∷◌, ◌-◌, ℕ, true, length, slice_get};
+ghost use Rattle.std.specs.Prelude.{option_map, Some, None, OnOk, IsOk, Contains};
+ghost use Rattle.demux.specs.PlayNet.{play_net_facts, do_not_fall, are_bounded, new_play};
+ghost use Rattle.demux.specs.PlayNet.{PlaysWait, watching, with_mask, not_watching, retired_of};
 
 use super::PlayEnd;
 use crate::planned::{answer_at, reached, sort_out};
 use crate::watched::{Retired, Watched, retired_in, set_mask_in};
-use ev_base::{Net, Report, Waited};
-use ev_types::{Handle, Mask, NetFailed, NoMemory};
-use net_calls::{Calls, Made};
+use ev_base::{Calls, Handle, Made, Mask, Net, NetFailed, NoMemory, Report, Waited};
 use std::alloc::Global;
 use std::marker::Model;
 
 /// A demultiplexer that plays what was laid down. It never fails, and only `reserve` takes memory.
 ///
-/// Its wait number k, from 0, answers at moment number k in milliseconds, whatever the limit of the wait is. It gives, in
-/// the order in which they were laid down, the reports for this wait and those that were held back from earlier waits, if
-/// their handle is attached with their kind in its mask. Behind the last moment each wait answers `Over` at that moment,
-/// or at 0 where there is none. Reports are not merged. Those of a handle that was retired are dropped.
+/// Its wait number k, from 0, answers at moment number k in milliseconds, whatever the limit of the
+/// wait is. It gives, in the order in which they were laid down, the reports for this wait and
+/// those that were held back from earlier waits, if their handle is attached with their kind in its
+/// mask. Behind the last moment each wait answers `Over` at that moment, or at 0 where there is
+/// none. Reports are not merged. Those of a handle that was retired are dropped.
 #[derive(Drop)]
 pub struct PlayNet {
     moments: Vec<u64>,
@@ -36,20 +38,32 @@ pub struct PlayNet {
 
 impl Model for PlayNet {
     ghost use Rattle.std.specs.Prelude.{take, drop};
-    ghost use Rattle.net_calls.specs.Calls.{reports_of};
+    ghost use Rattle.ev_base.specs.Calls.{reports_of};
     ghost use Rattle.demux.specs.PlayNet.{PlayContent};
     ghost use Rattle.demux.specs.PlayRoom.{IsPlay, HasRoom};
 
     ghost Value = { PlayContent };
 
-    ghost view = { λ n. record { moments = n.moments.items; waits = n.waits; given = reports_of (drop n.waiting n.planned.items); waiting = take n.waiting n.planned.items; watched = n.watched.items; retired = n.retired.items; turned_away = n.turned_away.items; spare = n.spare; calls = n.calls } };
+    ghost view = { λ n. record {
+      moments = n.moments.items;
+      waits = n.waits;
+      given = reports_of (drop n.waiting n.planned.items);
+      waiting = take n.waiting n.planned.items;
+      watched = n.watched.items;
+      retired = n.retired.items;
+      turned_away = n.turned_away.items;
+      spare = n.spare;
+      calls = n.calls;
+    } };
 
-    ghost invariant = { λ n. IsPlay n.moments.items n.waits n.planned.items n.waiting × HasRoom n.watched n.retired n.turned_away n.spare };
+    ghost invariant = { λ n. IsPlay n.moments.items n.waits n.planned.items n.waiting
+        × HasRoom n.watched n.retired n.turned_away n.spare };
 }
 
 impl PlayNet {
-    /// A net that has made no call. The moments are milliseconds, do not fall and are at most 2^62, and there are at most
-    /// 256 reports, each with the number of the wait that it is for. It holds no more memory than it was given.
+    /// A net that has made no call. The moments are milliseconds, do not fall and are at most 2^62,
+    /// and there are at most 256 reports, each with the number of the wait that it is for. It holds
+    /// no more memory than it was given.
     pub fn new(alloc: Global, moments: Vec<u64>, reports: Vec<(usize, Report)>) -> PlayNet
         requires rising { do_not_fall 0 moments.items ≡ true }
         requires bounded { are_bounded moments.items ≡ true }
@@ -81,8 +95,9 @@ impl PlayNet {
 impl Net for PlayNet {
     ghost use Rattle.std.specs.Prelude.{refl};
     ghost use Rattle.ev_base.specs.Terms.{Terms, KeepsOn, KeepsOnWith};
-    ghost use Rattle.ev_base.specs.Net.{NetWaits, Reserves, NetAttaches, SetsMaskOf, RetiresEnd, TurnsAwayEnd, Attaches, SetsMask, Retires, TurnsAway};
-    ghost use Rattle.net_calls.specs.Groups.{follows_none};
+    ghost use Rattle.ev_base.specs.Net.{NetWaits, Reserves, NetAttaches, SetsMaskOf, RetiresEnd};
+    ghost use Rattle.ev_base.specs.Net.{TurnsAwayEnd, Attaches, SetsMask, Retires, TurnsAway};
+    ghost use Rattle.ev_base.specs.Calls.{follows_none};
     ghost use Rattle.demux.specs.PlayEnd.{play_end_facts, play_end_keeps};
     ghost use Rattle.demux.specs.PlayKeeps.{play_net_keeps};
 
@@ -93,9 +108,11 @@ impl Net for PlayNet {
     ghost keeps = { play_net_keeps };
 
     fn wait(&mut self, most_ms: Option<u64>) -> Waited
-        ensures waits { NetWaits (play_net_facts self.old) most_ms result (play_net_facts self.new) }
+        ensures waits { NetWaits (play_net_facts self.old) most_ms result
+            (play_net_facts self.new) }
         ensures kept { KeepsOn play_net_keeps self.old self.new }
-        ensures plays { PlaysWait (slice_get self.old.moments self.old.waits) self.old most_ms result self.new }
+        ensures plays { PlaysWait (slice_get self.old.moments self.old.waits) self.old most_ms
+            result self.new }
     {
         self.planned.truncate(self.waiting);
         if self.waits == self.moments.len() {
@@ -141,11 +158,17 @@ impl Net for PlayNet {
     fn attach(&mut self, end: &mut PlayEnd, handle: Handle, mask: Mask) -> Result<(), NetFailed>
         requires place { 1 ≤ (play_net_facts self.old).spare }
         requires absent { Contains (play_net_facts self.old).attached handle.0 → ⊥ }
-        ensures attaches { NetAttaches (play_net_facts self.old) handle.0 mask (play_end_facts end.old).serial result (play_net_facts self.new) }
+        ensures attaches { NetAttaches (play_net_facts self.old) handle.0 mask
+            (play_end_facts end.old).serial result (play_net_facts self.new) }
         ensures end { play_end_facts end.new ≡ play_end_facts end.old }
         ensures kept { KeepsOnWith play_net_keeps play_end_keeps end.old self.old self.new }
-        ensures end_kept { (t : Terms) → play_net_keeps t self.old → play_end_keeps t end.old → play_end_keeps t end.new }
-        ensures plays { self.new ≡ record self.old { watched = watching handle.0 mask self.old.watched; spare = self.old.spare - 1; calls = Attaches handle.0 mask None ∷ self.old.calls } }
+        ensures end_kept { (t : Terms) → play_net_keeps t self.old → play_end_keeps t end.old
+            → play_end_keeps t end.new }
+        ensures plays { self.new ≡ record self.old {
+          watched = watching handle.0 mask self.old.watched;
+          spare = self.old.spare - 1;
+          calls = Attaches handle.0 mask None ∷ self.old.calls;
+        } }
         ensures done { result ≡ Ok tt }
     {
         let watched = Watched { handle, mask };
@@ -160,9 +183,13 @@ impl Net for PlayNet {
 
     fn set_mask(&mut self, handle: Handle, mask: Mask)
         requires { Contains (play_net_facts self.old).attached handle.0 }
-        ensures sets { SetsMaskOf (play_net_facts self.old) handle.0 mask (play_net_facts self.new) }
+        ensures sets { SetsMaskOf (play_net_facts self.old) handle.0 mask
+            (play_net_facts self.new) }
         ensures kept { KeepsOn play_net_keeps self.old self.new }
-        ensures plays { self.new ≡ record self.old { watched = with_mask handle.0 mask self.old.watched; calls = SetsMask handle.0 mask ∷ self.old.calls } }
+        ensures plays { self.new ≡ record self.old {
+          watched = with_mask handle.0 mask self.old.watched;
+          calls = SetsMask handle.0 mask ∷ self.old.calls;
+        } }
     {
         set_mask_in(&mut self.watched, handle, mask);
         self.calls.add(Made::Mask(handle, mask));
@@ -170,9 +197,15 @@ impl Net for PlayNet {
 
     fn retire(&mut self, handle: Handle, end: PlayEnd)
         requires { Contains (play_net_facts self.old).attached handle.0 }
-        ensures retires { RetiresEnd (play_net_facts self.old) handle.0 end (play_net_facts self.new) }
+        ensures retires { RetiresEnd (play_net_facts self.old) handle.0 end
+            (play_net_facts self.new) }
         ensures kept { KeepsOnWith play_net_keeps play_end_keeps end self.old self.new }
-        ensures plays { self.new ≡ record self.old { watched = not_watching handle.0 self.old.watched; retired = record { handle = handle; end = end; waits = self.old.waits } ∷ self.old.retired; calls = Retires handle.0 ∷ self.old.calls } }
+        ensures plays { self.new ≡ record self.old {
+          watched = not_watching handle.0 self.old.watched;
+          retired =
+              record { handle = handle; end = end; waits = self.old.waits } ∷ self.old.retired;
+          calls = Retires handle.0 ∷ self.old.calls;
+        } }
     {
         let retired = Retired {
             handle,
@@ -189,9 +222,14 @@ impl Net for PlayNet {
 
     fn turn_away(&mut self, end: PlayEnd)
         requires { 1 ≤ (play_net_facts self.old).spare }
-        ensures turns_away { TurnsAwayEnd (play_net_facts self.old) (play_end_facts end).serial end (play_net_facts self.new) }
+        ensures turns_away { TurnsAwayEnd (play_net_facts self.old) (play_end_facts end).serial end
+            (play_net_facts self.new) }
         ensures kept { KeepsOnWith play_net_keeps play_end_keeps end self.old self.new }
-        ensures plays { self.new ≡ record self.old { turned_away = end ∷ self.old.turned_away; spare = self.old.spare - 1; calls = TurnsAway None ∷ self.old.calls } }
+        ensures plays { self.new ≡ record self.old {
+          turned_away = end ∷ self.old.turned_away;
+          spare = self.old.spare - 1;
+          calls = TurnsAway None ∷ self.old.calls;
+        } }
     {
         match self.turned_away.insert(0, end) {
             Ok(()) => {}

@@ -2,7 +2,7 @@
 ghost use Rattle.std.specs.Prelude.{◌≡◌};
 
 use super::PlayEnd;
-use ev_types::{Handle, Kind, Mask};
+use ev_base::{Handle, Kind, Mask};
 
 /// An end that is attached: its handle, and the kinds of report that are wanted.
 #[derive(Clone, Copy)]

@@ -1,4 +1,5 @@
--- What the end of a socket tells: counts, and no bytes (C++NPv2 chapter 3: `ACE_SOCK_Stream` and `ACE_SOCK_Acceptor`).
+-- What the end of a socket tells: counts, and no bytes (C++NPv2 chapter 3: `ACE_SOCK_Stream` and
+-- `ACE_SOCK_Acceptor`).
 use Rattle.std.specs.Prelude.{◌≡◌, false, None, option_map}
 use Rattle.ev_base.specs.Terms.{Terms}
 use Rattle.ev_base.specs.End.{EndFacts, IsFresh, Try, Moved, Accepted, Paused, WasOver, Faulted}
@@ -22,6 +23,8 @@ facts_of s = record {
   last_read = option_map try_of s.last_read;
   writes = s.writes;
   last_write = option_map try_of s.last_write;
+  finishes = s.finishes;
+  last_finish = s.last_finish;
   faults = s.faults;
   gave = s.gave;
   over = s.over;

@@ -33,7 +33,8 @@ mio_net_facts n = record {
 abbrev pub mio_net_keeps : {R : Type 0} → Terms → MioNet R → Type 0
 mio_net_keeps t n = NoOffers t
 
--- Each report of a wait is of a handle that is attached, with its kind in the mask. No wait is the last: it never answers Over.
+-- Each report of a wait is of a handle that is attached, with its kind in the mask, and none is of
+-- exceptional data. No wait is the last: it never answers Over.
 abbrev pub GivesWanted : Waited → List Call → List Report → Type 0
 GivesWanted (Reports now count) asked reports = All (IsWanted asked) reports
 GivesWanted (Quiet now) asked reports = Unit {0}

@@ -1,10 +1,10 @@
 //! A thread that closes connections.
 
-use ev_types::NoMemory;
+use doorbell::Doorbell;
+use ev_base::NoMemory;
 use mio::net::TcpStream;
 use std::alloc::{AllocError, Global};
 use std::collections::VecDeque;
-use std::hint::spin_loop;
 use std::sync::atomic::{AtomicBool, AtomicU64, Ordering};
 use std::sync::{Arc, Mutex, Wait};
 use std::thread::{Threads, spawn};
@@ -12,18 +12,19 @@ use std::thread::{Threads, spawn};
 /// How many retired connections wait for their close at most.
 pub(crate) const MOST_RETIRED: usize = 64;
 
-/// How often the thread looks for one before it sleeps: some 20 microseconds, in which a busy net retires the next.
+/// How often the thread looks for one before it sleeps: some 20 microseconds, in which a busy net
+/// retires the next.
 const LOOKS: u32 = 500;
 
-/// Connections that were retired and are not closed yet, the first in front, and the thread that closes them.
+/// Connections that were retired and are not closed yet, the first in front, and the thread that
+/// closes them.
 #[derive(Drop)]
 struct Retired {
     streams: Mutex<VecDeque<TcpStream>>,
     // Whether there are any, so that nobody has to look further where there are none.
     has_any: AtomicBool,
-    // Rises with each that is retired, and with each owner that leaves.
-    count: AtomicU64,
-    sleeps: AtomicBool,
+    // Is rung with each that is retired, and with each owner that leaves.
+    bell: Doorbell,
     owners: AtomicU64,
 }
 
@@ -33,14 +34,13 @@ impl Retired {
         Ok(Retired {
             streams: Mutex::new(VecDeque::with_capacity(alloc, MOST_RETIRED)?),
             has_any: AtomicBool::new(false),
-            count: AtomicU64::new(0),
-            sleeps: AtomicBool::new(false),
+            bell: Doorbell::new(),
             owners: AtomicU64::new(1),
         })
     }
 
-    // Keeps a connection where there is a place for it and nobody takes one just now, and else closes it. Where another waits already the
-    // thread is to go on.
+    // Keeps a connection where there is a place for it and nobody takes one just now, and else
+    // closes it. Where another waits already the thread is to go on.
     fn keep(&self, stream: TcpStream) {
         let Some(mut streams) = self.streams.try_lock() else {
             return;
@@ -52,9 +52,9 @@ impl Retired {
         let several = streams.len() > 1;
         self.has_any.store(true, Ordering::SeqCst);
         drop(streams);
-        self.count.fetch_add(1, Ordering::SeqCst);
+        self.bell.ring();
         if several {
-            self.wake();
+            self.bell.wake();
         }
     }
 
@@ -74,41 +74,21 @@ impl Retired {
         stream
     }
 
-    // Wakes the thread where it sleeps, and takes back that it does. It says so before it looks at the count for the last time, and the count has risen
-    // before this looks: so it does not sleep on.
-    fn wake(&self) {
-        if self.sleeps.load(Ordering::SeqCst) && self.sleeps.swap(false, Ordering::SeqCst) {
-            self.count.wake_one();
-        }
-    }
-
     // Closes connections until every owner has left.
     fn close_all<R: Wait>(&self, rt: &R) {
         for _ in rt.forever() {
-            let count = self.count.load(Ordering::SeqCst);
+            let count = self.bell.count();
             match self.next(rt) {
                 Some(stream) => drop(stream),
                 None if self.owners.load(Ordering::SeqCst) == 0 => return,
-                None => self.rest(rt, count),
+                None => self.bell.rest(rt, count, LOOKS),
             }
         }
-    }
-
-    // Waits until the count is another one: looks some times, and then sleeps until somebody wakes it.
-    fn rest<R: Wait>(&self, rt: &R, count: u64) {
-        for _ in 0..LOOKS {
-            if self.count.load(Ordering::SeqCst) != count {
-                return;
-            }
-            spin_loop();
-        }
-        self.sleeps.store(true, Ordering::SeqCst);
-        self.count.park(rt, (count % (1 << 32)) as u32);
-        self.sleeps.store(false, Ordering::SeqCst);
     }
 }
 
-/// An owner of a thread that closes connections. It ends once all its owners have gone and it has closed what waits.
+/// An owner of a thread that closes connections. It ends once all its owners have gone and it has
+/// closed what waits.
 pub(crate) struct Closer {
     retired: Arc<Retired, Global>,
 }
@@ -151,7 +131,7 @@ impl Closer {
 
     /// Whether its thread sleeps, and nobody has woken it.
     pub(crate) fn sleeps(&self) -> bool {
-        self.retired.sleeps.load(Ordering::SeqCst)
+        self.retired.bell.is_asleep()
     }
 
     /// One more owner.
@@ -166,7 +146,7 @@ impl Drop for Closer {
     fn drop(self) {
         let Self { retired } = self;
         retired.owners.fetch_sub(1, Ordering::SeqCst);
-        retired.count.fetch_add(1, Ordering::SeqCst);
-        retired.wake();
+        retired.bell.ring();
+        retired.bell.wake();
     }
 }

@@ -3,14 +3,14 @@ ghost use Rattle.std.specs.Prelude.{◌≡◌, true, false, None, IfOk, OnErr};
 ghost use Rattle.ev_base.specs.End.{IsFresh, KeptByGiven};
 ghost use Rattle.demux_mio.specs.Ends.{mio_end_facts, mio_end_keeps, IsNewConnection};
 ghost use Rattle.demux_mio.specs.NoStory.{keeps_no_story};
+ghost use Rattle.demux_mio.specs.Accepts.{TakenOf};
 
 use crate::socket::{Accepted, Place, Socket};
-use ev_base::{Got, PeerEnd, Sent, Taken};
-use ev_types::NoMemory;
+use ev_base::{DialEnd, Finish, Got, NoMemory, PeerEnd, Sent, Taken};
+use ghost_log::Tally;
 use mio::net::TcpStream;
 use std::alloc::Global;
 use std::io;
-use tally::Tally;
 
 /// What a call came to.
 #[derive(Clone, Copy)]
@@ -38,6 +38,8 @@ struct EndState {
     last_read: Option<Came>,
     writes: u64,
     last_write: Option<Came>,
+    finishes: u64,
+    last_finish: Option<Finish>,
     faults: u64,
     gave: Tally,
     over: bool,
@@ -56,6 +58,8 @@ impl MioEnd {
             last_read: None,
             writes: 0,
             last_write: None,
+            finishes: 0,
+            last_finish: None,
             faults: 0,
             gave: Tally::none(),
             over: false,
@@ -65,7 +69,8 @@ impl MioEnd {
         })
     }
 
-    /// The port that it has on this side, where the system tells it. So who listens on port 0 learns which was free.
+    /// The port that it has on this side, where the system tells it. So who listens on port 0
+    /// learns which was free.
     pub fn port(&self) -> Option<u16> {
         self.state.socket.port()
     }
@@ -94,6 +99,8 @@ impl MioEnd {
             last_read: _,
             writes: _,
             last_write: _,
+            finishes: _,
+            last_finish: _,
             faults: _,
             gave: _,
             over: _,
@@ -102,18 +109,26 @@ impl MioEnd {
     }
 }
 
-/// Takes the next connection into the end that was made for it. Where there was no memory to make one, the system is not asked, so the
-/// connection waits on, and the accept has failed.
+/// Takes the next connection into the end that was made for it. Where there was no memory to make
+/// one, the system is not asked, so the connection waits on, and the accept has failed.
 fn next_end(socket: &mut Socket, made: Result<MioEnd, NoMemory>) -> Taken<MioEnd>
     requires { IfOk made IsNewConnection }
     ensures given { KeptByGiven IsNewConnection result }
     ensures no_memory { OnErr made (result ≡ Taken.Failed) }
 {
-    let Ok(mut end) = made else {
+    let Ok(end) = made else {
         socket.note_failed_accept();
         return Taken::Failed;
     };
-    match socket.accept() {
+    taken_of(socket.accept(), end)
+}
+
+/// What an accept comes to, by what the system gave: the end that was made for it has its
+/// connection.
+fn taken_of(accepted: Accepted, mut end: MioEnd) -> Taken<MioEnd>
+    ensures { TakenOf accepted end result }
+{
+    match accepted {
         Accepted::One(stream) => {
             end.state.socket.open(stream);
             Taken::One(end)
@@ -173,8 +188,9 @@ impl PeerEnd for MioEnd {
         sent
     }
 
-    /// The memory for the new end is taken before the system is asked for a connection, so that none is taken and lost. Want of it is told as a
-    /// failed accept: the connection waits in the system's queue, and the net reports the listener again after a while.
+    /// The memory for the new end is taken before the system is asked for a connection, so that
+    /// none is taken and lost. Want of it is told as a failed accept: the connection waits in the
+    /// system's queue, and the net reports the listener again after a while.
     fn accept(&mut self) -> Taken<MioEnd> {
         let made = MioEnd::new(*Box::allocator(&self.state), Socket::unopened(), false);
         let state = self.state.as_mut();
@@ -192,4 +208,17 @@ impl PeerEnd for MioEnd {
     }
 
     ghost keeps_story = { keeps_no_story };
+}
+
+impl DialEnd for MioEnd {
+    fn finish(&mut self) -> Finish {
+        let state = self.state.as_mut();
+        let answer = state.socket.finish();
+        state.finishes = state.finishes.saturating_add(1);
+        state.last_finish = Some(answer);
+        if answer == Finish::Failed {
+            state.faults = state.faults.saturating_add(1);
+        }
+        answer
+    }
 }

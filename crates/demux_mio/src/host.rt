@@ -6,7 +6,7 @@ use crate::net::WAKER;
 use crate::shared::{Shared, Sharing};
 use crate::socket::Socket;
 use crate::{MioEnd, MioNet};
-use ev_base::{Host, ListenRefused, Wake};
+use ev_base::{Host, ListenRefused, PortLog, Wake};
 use mio::net::TcpListener;
 use mio::{Poll, Waker};
 use std::alloc::Global;
@@ -33,6 +33,7 @@ impl Wake for MioWake {
 pub struct MioHost<R> {
     rt: R,
     faults: u64,
+    ports: PortLog,
     closer: Option<Closer>,
 }
 
@@ -55,6 +56,7 @@ impl<R: Sockets + Clock + Copy> MioHost<R> {
         MioHost {
             rt,
             faults: 0,
+            ports: PortLog::none(),
             closer: None,
         }
     }
@@ -79,15 +81,18 @@ impl<R: Sockets + Clock + Copy> MioHost<R> {
 impl<R: Sockets + Clock + Threads + Wait + Copy + Send + 'static> MioHost<R> {
     ghost use Rattle.demux_mio.specs.Hosts.{mio_host_faults};
 
-    /// A host that made no call, with a thread that closes the connections whose ends were retired. So a reactor does not keep its token for that, which
-    /// takes longer than to read from one. It is worth a thread where several lead in turn, and many connections are short. Where there is
-    /// no memory for it, or no thread, the host is as `new` makes it. The thread ends behind the host and the nets that it made.
+    /// A host that made no call, with a thread that closes the connections whose ends were retired.
+    /// So a reactor does not keep its token for that, which takes longer than to read from one. It
+    /// is worth a thread where several lead in turn, and many connections are short. Where there is
+    /// no memory for it, or no thread, the host is as `new` makes it. The thread ends behind the
+    /// host and the nets that it made.
     pub fn with_closer(rt: R, alloc: Global) -> MioHost<R>
         ensures { mio_host_faults result ≡ 0 }
     {
         MioHost {
             rt,
             faults: 0,
+            ports: PortLog::none(),
             closer: Closer::start(rt, alloc),
         }
     }
@@ -95,7 +100,7 @@ impl<R: Sockets + Clock + Threads + Wait + Copy + Send + 'static> MioHost<R> {
 
 impl<R: Sockets + Clock + Copy> Host for MioHost<R> {
     ghost use Rattle.ev_base.specs.Host.{LeavesHostOpen};
-    ghost use Rattle.demux_mio.specs.Hosts.{mio_host_faults, mio_host_keeps};
+    ghost use Rattle.demux_mio.specs.Hosts.{mio_host_faults, mio_host_keeps, mio_host_ports};
 
     type End = MioEnd;
 
@@ -105,6 +110,8 @@ impl<R: Sockets + Clock + Copy> Host for MioHost<R> {
 
     ghost faults = { mio_host_faults };
 
+    ghost ports = { mio_host_ports };
+
     ghost keeps = { mio_host_keeps };
 
     fn listen(
@@ -112,6 +119,7 @@ impl<R: Sockets + Clock + Copy> Host for MioHost<R> {
         alloc: Global,
         port: u16,
     ) -> Result<(MioNet<R>, MioEnd, MioWake), ListenRefused> {
+        self.ports.add(port);
         let Ok(opened) = self.open(port) else {
             self.faults = self.faults.saturating_add(1);
             return Err(ListenRefused::Failed);

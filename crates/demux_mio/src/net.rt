@@ -1,5 +1,7 @@
 //! The demultiplexer of sockets.
-ghost use Rattle.std.specs.Prelude.{◌≡◌, ◌≤◌, ◌<◌, ◌+◌, ◌∷◌, ◌^◌, [], ℕ, true, None, length, All, Contains, IfOk, OnErr, OnOk};
+ghost use Rattle.std.specs.Prelude.{◌≡◌, ◌≤◌, ◌<◌, ◌+◌, ◌∷◌, ◌^◌, true, None};
+ghost use Rattle.std.specs.Prelude.{Contains, IfOk, OnErr, OnOk, max, min};
+ghost use Rattle.demux_mio.specs.Waits.{limit_of};
 
 use crate::MioEnd;
 use crate::closer::{Closer, MOST_RETIRED};
@@ -7,8 +9,7 @@ use crate::readiness::Readiness;
 use crate::shared::Sharing;
 use crate::socket::Place;
 use crate::watching::Watching;
-use ev_base::{Net, PeerEnd, Report, Waited};
-use ev_types::{Handle, Mask, NetFailed, NoMemory};
+use ev_base::{Handle, MOST_REPORTS, Mask, Net, NetFailed, NoMemory, PeerEnd, Report, Waited};
 use mio::{Events, Poll, Token};
 use std::alloc::Global;
 use std::io;
@@ -17,9 +18,6 @@ use std::time::{Clock, Duration, Instant};
 
 /// How many events a wait takes from the system at most: each gives two reports at most.
 const MOST_EVENTS: usize = 128;
-
-/// How many reports a wait has room for.
-const MOST_REPORTS: usize = 256;
 
 /// The last moment.
 const LAST_MOMENT: u64 = 1 << 62;
@@ -36,7 +34,8 @@ const RETRY: u64 = 100;
 /// The token of the waker.
 pub(crate) const WAKER: Token = Token(usize::MAX);
 
-/// A demultiplexer of sockets. Its moments are milliseconds since the host listened. Only `reserve` and `attach` take memory.
+/// A demultiplexer of sockets. Its moments are milliseconds since the host listened. Only `reserve`
+/// and `attach` take memory.
 #[derive(Drop)]
 pub struct MioNet<R> {
     rt: R,
@@ -57,6 +56,28 @@ pub struct MioNet<R> {
     failed_waits: u64,
     failed_attaches: u64,
     ghost bounded: { last ≤ 2 ^ 62 },
+}
+
+/// The moment, by how many milliseconds passed since the start and by the last moment: what passed,
+/// but not below the last moment, and not above the greatest that there is.
+fn moment_after(passed: u128, last: u64) -> u64
+    ensures { result ≡ max last (min passed (2 ^ 62)) }
+{
+    let present = passed.min(LAST_MOMENT as u128) as u64;
+    present.max(last)
+}
+
+/// The limit of a wait in milliseconds, by whether a report is owed, in how many milliseconds the
+/// listeners are tried again, and the limit that the caller names.
+fn limit_of(owing: bool, until_retry: Option<u64>, most_ms: Option<u64>) -> Option<u64>
+    ensures { result ≡ limit_of owing until_retry most_ms }
+{
+    match (until_retry, most_ms) {
+        _ if owing => Some(0),
+        (Some(first), Some(most)) => Some(first.min(most)),
+        (Some(limit), None) | (None, Some(limit)) => Some(limit),
+        (None, None) => None,
+    }
 }
 
 impl<R: Clock + Copy> MioNet<R> {
@@ -101,41 +122,41 @@ impl<R: Clock + Copy> MioNet<R> {
         ensures bounded { result ≤ 2 ^ 62 }
     {
         match self.start.elapsed(&self.rt) {
-            Ok(elapsed) => (elapsed.as_millis().min(LAST_MOMENT as u128) as u64).max(self.last),
+            Ok(elapsed) => moment_after(elapsed.as_millis(), self.last),
             Err(_) => self.last,
         }
     }
 
     /// How long to wait at most, where the caller names a limit or none.
     fn limit(&self, most_ms: Option<u64>) -> Option<Duration> {
-        if self.watching.is_owing() {
-            return Some(Duration::ZERO);
-        }
         let until_retry = self.retry.map(|retry| retry.saturating_sub(self.last));
-        match (until_retry, most_ms) {
-            (Some(first), Some(most)) => Some(Duration::from_millis(first.min(most))),
-            (Some(limit), None) | (None, Some(limit)) => Some(Duration::from_millis(limit)),
-            (None, None) => None,
-        }
+        let limit_ms = limit_of(self.watching.is_owing(), until_retry, most_ms);
+        limit_ms.map(Duration::from_millis)
     }
 
-    /// Waits at the system, but not where somebody woke the net. Before it sleeps it closes what was retired, and looks some times where a sleep was cut
-    /// short by a wake lately, which costs both threads more than the looks.
+    /// Waits at the system, but not where somebody woke the net. Before it sleeps it closes what
+    /// was retired, and looks some times where a sleep was cut short by a wake lately, which costs
+    /// both threads more than the looks.
     fn wait_for_events(&mut self, limit: Option<Duration>) -> io::Result<()>
         ensures facts { mio_net_facts self.new ≡ mio_net_facts self.old }
         ensures asked { asked_of self.new ≡ asked_of self.old }
     {
-        if self.close_retired(limit)?
-            || limit != Some(Duration::ZERO) && self.looking > 0 && self.look()?
-        {
+        if self.close_retired(limit)? {
             self.shared.end_wait();
             return Ok(());
+        }
+        if limit != Some(Duration::ZERO) && self.looking > 0 {
+            if self.look()? {
+                self.shared.end_wait();
+                return Ok(());
+            }
         }
         self.sleep(limit)
     }
 
-    /// Closes what was retired: where the closer sleeps at once, since to wake it takes as long, and else, beside it, while there are no events and the wait
-    /// is to last. Tells whether there are events.
+    /// Closes what was retired: where the closer sleeps at once, since to wake it takes as long,
+    /// and else, beside it, while there are no events and the wait is to last. Tells whether there
+    /// are events.
     fn close_retired(&mut self, limit: Option<Duration>) -> io::Result<bool>
         ensures facts { mio_net_facts self.new ≡ mio_net_facts self.old }
         ensures asked { asked_of self.new ≡ asked_of self.old }
@@ -161,7 +182,8 @@ impl<R: Clock + Copy> MioNet<R> {
         Ok(false)
     }
 
-    /// Looks for events without sleeping, and tells whether there are any, or somebody woke the net.
+    /// Looks for events without sleeping, and tells whether there are any, or somebody woke the
+    /// net.
     fn look(&mut self) -> io::Result<bool>
         ensures facts { mio_net_facts self.new ≡ mio_net_facts self.old }
         ensures asked { asked_of self.new ≡ asked_of self.old }
@@ -219,9 +241,12 @@ impl<R: Clock + Copy> MioNet<R> {
     /// Watches an end.
     fn watch(&mut self, end: &mut MioEnd, handle: Handle, mask: Mask) -> Result<(), NetFailed>
         ensures end { mio_end_facts end.new ≡ mio_end_facts end.old }
-        ensures ok { OnOk result (asked_of self.new ≡ Attaches handle.0 mask None ∷ asked_of self.old) }
+        ensures ok { OnOk result (asked_of self.new ≡ Attaches handle.0 mask None
+            ∷ asked_of self.old) }
         ensures err { OnErr result (asked_of self.new ≡ asked_of self.old) }
-        ensures rest { mio_net_facts self.new ≡ record (mio_net_facts self.old) { attached = attached_in (asked_of self.new) } }
+        ensures rest { mio_net_facts self.new ≡ record (mio_net_facts self.old) {
+          attached = attached_in (asked_of self.new);
+        } }
     {
         let Ok(signs) = Arc::new(self.alloc, Readiness::nothing()) else {
             return Err(NetFailed);
@@ -252,7 +277,8 @@ impl<R: Clock + Copy> MioNet<R> {
 
 impl<R: Clock + Copy> Net for MioNet<R> {
     ghost use Rattle.ev_base.specs.Terms.{Terms, KeepsOn, KeepsOnWith};
-    ghost use Rattle.ev_base.specs.Net.{NetWaits, NetAttaches, SetsMaskOf, RetiresEnd, Attaches, SetsMask, Retires};
+    ghost use Rattle.ev_base.specs.Net.{NetWaits, NetAttaches, SetsMaskOf, RetiresEnd, Attaches};
+    ghost use Rattle.ev_base.specs.Net.{SetsMask, Retires};
     ghost use Rattle.demux_mio.specs.Nets.{mio_net_facts, mio_net_keeps, asked_of, GivesWanted};
     ghost use Rattle.demux_mio.specs.Ends.{mio_end_facts, mio_end_keeps};
 
@@ -300,11 +326,14 @@ impl<R: Clock + Copy> Net for MioNet<R> {
     fn attach(&mut self, end: &mut MioEnd, handle: Handle, mask: Mask) -> Result<(), NetFailed>
         requires place { 1 ≤ (mio_net_facts self.old).spare }
         requires absent { Contains (mio_net_facts self.old).attached handle.0 → ⊥ }
-        ensures attaches { NetAttaches (mio_net_facts self.old) handle.0 mask (mio_end_facts end.old).serial result (mio_net_facts self.new) }
+        ensures attaches { NetAttaches (mio_net_facts self.old) handle.0 mask
+            (mio_end_facts end.old).serial result (mio_net_facts self.new) }
         ensures end { mio_end_facts end.new ≡ mio_end_facts end.old }
         ensures kept { KeepsOnWith mio_net_keeps mio_end_keeps end.old self.old self.new }
-        ensures end_kept { (t : Terms) → mio_net_keeps t self.old → mio_end_keeps t end.old → mio_end_keeps t end.new }
-        ensures asked { OnOk result (asked_of self.new ≡ Attaches handle.0 mask None ∷ asked_of self.old) }
+        ensures end_kept { (t : Terms) → mio_net_keeps t self.old → mio_end_keeps t end.old
+            → mio_end_keeps t end.new }
+        ensures asked { OnOk result (asked_of self.new ≡ Attaches handle.0 mask None
+            ∷ asked_of self.old) }
         ensures not_asked { OnErr result (asked_of self.new ≡ asked_of self.old) }
     {
         match self.watch(end, handle, mask) {
@@ -330,7 +359,8 @@ impl<R: Clock + Copy> Net for MioNet<R> {
 
     fn retire(&mut self, handle: Handle, end: MioEnd)
         requires { Contains (mio_net_facts self.old).attached handle.0 }
-        ensures retires { RetiresEnd (mio_net_facts self.old) handle.0 end (mio_net_facts self.new) }
+        ensures retires { RetiresEnd (mio_net_facts self.old) handle.0 end
+            (mio_net_facts self.new) }
         ensures kept { KeepsOnWith mio_net_keeps mio_end_keeps end self.old self.new }
         ensures asked { asked_of self.new ≡ Retires handle.0 ∷ asked_of self.old }
     {

@@ -1,15 +1,17 @@
 //! What a socket is ready for.
+ghost use Rattle.std.specs.Prelude.{◌≡◌, false, IsNone};
 
-use ev_types::Kind;
+use ev_base::Kind;
 use std::alloc::Global;
 use std::sync::Arc;
 use std::sync::atomic::{AtomicBool, Ordering};
 
-/// For which kinds of call a socket was reported ready by the system since a call of that kind paused last. The net that watches it
-/// notes what the system says; its end, which may be in a call in another thread, takes it back.
+/// For which kinds of call a socket was reported ready by the system since a call of that kind
+/// paused last. The net that watches it notes what the system says; its end, which may be in a call
+/// in another thread, takes it back.
 ///
-/// An end takes a kind back before it tries the call and notes it again where the call did not pause. So what becomes ready
-/// behind a call that pauses is noted behind that too, and stays.
+/// An end takes a kind back before it tries the call and notes it again where the call did not
+/// pause. So what becomes ready behind a call that pauses is noted behind that too, and stays.
 #[derive(Drop)]
 pub(crate) struct Readiness {
     read: AtomicBool,
@@ -29,7 +31,9 @@ impl Readiness {
     }
 
     // The flag of a kind. No socket is ready for exceptional data, which is not watched.
-    fn flag(&self, kind: Kind) -> Option<&AtomicBool> {
+    fn flag(&self, kind: Kind) -> Option<&AtomicBool>
+        ensures { kind ≡ Kind.Except → IsNone result }
+    {
         match kind {
             Kind::Read => Some(&self.read),
             Kind::Write => Some(&self.write),
@@ -54,7 +58,9 @@ impl Readiness {
     }
 
     /// Whether it is ready for this kind.
-    pub(crate) fn has(&self, kind: Kind) -> bool {
+    pub(crate) fn has(&self, kind: Kind) -> bool
+        ensures { kind ≡ Kind.Except → result ≡ false }
+    {
         match self.flag(kind) {
             Some(flag) => flag.load(Ordering::SeqCst),
             None => false,

@@ -9,7 +9,8 @@ use std::sync::atomic::{AtomicBool, Ordering};
 /// How often a look at the system is followed by one at the wakes.
 const TURNS: u32 = 50;
 
-/// The set of watched sockets, whether an accept failed since the net looked, and how the net's wait stands.
+/// The set of watched sockets, whether an accept failed since the net looked, and how the net's
+/// wait stands.
 #[derive(Drop)]
 pub(crate) struct Shared {
     pub(crate) registry: Registry,
@@ -71,8 +72,9 @@ impl Shared {
         false
     }
 
-    /// The wait that is under way, or else the next, is not to last. The system is called only where a wait is under way that nobody woke
-    /// yet: a wait that begins meanwhile sees that it is woken, or is seen here to have begun.
+    /// The wait that is under way, or else the next, is not to last. The system is called only
+    /// where a wait is under way that nobody woke yet: a wait that begins meanwhile sees that it is
+    /// woken, or is seen here to have begun.
     pub(crate) fn wake(&self) {
         if !self.woken.swap(true, Ordering::SeqCst) && self.waits.load(Ordering::SeqCst) {
             let _ = self.waker.wake();

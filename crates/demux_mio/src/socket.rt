@@ -1,18 +1,17 @@
 //! A socket, and where it is watched.
 ghost use Rattle.std.specs.Prelude.{◌≡◌, ◌≤◌, ◌<◌, length};
-ghost use Rattle.std.specs.Io.{ReadsAtMost, WritesAtMost};
-ghost use Rattle.demux_mio.specs.Moves.{GotOf, GotWithin, SentOf, SentWithin};
+ghost use Rattle.demux_mio.specs.Moves.{GotOf, GotWithin, GotFrom, SentOf, SentWithin, SentTo};
 
 use crate::readiness::Signs;
 use crate::shared::Sharing;
-use ev_base::{Got, Sent};
-use ev_types::Kind;
+use ev_base::{Finish, Got, Kind, Sent, read_again, write_some};
 use mio::net::{TcpListener, TcpStream};
 use mio::{Interest, Token};
 use std::io;
 use std::io::{ErrorKind, Read, Write};
+use std::net::SocketAddr;
 
-/// How often an interrupted call, or an accept of a connection that was aborted, is tried again.
+/// How often an interrupted accept, or one of a connection that was aborted, is tried again.
 const TRIES: usize = 64;
 
 /// How many reads in a row may give bytes before one pauses.
@@ -74,8 +73,15 @@ impl Socket {
         }
     }
 
+    /// The socket of a connection that is being made.
+    pub(crate) fn connecting(stream: TcpStream) -> Socket {
+        Socket::new(Opened::Stream(stream))
+    }
+
     /// Makes it the socket of this connection.
-    pub(crate) fn open(&mut self, stream: TcpStream) {
+    pub(crate) fn open(&mut self, stream: TcpStream)
+        ensures { self.new ≡ record self.old { opened = Opened.Stream stream } }
+    {
         self.opened = Opened::Stream(stream);
     }
 
@@ -116,7 +122,8 @@ impl Socket {
         }
     }
 
-    /// Has the net report it again at the next wait, if it is ready then, and tells whether it will.
+    /// Has the net report it again at the next wait, if it is ready then, and tells whether it
+    /// will.
     fn report_again(&mut self) -> bool
         ensures { self.new.in_a_row ≡ self.old.in_a_row }
     {
@@ -157,15 +164,20 @@ impl Socket {
         }
     }
 
-    /// Reads once. Behind so many reads in a row that gave bytes one pauses, and the net reports the socket again.
+    /// Reads once. Behind so many reads in a row that gave bytes one pauses, and the net reports
+    /// the socket again.
     pub(crate) fn read(&mut self, buf: &mut [u8]) -> Got
+        requires { 0 < length buf.old }
         ensures { GotWithin result buf.new }
     {
         if self.ends_row() {
             return Got::Pause;
         }
         self.begin(Kind::Read);
-        let got = read_once(&mut self.opened, buf);
+        let got = match &mut self.opened {
+            Opened::Stream(stream) => read_once(stream, buf),
+            Opened::Listener(_) | Opened::Nothing => Got::Failed,
+        };
         self.count(got);
         if got != Got::Pause {
             self.go_on(Kind::Read);
@@ -173,7 +185,8 @@ impl Socket {
         got
     }
 
-    /// Whether the reads in a row are so many that the next pauses. Where nobody would report the socket again none does.
+    /// Whether the reads in a row are so many that the next pauses. Where nobody would report the
+    /// socket again none does.
     fn ends_row(&mut self) -> bool
         ensures { self.new.in_a_row < 4 }
     {
@@ -199,11 +212,24 @@ impl Socket {
         ensures { SentWithin result piece.now }
     {
         self.begin(Kind::Write);
-        let sent = write_once(&mut self.opened, piece);
+        let sent = match &mut self.opened {
+            Opened::Stream(stream) => write_once(stream, piece),
+            Opened::Listener(_) | Opened::Nothing => Sent::Failed,
+        };
         if sent != Sent::Pause {
             self.go_on(Kind::Write);
         }
         sent
+    }
+
+    /// Asks once whether its connection is made.
+    pub(crate) fn finish(&mut self) -> Finish {
+        self.begin(Kind::Write);
+        let finish = finish_once(&self.opened);
+        if finish != Finish::Pause {
+            self.go_on(Kind::Write);
+        }
+        finish
     }
 
     /// Accepts once. The net hears of a failure, and reports the listener again after a while.
@@ -225,7 +251,8 @@ impl Socket {
         }
     }
 
-    /// An accept failed, and did not pause: the net hears of it, and reports the listener again after a while.
+    /// An accept failed, and did not pause: the net hears of it, and reports the listener again
+    /// after a while.
     pub(crate) fn note_failed_accept(&self) {
         self.go_on(Kind::Read);
         if let Some(place) = &self.place {
@@ -234,22 +261,41 @@ impl Socket {
     }
 }
 
-// A stream alone reads and writes.
-fn read_once(opened: &mut Opened, buf: &mut [u8]) -> Got
-    ensures { GotWithin result buf.new }
+// Reads once. Where the reader knows its bytes, it gives the next of them.
+fn read_once<R: Read>(reader: &mut R, buf: &mut [u8]) -> Got
+    requires { 0 < length buf.old }
+    ensures within { GotWithin result buf.new }
+    ensures bytes { GotFrom (R.remaining reader.old) buf.new result (R.remaining reader.new) }
 {
-    match opened {
-        Opened::Stream(stream) => got_of(read_again(stream, buf)),
-        Opened::Listener(_) | Opened::Nothing => Got::Failed,
+    got_of(read_again(reader, buf))
+}
+
+// Writes once. Where the writer knows its bytes, they grow by those that it took.
+fn write_once<W: Write>(writer: &mut W, piece: &[u8]) -> Sent
+    ensures within { SentWithin result piece.now }
+    ensures bytes { SentTo (W.contents writer.old) piece.now result (W.contents writer.new) }
+{
+    sent_of(write_some(writer, piece))
+}
+
+// The system tells of a failure, and of the other side's address once the connection is made.
+fn finish_once(opened: &Opened) -> Finish {
+    let Opened::Stream(stream) = opened else {
+        return Finish::Failed;
+    };
+    match stream.take_error() {
+        Ok(None) => finish_of(stream.local_addr(), stream.peer_addr()),
+        Ok(Some(_)) | Err(_) => Finish::Failed,
     }
 }
 
-fn write_once(opened: &mut Opened, piece: &[u8]) -> Sent
-    ensures { SentWithin result piece.now }
-{
-    match opened {
-        Opened::Stream(stream) => sent_of(write_again(stream, piece)),
-        Opened::Listener(_) | Opened::Nothing => Sent::Failed,
+// A connection whose two sides have one address was made with itself: nobody listens there.
+fn finish_of(near: io::Result<SocketAddr>, far: io::Result<SocketAddr>) -> Finish {
+    match (near, far) {
+        (Ok(near), Ok(far)) if near == far => Finish::Failed,
+        (Ok(_), Ok(_)) => Finish::Done,
+        (_, Err(error)) if error.kind() == ErrorKind::NotConnected => Finish::Pause,
+        _ => Finish::Failed,
     }
 }
 
@@ -275,30 +321,6 @@ fn sent_of(outcome: io::Result<usize>) -> Sent
         Err(error) if error.kind() == ErrorKind::WouldBlock => Sent::Pause,
         Err(_) => Sent::Failed,
     }
-}
-
-fn read_again(stream: &mut TcpStream, buf: &mut [u8]) -> io::Result<usize>
-    ensures { ReadsAtMost result buf.new }
-{
-    for _ in 1..TRIES {
-        match stream.read(buf) {
-            Err(error) if error.kind() == ErrorKind::Interrupted => {}
-            outcome => return outcome,
-        }
-    }
-    stream.read(buf)
-}
-
-fn write_again(stream: &mut TcpStream, piece: &[u8]) -> io::Result<usize>
-    ensures { WritesAtMost result piece.now }
-{
-    for _ in 1..TRIES {
-        match stream.write(piece) {
-            Err(error) if error.kind() == ErrorKind::Interrupted => {}
-            outcome => return outcome,
-        }
-    }
-    stream.write(piece)
 }
 
 fn is_passing(kind: ErrorKind) -> bool {

@@ -1,13 +1,13 @@
 //! A watched socket, as its net sees it.
-ghost use Rattle.std.specs.Prelude.{◌≡◌, true};
+ghost use Rattle.std.specs.Prelude.{◌≡◌, true, false};
 ghost use Rattle.ev_base.specs.Net.{mask_has};
 
 use crate::readiness::Signs;
-use ev_types::{Kind, Mask};
+use ev_base::{Kind, Mask};
 use mio::event::Event;
 
-/// A watched socket: the kinds of report that its handle wants, those that the next wait is to give, whether it is a listener, and what it is
-/// ready for.
+/// A watched socket: the kinds of report that its handle wants, those that the next wait is to
+/// give, whether it is a listener, and what it is ready for.
 #[derive(Drop)]
 pub(crate) struct Watched {
     pub(crate) mask: Mask,
@@ -15,13 +15,6 @@ pub(crate) struct Watched {
     pub(crate) listens: bool,
     pub(crate) signs: Signs,
 }
-
-/// No kind.
-pub(crate) const NOTHING: Mask = Mask {
-    read: false,
-    write: false,
-    except: false,
-};
 
 /// Whether a kind of report is in a mask.
 pub(crate) fn mask_has(mask: Mask, kind: Kind) -> bool
@@ -47,7 +40,8 @@ fn with_kind(mask: Mask, kind: Kind, set: bool) -> Mask {
 }
 
 impl Watched {
-    /// Notes what an event says: a socket that is closed or failed is ready for every call. Tells which of the kinds that it says are wanted.
+    /// Notes what an event says: a socket that is closed or failed is ready for every call. Tells
+    /// which of the kinds that it says are wanted.
     pub(crate) fn note(&self, event: &Event) -> Mask
         ensures read { result.read ≡ true → self.now.mask.read ≡ true }
         ensures write { result.write ≡ true → self.now.mask.write ≡ true }
@@ -89,10 +83,12 @@ impl Watched {
         fresh
     }
 
-    /// Takes back that a report of this kind is owed. Tells whether it is to be given: the kind is wanted, and the socket is ready for it still.
+    /// Takes back that a report of this kind is owed. Tells whether it is to be given: the kind is
+    /// wanted, and the socket is ready for it still.
     pub(crate) fn settle(&mut self, kind: Kind) -> bool
         ensures mask { self.new.mask ≡ self.old.mask }
         ensures wanted { result ≡ true → mask_has self.old.mask kind ≡ true }
+        ensures never { kind ≡ Kind.Except → result ≡ false }
     {
         self.owed = with_kind(self.owed, kind, false);
         mask_has(self.mask, kind) && self.signs.has(kind)

@@ -4,25 +4,22 @@ ghost use Rattle.ev_base.specs.Net.{Attaches, SetsMask, Retires};
 ghost use Rattle.demux_mio.specs.Asked.{IsWanted};
 
 use crate::readiness::Signs;
-use crate::watched::{NOTHING, Watched};
-use ev_base::Report;
-use ev_types::{Handle, Kind, Mask, NoMemory};
+use crate::watched::Watched;
+use ev_base::{Calls, Handle, Kind, MOST_REPORTS, Made, Mask, NoMemory, Report};
 use mio::Events;
 use mio::event::Event;
-use net_calls::{Calls, Made};
 use std::alloc::Global;
 use std::collections::{HashMap, VecDeque};
 use std::marker::Model;
 
-/// How many reports a wait gives at most.
-const MOST_REPORTS: usize = 256;
-
-/// The sockets that a net watches, by handle. Contracts see it as the attaches, masks and retires that made it.
+/// The sockets that a net watches, by handle. Contracts see it as the attaches, masks and retires
+/// that made it.
 #[derive(Drop)]
 pub(crate) struct Watching {
     table: HashMap<u64, Watched>,
-    // The reports that the next waits give first. A socket stands here at most once for each kind, and `add` makes room for both, so
-    // to put one in takes no memory. Those of sockets that were retired are passed over.
+    // The reports that the next waits give first. A socket stands here at most once for each kind,
+    // and `add` makes room for both, so to put one in takes no memory. Those of sockets that were
+    // retired are passed over.
     owed: VecDeque<Report>,
     listeners: Vec<u64>,
     asked: Calls,
@@ -82,7 +79,7 @@ impl Watching {
         self.reserve(1)?;
         let watched = Watched {
             mask,
-            owed: NOTHING,
+            owed: Mask::NONE,
             listens,
             signs,
         };
@@ -111,7 +108,7 @@ impl Watching {
     {
         let gained = match self.table.get_mut(&handle.0) {
             Some(watched) => watched.set_mask(mask),
-            None => NOTHING,
+            None => Mask::NONE,
         };
         self.asked.add(Made::Mask(handle, mask));
         self.owe_kinds(handle, gained);
@@ -157,7 +154,8 @@ impl Watching {
         }
     }
 
-    /// Gives the reports that were owed, and those of the events. Reports for which there is no room are owed.
+    /// Gives the reports that were owed, and those of the events. Reports for which there is no
+    /// room are owed.
     pub(crate) fn collect(&mut self, events: &Events, reports: &mut Vec<Report>)
         requires { reports.old.items ≡ [] }
         ensures same { self.new ≡ self.old }
@@ -217,14 +215,17 @@ impl Watching {
         }
     }
 
-    // Notes what an event says of the socket of a handle, where that is watched, and tells which of the kinds are wanted.
+    // Notes what an event says of the socket of a handle, where that is watched, and tells which of
+    // the kinds are wanted.
     fn note(&self, handle: Handle, event: &Event) -> Mask
-        ensures read { result.read ≡ true → IsWanted self.now (record { handle = handle; kind = Kind.Read }) }
-        ensures write { result.write ≡ true → IsWanted self.now (record { handle = handle; kind = Kind.Write }) }
+        ensures read { result.read ≡ true → IsWanted self.now
+            (record { handle = handle; kind = Kind.Read }) }
+        ensures write { result.write ≡ true → IsWanted self.now
+            (record { handle = handle; kind = Kind.Write }) }
     {
         match self.table.get(&handle.0) {
             Some(watched) => watched.note(event),
-            None => NOTHING,
+            None => Mask::NONE,
         }
     }
 

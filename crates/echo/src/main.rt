@@ -3,7 +3,7 @@
 
 use demux_mio::MioHost;
 use echo_server::{finish, open, run_pool};
-use ev_base::Host;
+use reactor::Host;
 use std::alloc::{AllocError, Global};
 use std::env;
 use std::net::Net;
@@ -55,7 +55,7 @@ fn serve<R: Net + Clock + Threads + Wait + Copy + Send + Sync + 'static>(
     let Ok(core) = open(alloc, net, listener, IDLE) else {
         return "echo: the server did not start";
     };
-    let (_ran, core) = run_pool(&rt, alloc, core, waker, WORKERS, None);
+    let (_ran, core) = run_pool(&rt, alloc, core, waker, WORKERS);
     finish(core);
     "echo: the server ended"
 }

@@ -14,7 +14,10 @@ turn e = ((e ++ []) ++ (((e ++ []) ++ (e ++ [])) ++ [])) ++ []
 turns : (κ e : Lft) → κ ⊑ e → κ ⊑ turn e
 turns κ e h =
     let one : κ ⊑ e ++ [] = alone κ e h in
-    alone κ ((e ++ []) ++ (((e ++ []) ++ (e ++ [])) ++ [])) (⊑_meet κ (e ++ []) (((e ++ []) ++ (e ++ [])) ++ []) one (alone κ ((e ++ []) ++ (e ++ [])) (⊑_meet κ (e ++ []) (e ++ []) one one)))
+    alone κ ((e ++ []) ++ (((e ++ []) ++ (e ++ [])) ++ []))
+    (⊑_meet κ (e ++ []) (((e ++ []) ++ (e ++ [])) ++ []) one
+    (alone κ ((e ++ []) ++ (e ++ [])) (⊑_meet κ (e ++ []) (e ++ []) one one)))
 
 pub handler_lives : (κ e : Lft) → κ ⊑ e → κ ⊑ (e ++ []) ++ (turn e ++ (turn e ++ []))
-handler_lives κ e h = ⊑_meet κ (e ++ []) (turn e ++ (turn e ++ [])) (alone κ e h) (⊑_meet κ (turn e) (turn e ++ []) (turns κ e h) (alone κ (turn e) (turns κ e h)))
+handler_lives κ e h = ⊑_meet κ (e ++ []) (turn e ++ (turn e ++ [])) (alone κ e h)
+    (⊑_meet κ (turn e) (turn e ++ []) (turns κ e h) (alone κ (turn e) (turns κ e h)))

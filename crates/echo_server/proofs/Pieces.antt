@@ -5,5 +5,8 @@ use Rattle.std.proofs.lemmas.List.{drop-drop}
 use Rattle.std.proofs.lemmas.Slice.{between_is}
 
 -- what is left of a piece behind its first bytes
-pub left_of : (bytes : List ℕ) (from to count : ℕ) → slice_range bytes (from + count) to ≡ drop count (slice_range bytes from to)
-left_of bytes from to count = between_is bytes (from + count) to ∙ (sym (drop-drop count from (take to bytes)) ∙ ap (drop count) (sym (between_is bytes from to)))
+pub left_of : (bytes : List ℕ) (from to count : ℕ)
+    → slice_range bytes (from + count) to ≡ drop count (slice_range bytes from to)
+left_of bytes from to count = between_is bytes (from + count) to
+    ∙ (sym (drop-drop count from (take to bytes))
+    ∙ ap (drop count) (sym (between_is bytes from to)))

@@ -1,29 +1,30 @@
 //! The acceptor.
 ghost use Rattle.std.specs.Prelude.{◌≡◌, ◌≤◌, true, false, Some, Contains};
-ghost use Rattle.ev_types.specs.declared.upcall.Upcall.TheVariants.{Input};
-ghost use Rattle.ev_base.specs.Terms.{Terms};
-ghost use Rattle.ev_base.specs.End.{IsFresh};
-ghost use Rattle.ev_base.specs.Net.{NetAttaches};
-ghost use Rattle.reactor_model.specs.Turns.{IsTimer, most_milliseconds};
-ghost use Rattle.echo_server.specs.Handlers.{OffersConnection, ServesListener, idle_of, listener_of, KeepsListener};
+ghost use Rattle.reactor.specs.ev_types.specs.declared.upcall.Upcall.TheVariants.{Input};
+ghost use Rattle.reactor.specs.ev_base.specs.Terms.{Terms};
+ghost use Rattle.reactor.specs.ev_base.specs.End.{IsFresh};
+ghost use Rattle.reactor.specs.ev_base.specs.Net.{NetAttaches};
+ghost use Rattle.reactor.specs.reactor_model.specs.Turns.{IsTimer, most_milliseconds};
+ghost use Rattle.echo_server.specs.Handlers.{OffersConnection, ServesListener, idle_of};
+ghost use Rattle.echo_server.specs.Handlers.{listener_of, KeepsListener};
 
 use crate::ends::{Idle, Listener};
-use crate::handler::{EchoHandler, READ, turn_of};
+use crate::handler::{EchoHandler, turn_of};
 use crate::{EchoConnection, EchoNote};
-use ev_base::{Net, PeerEnd, Taken};
-use ev_types::{Answer, Handle, Mask, NetFailed, Upcall};
-use reactor_model::{Act, Turn};
+use reactor::{Act, Answer, Handle, Mask, Net, NetFailed, PeerEnd, Taken, Turn, Upcall};
 
-/// The acceptor: it makes one accept for each upcall for input, and offers the handler of the connection that this gives, with a timer that
-/// comes due again and again. A notice stops the reactor.
+/// The acceptor: it makes one accept for each upcall for input, and offers the handler of the
+/// connection that this gives, with a timer that comes due again and again. A notice stops the
+/// reactor.
 pub struct EchoAcceptor<E: PeerEnd> {
     listener: Listener<E>,
     idle: Idle,
 }
 
 impl<E: PeerEnd> EchoAcceptor<E> {
-    /// An acceptor over a listener. Its connections are closed where no byte went either way between one time that their timer comes due and
-    /// the next; it comes due each time that so many milliseconds have gone by, from 1 to 4,294,967,295.
+    /// An acceptor over a listener. Its connections are closed where no byte went either way
+    /// between one time that their timer comes due and the next; it comes due each time that so
+    /// many milliseconds have gone by, from 1 to 4,294,967,295.
     pub fn new(end: E, idle: u64) -> EchoAcceptor<E>
         requires listener { (E.tells end).listener ≡ true }
         requires some { 1 ≤ idle }
@@ -75,7 +76,7 @@ impl<E: PeerEnd> EchoAcceptor<E> {
             note: EchoNote::Accepted,
             act: Some(Act::Install {
                 handler: EchoHandler::Talk(EchoConnection::new(end)),
-                mask: READ,
+                mask: Mask::READ,
                 timer: Some((idle, idle)),
             }),
         }
@@ -90,10 +91,14 @@ impl<E: PeerEnd> EchoAcceptor<E> {
     ) -> Result<(), NetFailed>
         requires place { 1 ≤ (M.facts net.old).spare }
         requires absent { Contains (M.facts net.old).attached handle.0 → ⊥ }
-        ensures attaches { NetAttaches (M.facts net.old) handle.0 mask (E.tells (listener_of self.old)).serial result (M.facts net.new) }
+        ensures attaches { NetAttaches (M.facts net.old) handle.0 mask
+            (E.tells (listener_of self.old)).serial result (M.facts net.new) }
         ensures end { E.tells (listener_of self.new) ≡ E.tells (listener_of self.old) }
-        ensures end_kept { (t : Terms) → M.keeps t net.old → E.keeps t (listener_of self.old) → E.keeps t (listener_of self.new) }
-        ensures kept { (t : Terms) → M.keeps t net.old → E.keeps t (listener_of self.old) → M.keeps t net.new }
+        ensures idle { idle_of self.new ≡ idle_of self.old }
+        ensures end_kept { (t : Terms) → M.keeps t net.old → E.keeps t (listener_of self.old)
+            → E.keeps t (listener_of self.new) }
+        ensures kept { (t : Terms) → M.keeps t net.old → E.keeps t (listener_of self.old)
+            → M.keeps t net.new }
     {
         net.attach(&mut self.listener.end, handle, mask)
     }

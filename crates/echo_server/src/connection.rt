@@ -1,20 +1,22 @@
 //! The handler of one connection.
 ghost use Rattle.std.specs.Prelude.{◌≡◌, ◌≤◌, false, IsSome, Contains};
-ghost use Rattle.ev_types.specs.declared.upcall.Why.TheVariants.{Own};
+ghost use Rattle.reactor.specs.ev_types.specs.declared.upcall.Why.TheVariants.{Own};
 ghost use Rattle.echo_server.specs.declared.note.EchoNote.{EchoNote};
-ghost use Rattle.ev_base.specs.Terms.{Terms};
-ghost use Rattle.ev_base.specs.Net.{NetAttaches};
-ghost use Rattle.echo_server.specs.Echo.{ClosesAs, Serves, ServesInput, ServesOutput, ServesTimeout, WritesOnce, IsClosing, at_start, none_wait, some_wait};
+ghost use Rattle.reactor.specs.ev_base.specs.Terms.{Terms};
+ghost use Rattle.reactor.specs.ev_base.specs.Net.{NetAttaches};
+ghost use Rattle.echo_server.specs.Echo.{ClosesAs, Serves, ServesInput, ServesOutput};
+ghost use Rattle.echo_server.specs.Echo.{ServesTimeout, WritesOnce, IsClosing, at_start, none_wait};
+ghost use Rattle.echo_server.specs.Echo.{some_wait};
 ghost use Rattle.echo_server.specs.Connections.{end_of_connection, state_of, waiting_in, KeepsEnd};
 
 use crate::ends::Peer;
 use crate::waiting::{PIECE, Waiting};
 use crate::{EchoNote, Ending};
-use ev_base::{Got, Net, PeerEnd, Sent};
-use ev_types::{Answer, Handle, Mask, NetFailed, Upcall, Why};
+use reactor::{Answer, Got, Handle, Mask, Net, NetFailed, PeerEnd, Sent, Upcall, Why};
 
-/// The handler of one connection: it reads a piece, writes it back, and reads no more until all of it was taken. It closes itself at the end
-/// of its input, where a call fails, and at a timeout behind which no byte went either way since the one before.
+/// The handler of one connection: it reads a piece, writes it back, and reads no more until all of
+/// it was taken. It closes itself at the end of its input, where a call fails, and at a timeout
+/// behind which no byte went either way since the one before.
 pub struct EchoConnection<E: PeerEnd> {
     peer: Peer<E>,
     waiting: Waiting,
@@ -61,7 +63,8 @@ impl<E: PeerEnd> EchoConnection<E> {
 
     /// Makes one turn.
     pub(crate) fn serve(&mut self, up: Upcall) -> Step
-        ensures serves { Serves up (state_of E.tells self.old) result.answer result.read result.written (state_of E.tells self.new) }
+        ensures serves { Serves up (state_of E.tells self.old) result.answer result.read
+            result.written (state_of E.tells self.new) }
         ensures end { KeepsEnd E.keeps self.old self.new }
     {
         match up {
@@ -74,7 +77,8 @@ impl<E: PeerEnd> EchoConnection<E> {
 
     /// Reads a piece where none waits, and writes it back as far as it is taken now.
     fn read_piece(&mut self) -> Step
-        ensures reads { ServesInput (none_wait (waiting_in self.old)) (state_of E.tells self.old) result.answer result.read result.written (state_of E.tells self.new) }
+        ensures reads { ServesInput (none_wait (waiting_in self.old)) (state_of E.tells self.old)
+            result.answer result.read result.written (state_of E.tells self.new) }
         ensures end { KeepsEnd E.keeps self.old self.new }
     {
         if self.waits() {
@@ -95,7 +99,8 @@ impl<E: PeerEnd> EchoConnection<E> {
 
     /// Writes what waits, if something does.
     fn write_more(&mut self) -> Step
-        ensures writes { ServesOutput (none_wait (waiting_in self.old)) (state_of E.tells self.old) result.answer result.read result.written (state_of E.tells self.new) }
+        ensures writes { ServesOutput (none_wait (waiting_in self.old)) (state_of E.tells self.old)
+            result.answer result.read result.written (state_of E.tells self.new) }
         ensures end { KeepsEnd E.keeps self.old self.new }
     {
         if self.waits() {
@@ -108,7 +113,8 @@ impl<E: PeerEnd> EchoConnection<E> {
     /// Writes the bytes that wait, behind a read of so many.
     fn write_back(&mut self, read: u64) -> Step
         requires some { none_wait (waiting_in self.old) ≡ false }
-        ensures writes { WritesOnce (state_of E.tells self.old) result.answer result.written (state_of E.tells self.new) }
+        ensures writes { WritesOnce (state_of E.tells self.old) result.answer result.written
+            (state_of E.tells self.new) }
         ensures read { result.read ≡ read }
         ensures end { KeepsEnd E.keeps self.old self.new }
     {
@@ -133,7 +139,8 @@ impl<E: PeerEnd> EchoConnection<E> {
 
     /// Closes where no byte went either way since the last timeout.
     fn check_idle(&mut self) -> Step
-        ensures idle { ServesTimeout self.old.moved (state_of E.tells self.old) result.answer result.read result.written (state_of E.tells self.new) }
+        ensures idle { ServesTimeout self.old.moved (state_of E.tells self.old) result.answer
+            result.read result.written (state_of E.tells self.new) }
         ensures end { KeepsEnd E.keeps self.old self.new }
     {
         if !self.moved {
@@ -145,7 +152,8 @@ impl<E: PeerEnd> EchoConnection<E> {
 
     /// A turn that ends the connection so.
     fn close_as(&mut self, end: Ending) -> Step
-        ensures closes { ClosesAs end (state_of E.tells self.old) result.answer result.read result.written (state_of E.tells self.new) }
+        ensures closes { ClosesAs end (state_of E.tells self.old) result.answer result.read
+            result.written (state_of E.tells self.new) }
         ensures end { end_of_connection self.new ≡ end_of_connection self.old }
     {
         self.ended = Some(end);
@@ -164,18 +172,23 @@ impl<E: PeerEnd> EchoConnection<E> {
     ) -> Result<(), NetFailed>
         requires place { 1 ≤ (M.facts net.old).spare }
         requires absent { Contains (M.facts net.old).attached handle.0 → ⊥ }
-        ensures attaches { NetAttaches (M.facts net.old) handle.0 mask (E.tells (end_of_connection self.old)).serial result (M.facts net.new) }
+        ensures attaches { NetAttaches (M.facts net.old) handle.0 mask
+            (E.tells (end_of_connection self.old)).serial result (M.facts net.new) }
         ensures state { state_of E.tells self.new ≡ state_of E.tells self.old }
-        ensures end_kept { (t : Terms) → M.keeps t net.old → E.keeps t (end_of_connection self.old) → E.keeps t (end_of_connection self.new) }
-        ensures kept { (t : Terms) → M.keeps t net.old → E.keeps t (end_of_connection self.old) → M.keeps t net.new }
+        ensures end_kept { (t : Terms) → M.keeps t net.old → E.keeps t (end_of_connection self.old)
+            → E.keeps t (end_of_connection self.new) }
+        ensures kept { (t : Terms) → M.keeps t net.old → E.keeps t (end_of_connection self.old)
+            → M.keeps t net.new }
     {
         net.attach(&mut self.peer.end, handle, mask)
     }
 
-    /// Gives its end back, closed for the reason, and the note of how it ended. For `Own` it ended itself.
+    /// Gives its end back, closed for the reason, and the note of how it ended. For `Own` it ended
+    /// itself.
     pub(crate) fn close(self, why: Why) -> (E, EchoNote)
         ensures end { result.0 ≡ end_of_connection self }
-        ensures word { (why ≡ Own → IsSome self.ended) → (word : Ending) × IsClosing why self.ended word × (result.1 ≡ EchoNote.Finished word) }
+        ensures word { (why ≡ Own → IsSome self.ended) → (word : Ending)
+            × IsClosing why self.ended word × (result.1 ≡ EchoNote.Finished word) }
     {
         let EchoConnection {
             peer: Peer { end },

@@ -1,8 +1,8 @@
 //! What handlers own: the end of a connection, or a listener with the idle time of its connections.
 ghost use Rattle.std.specs.Prelude.{◌≡◌, ◌≤◌, true, false};
-ghost use Rattle.reactor_model.specs.Turns.{most_milliseconds};
+ghost use Rattle.reactor.specs.reactor_model.specs.Turns.{most_milliseconds};
 
-use ev_base::PeerEnd;
+use reactor::PeerEnd;
 
 /// An end that is no listener.
 pub(crate) struct Peer<E: PeerEnd> {

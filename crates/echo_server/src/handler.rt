@@ -1,31 +1,18 @@
 //! The handlers of the server, as the reactor calls them.
 ghost use Rattle.std.specs.Prelude.{◌≡◌, List, Option, None};
-ghost use Rattle.ev_types.specs.declared.upcall.Why.TheVariants.{Own};
-ghost use Rattle.ev_base.specs.Terms.{Terms};
-ghost use Rattle.reactor_journal.specs.Event.{Item, Origin};
-ghost use Rattle.reactor_model.specs.Handling.{NoClose, EndsInClose, Names};
-ghost use Rattle.reactor_model.specs.Turns.{TakesTurn, KeepsPromises};
-ghost use Rattle.echo_server.specs.Handlers.{HandlerFits, HandlerGone, ServesConnection, ServesHandler, end_of, handlers, mask_after};
+ghost use Rattle.reactor.specs.ev_types.specs.declared.upcall.Why.TheVariants.{Own};
+ghost use Rattle.reactor.specs.ev_base.specs.Terms.{Terms};
+ghost use Rattle.reactor.specs.reactor_journal.specs.Event.{Item, Origin};
+ghost use Rattle.reactor.specs.reactor_model.specs.Handling.{NoClose, EndsInClose, Names};
+ghost use Rattle.reactor.specs.reactor_model.specs.Turns.{TakesTurn, KeepsPromises};
+ghost use Rattle.echo_server.specs.Handlers.{HandlerFits, HandlerGone, ServesConnection};
+ghost use Rattle.echo_server.specs.Handlers.{ServesHandler, end_of, handlers, mask_after};
 
 use crate::acceptor::EchoAcceptor;
 use crate::connection::{EchoConnection, Step};
 use crate::note::EchoNote;
-use ev_base::{Net, PeerEnd};
-use ev_types::{Answer, Handle, Mask, NetFailed, Upcall, Why};
-use reactor_model::{Act, EventHandler, Turn};
-
-/// The reports of a listener, and of a connection that has nothing to write back.
-pub(crate) const READ: Mask = Mask {
-    read: true,
-    write: false,
-    except: false,
-};
-
-/// The reports of a connection that has something to write back.
-const WRITE: Mask = Mask {
-    read: false,
-    write: true,
-    except: false,
+use reactor::{
+    Act, Answer, EventHandler, Handle, Mask, Net, NetFailed, PeerEnd, Turn, Upcall, Why,
 };
 
 /// An event handler of the echo server.
@@ -49,8 +36,8 @@ pub(crate) fn turn_of<E: PeerEnd>(
     Turn { answer, note, act }
 }
 
-/// Makes the turn of a connection. From the first bytes that it could not write back on it wants to write and not to read, until they
-/// are written.
+/// Makes the turn of a connection. From the first bytes that it could not write back on it wants to
+/// write and not to read, until they are written.
 fn talk<E: PeerEnd>(connection: &mut EchoConnection<E>, up: Upcall) -> Turn<EchoHandler<E>>
     ensures serves { ServesConnection E.tells E.keeps up connection.old connection.new result }
 {
@@ -67,14 +54,15 @@ fn talk<E: PeerEnd>(connection: &mut EchoConnection<E>, up: Upcall) -> Turn<Echo
     turn_of(answer, EchoNote::Moved { read, written }, act)
 }
 
-/// Which mask a connection asks for behind a turn with this answer, before which bytes waited or not, and behind which they do.
+/// Which mask a connection asks for behind a turn with this answer, before which bytes waited or
+/// not, and behind which they do.
 fn mask_after(answer: Answer, waited: bool, waits: bool) -> Option<Mask>
     ensures { result ≡ mask_after answer waited waits }
 {
     match (answer, waited, waits) {
         (Answer::Close, _, _) => None,
-        (_, false, true) => Some(WRITE),
-        (_, true, false) => Some(READ),
+        (_, false, true) => Some(Mask::WRITE),
+        (_, true, false) => Some(Mask::READ),
         _ => None,
     }
 }
@@ -87,11 +75,13 @@ impl<E: PeerEnd> EventHandler for EchoHandler<E> {
     ghost means = { handlers E.tells E.keeps };
 
     fn upcall(&mut self, up: Upcall, now: u64) -> Turn<EchoHandler<E>>
-        ensures turn { (t : Terms) (origin : Option (Origin EchoNote)) (had : List (Item EchoNote)) → NoClose had
-            → HandlerFits E.tells E.keeps t self.old had → TakesTurn (handlers E.tells E.keeps) t origin up now had self.new result }
+        ensures turn { (t : Terms) (origin : Option (Origin EchoNote)) (had : List (Item EchoNote))
+            → NoClose had → HandlerFits E.tells E.keeps t self.old had
+            → TakesTurn (handlers E.tells E.keeps) t origin up now had self.new result }
         ensures promises { KeepsPromises (handlers E.tells E.keeps) up result }
 
-        // What the turn does: of a connection the bytes that it reads and writes back, of an acceptor what its one accept comes to.
+        // What the turn does: of a connection the bytes that it reads and writes back, of an
+        // acceptor what its one accept comes to.
         ensures serves { ServesHandler E.tells E.keeps up self.old self.new result }
     {
         match self {
@@ -113,9 +103,12 @@ impl<E: PeerEnd> EventHandler for EchoHandler<E> {
     }
 
     fn handle_close(self, why: Why) -> (E, EchoNote)
-        ensures gone { (t : Terms) (origin : Option (Origin EchoNote)) (had : List (Item EchoNote)) → (why ≡ Own → EndsInClose had)
-            → HandlerFits E.tells E.keeps t self had → HandlerGone E.tells E.keeps t result.0 had why result.1 }
-        ensures serial { (t : Terms) (origin : Option (Origin EchoNote)) (had : List (Item EchoNote)) → HandlerFits E.tells E.keeps t self had → Names None (E.tells result.0).serial }
+        ensures gone { (t : Terms) (origin : Option (Origin EchoNote)) (had : List (Item EchoNote))
+            → (why ≡ Own → EndsInClose had) → HandlerFits E.tells E.keeps t self had
+            → HandlerGone E.tells E.keeps t result.0 had why result.1 }
+        ensures serial { (t : Terms) (origin : Option (Origin EchoNote))
+            (had : List (Item EchoNote)) → HandlerFits E.tells E.keeps t self had
+            → Names None (E.tells result.0).serial }
         ensures kept { (t : Terms) (origin : Option (Origin EchoNote)) (had : List (Item EchoNote))
             → HandlerFits E.tells E.keeps t self had → E.keeps t result.0 }
 

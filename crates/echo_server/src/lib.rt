@@ -1,5 +1,6 @@
-//! A small server on the framework, written step by step in docs/TUTORIAL.md: each connection gets back what it sends. The handler of a
-//! connection, the acceptor, and the runs of both on one thread and by a pool of workers.
+//! A small server on the framework, written step by step in docs/TUTORIAL.md: each connection gets
+//! back what it sends. The handler of a connection, the acceptor, and the runs of both on one
+//! thread and by a pool of workers.
 #![tactic(auto)]
 
 mod acceptor;

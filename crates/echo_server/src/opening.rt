@@ -1,20 +1,19 @@
 //! The beginning and the end of a run.
 ghost use Rattle.std.specs.Prelude.{◌≡◌, ◌≤◌, IfErr, IfOk};
-ghost use Rattle.ev_base.specs.Host.{GivesListener};
-ghost use Rattle.reactor_model.specs.Turns.{most_milliseconds};
-ghost use Rattle.reactor_core.specs.Views.{net_of};
-ghost use Rattle.core_loop.specs.Idle.{IsIdle, LeavesParts};
-ghost use Rattle.echo_server.specs.Runs.{AreEchoed, HasCause, IsOpened, MayRefuse, MayRegister, refusal_of, run_terms};
+ghost use Rattle.reactor.specs.ev_base.specs.Host.{GivesListener};
+ghost use Rattle.reactor.specs.reactor_model.specs.Turns.{most_milliseconds};
+ghost use Rattle.reactor.specs.reactor_core.specs.Views.{net_of};
+ghost use Rattle.reactor.specs.core_loop.specs.Idle.{IsIdle, LeavesParts};
+ghost use Rattle.echo_server.specs.Handlers.{idle_of};
+ghost use Rattle.echo_server.specs.Runs.{AreEchoed, HasCause, IsOpened, MayRefuse, MayRegister};
+ghost use Rattle.echo_server.specs.Runs.{refusal_of, run_terms};
 
-use crate::handler::READ;
 use crate::{EchoAcceptor, EchoHandler, EchoNote};
-use core_loop::close;
-use ev_base::{Net, PeerEnd};
-use ev_types::Why;
-use reactor_core::{Core, Means, Parts, RegisterRefused};
-use reactor_model::{DropVolumes, EventHandler, NoWatch};
+use reactor::{
+    Core, DropVolumes, EventHandler, Mask, Means, Net, NoWatch, Parts, PeerEnd, RegisterRefused,
+    SortedTimers, TimerQueue, Why, close,
+};
 use std::alloc::Global;
-use timer_queue::{SortedTimers, TimerQueue};
 
 /// The reactor of the server over a net.
 pub type EchoCore<E, M> = Core<EchoHandler<E>, M, SortedTimers, NoWatch, DropVolumes>;
@@ -37,8 +36,9 @@ pub enum OpenRefused {
     NoMemory,
 }
 
-/// A reactor over a new net, with the acceptor of a new listener. Its connections have this idle time, from 1 to 4,294,967,295 milliseconds.
-/// Where there is none, the net comes back and the listener is closed.
+/// A reactor over a new net, with the acceptor of a new listener. Its connections have this idle
+/// time, from 1 to 4,294,967,295 milliseconds. Where there is none, the net comes back and the
+/// listener is closed.
 pub fn open<E: PeerEnd + Drop, M: Net<End = E>>(
     alloc: Global,
     net: M,
@@ -48,11 +48,12 @@ pub fn open<E: PeerEnd + Drop, M: Net<End = E>>(
     requires listener { GivesListener M.facts E.tells (net, listener) }
     requires some { 1 ≤ idle }
     requires few { idle ≤ most_milliseconds }
-    requires net_keeps { M.keeps run_terms net }
-    requires listener_keeps { E.keeps run_terms listener }
-    ensures opened { IfOk result (λ core. IsOpened ⟦<EchoCore<E, M> as Means>⟧.m core) }
+    requires net_keeps { M.keeps (run_terms idle) net }
+    requires listener_keeps { E.keeps (run_terms idle) listener }
+    ensures opened { IfOk result (λ core. IsOpened ⟦<EchoCore<E, M> as Means>⟧.m idle core) }
     ensures idle { IfOk result (λ core. IsIdle ⟦<EchoCore<E, M> as Means>⟧.m core) }
-    ensures cause { IfErr result (λ back. HasCause back.0 (M.facts net).failed_attaches (M.facts back.1).failed_attaches) }
+    ensures cause { IfErr result (λ back. HasCause back.0 (M.facts net).failed_attaches
+        (M.facts back.1).failed_attaches) }
 {
     let timers = SortedTimers::new(alloc);
     match Core::new(alloc, MOST, VOLUME, net, timers, NoWatch, DropVolumes) {
@@ -67,12 +68,14 @@ fn register<E: PeerEnd + Drop, M: Net<End = E>>(
     acceptor: EchoAcceptor<E>,
 ) -> Result<EchoCore<E, M>, (OpenRefused, M)>
     requires { MayRegister ⟦<EchoCore<E, M> as Means>⟧.m core acceptor }
-    ensures opened { IfOk result (λ core. IsOpened ⟦<EchoCore<E, M> as Means>⟧.m core) }
+    ensures opened { IfOk result (λ core.
+        IsOpened ⟦<EchoCore<E, M> as Means>⟧.m (idle_of acceptor) core) }
     ensures idle { IfOk result (λ core. IsIdle ⟦<EchoCore<E, M> as Means>⟧.m core) }
-    ensures cause { IfErr result (λ back. HasCause back.0 (M.facts (net_of core)).failed_attaches (M.facts back.1).failed_attaches) }
+    ensures cause { IfErr result (λ back. HasCause back.0 (M.facts (net_of core)).failed_attaches
+        (M.facts back.1).failed_attaches) }
 {
     let mut core = core;
-    match core.register(EchoHandler::Listen(acceptor), READ, None) {
+    match core.register(EchoHandler::Listen(acceptor), Mask::READ, None) {
         Ok(_) => Ok(core),
         Err((back, refused)) => {
             back.handle_close(Why::Refused);
@@ -95,11 +98,13 @@ fn refusal(refused: RegisterRefused) -> OpenRefused
     }
 }
 
-/// Stops a reactor with no upcall on its way, closes its handlers, and takes it apart. Of the bytes that each connection's end gave, in order,
-/// the first were written to it, and nothing else was; and where its input was at its end, all of them.
+/// Stops a reactor with no upcall on its way, closes its handlers, and takes it apart. Of the bytes
+/// that each connection's end gave, in order, the first were written to it, and nothing else was;
+/// and where its input was at its end, all of them.
 pub fn finish<E: PeerEnd, M: Net<End = E>>(core: EchoCore<E, M>) -> EchoParts<M>
     requires { IsIdle ⟦<EchoCore<E, M> as Means>⟧.m core }
-    ensures leaves { LeavesParts ⟦<EchoCore<E, M> as Means>⟧.m ⟦<SortedTimers as TimerQueue>⟧.timers result }
+    ensures leaves { LeavesParts ⟦<EchoCore<E, M> as Means>⟧.m ⟦<SortedTimers as TimerQueue>⟧.timers
+        result }
     ensures echoed { AreEchoed E.tells (M.facts result.net).retired }
 {
     close(core)

@@ -1,49 +1,35 @@
 //! A run by a pool of workers.
-ghost use Rattle.std.specs.Prelude.{◌≤◌};
-ghost use Rattle.core_loop.specs.Idle.{IsIdle};
-ghost use Rattle.echo_server.specs.Runs.{IsOpened, PoolEnds};
+ghost use Rattle.std.specs.Prelude.{◌≤◌, ℕ};
+ghost use Rattle.reactor.specs.core_loop.specs.Idle.{IsIdle};
+ghost use Rattle.echo_server.specs.Runs.{IsOpened, IsUnposted, PoolEnds};
 
 use crate::opening::EchoCore;
-use ev_base::{Net, PeerEnd, Wake};
-use ev_types::Handle;
-use reactor_core::Means;
+use reactor::{Means, Net, PeerEnd, Ran, Reactor, Wake};
 use std::alloc::Global;
 use std::sync::Wait;
 use std::thread::Threads;
-use tp_reactor::{Ran, Reactor};
 
-/// The handle of the acceptor.
-const ACCEPTOR: Handle = Handle(0);
-
-/// Has so many workers, from 1 to 64, run a reactor that was opened, each on a thread of its own (POSA2, Leader/Followers), until `until` handlers
-/// were closed or refused, which a notice to the acceptor tells, or nothing can be reported any more. Gives the reactor back.
+/// Runs a reactor that was opened, with 1 to 64 workers, each on a thread of its own where one can
+/// be started (POSA2, Leader/Followers), until nothing can be reported any more and there is no
+/// upcall to make. It posts no notification. Gives the reactor back.
 pub fn run_pool<
     R: Threads + Wait + Sync,
     E: PeerEnd + Send,
     M: Net<End = E> + Send,
     K: Wake + Drop + Sync,
->(
-    rt: &R,
-    alloc: Global,
-    core: EchoCore<E, M>,
-    waker: K,
-    workers: usize,
-    until: Option<u64>,
-) -> (Ran, EchoCore<E, M>)
+>(rt: &R, alloc: Global, core: EchoCore<E, M>, waker: K, workers: usize) -> (Ran, EchoCore<E, M>)
+    ghost idle: { ℕ }
     requires some { 1 ≤ workers }
     requires few { workers ≤ 64 }
-    requires opened { IsOpened ⟦<EchoCore<E, M> as Means>⟧.m core }
+    requires opened { IsOpened ⟦<EchoCore<E, M> as Means>⟧.m idle core }
     ensures idle { IsIdle ⟦<EchoCore<E, M> as Means>⟧.m result.1 }
+    ensures unposted { IsUnposted ⟦<EchoCore<E, M> as Means>⟧.m result.1 }
     ensures ends { PoolEnds ⟦<EchoCore<E, M> as Means>⟧.m core result.0 result.1 }
 {
     match Reactor::new(alloc, core, waker) {
         Ok((reactor, root)) => {
             let mut root = root;
-            let notice = match until {
-                Some(count) => Some((count, ACCEPTOR)),
-                None => None,
-            };
-            let ran = reactor.run_workers(rt, alloc, &mut root, workers, None, notice);
+            let ran = reactor.run_workers(rt, alloc, &mut root, workers, None, None);
             (ran, reactor.close(root))
         }
         Err((core, _waker, _)) => (Ran::NoMemory, core),

@@ -7,7 +7,8 @@ use std::marker::Model;
 /// How many bytes wait at most: as many as one read takes.
 pub(crate) const PIECE: usize = 4096;
 
-/// Bytes that were read and are to be written back, at most 4,096. A contract sees the list of them.
+/// Bytes that were read and are to be written back, at most 4,096. A contract sees the list of
+/// them.
 #[derive(Drop)]
 pub(crate) struct Waiting {
     piece: [u8; PIECE],

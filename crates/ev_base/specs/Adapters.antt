@@ -15,7 +15,12 @@ is_over source = source.over
 
 -- it tells how many bytes it gave, but not which
 abbrev pub std_source_facts : {R : Type 0} → StdSource R → SourceFacts
-std_source_facts source = record { faults = source.faults; gave = source.gave; over = source.over; bytes = None }
+std_source_facts source = record {
+  faults = source.faults;
+  gave = source.gave;
+  over = source.over;
+  bytes = None;
+}
 
 -- the writer within a sink
 abbrev pub writer_of : {W : Type 0} → StdSink W → W

@@ -1,4 +1,5 @@
--- The bytes that a reader gave and has left, where it tells them: an object in memory does, a socket or a terminal does not.
+-- The bytes that a reader gave and has left, where it tells them: an object in memory does, a
+-- socket or a terminal does not.
 use Rattle.std.specs.Prelude.{◌≡◌, ℕ, List, [], ◌++◌, Option, Some, None}
 
 pub record ReaderBytes : Type 0 where
@@ -12,7 +13,8 @@ abbrev pub MovesOn : Option ReaderBytes → List ℕ → Option ReaderBytes → 
 MovesOn None bytes None = Unit {0}
 MovesOn None bytes (Some new) = ⊥
 MovesOn (Some old) bytes None = ⊥
-MovesOn (Some old) bytes (Some new) = (old.left ≡ bytes ++ new.left) × (new.given ≡ old.given ++ bytes)
+MovesOn (Some old) bytes (Some new) =
+    (old.left ≡ bytes ++ new.left) × (new.given ≡ old.given ++ bytes)
 
 -- where the bytes are told, none is left
 abbrev pub NothingLeft : Option ReaderBytes → Type 0

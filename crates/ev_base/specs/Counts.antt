@@ -1,4 +1,5 @@
--- Counts of calls and of faults. They are 64-bit numbers that stand still at their end, as all counts of a long-lived server do.
+-- Counts of calls and of faults. They are 64-bit numbers that stand still at their end, as all
+-- counts of a long-lived server do.
 use Rattle.std.specs.Prelude.{◌≡◌, ◌+◌, ◌-◌, ◌≤◌, ◌^◌, ℕ, min}
 
 -- the count after one more

@@ -1,15 +1,20 @@
--- What an end of a connection tells, and what its calls do (C++NPv2 chapter 3: `ACE_SOCK_Stream` and `ACE_SOCK_Acceptor`).
-use Rattle.std.specs.Prelude.{◌≡◌, ◌≤◌, ◌+◌, ◌⊎◌, ℕ, Bool, true, false, List, [], length, take, Option, Some, None}
+-- What an end of a connection tells, and what its calls do (C++NPv2 chapter 3: `ACE_SOCK_Stream`
+-- and `ACE_SOCK_Acceptor`).
+use Rattle.std.specs.Prelude.{◌≡◌, ◌≤◌, ◌+◌, ◌⊎◌, ℕ, Bool, true, false, List, [], length, take}
+use Rattle.std.specs.Prelude.{Option, Some, None}
 use Rattle.ev_base.specs.Counts.{counted, Rose}
 use Rattle.ev_base.specs.Bytes.{ReaderBytes, MovesOn, NothingLeft, HasGiven}
 use Rattle.ev_base.specs.Sink.{GrowsBy}
-use Rattle.ev_base.specs.Story.{Connection, NoneThere, OneFailure, Telling, Offering, TellsNext, TakesOffer, NoOfferLeft}
+use Rattle.ev_base.specs.Story.{Connection, NoneThere, OneFailure, Telling, Offering, TellsNext}
+use Rattle.ev_base.specs.Story.{TakesOffer, NoOfferLeft}
 use Rattle.ev_base.specs.declared.source.Got.{Got}
 use Rattle.ev_base.specs.declared.source.Got.TheVariants as got
 use Rattle.ev_base.specs.declared.end.Sent.{Sent}
 use Rattle.ev_base.specs.declared.end.Sent.TheVariants as sent
 use Rattle.ev_base.specs.declared.end.Taken.{Taken}
 use Rattle.ev_base.specs.declared.end.Taken.TheVariants as taken
+use Rattle.ev_base.specs.declared.dial.Finish.{Finish}
+use Rattle.ev_base.specs.declared.dial.Finish.TheVariants as finish
 
 -- what a try to read, accept or write came to
 pub data Try : Type 0 where
@@ -28,6 +33,9 @@ pub record EndFacts : Type 0 where
   -- how many writes it made, and what the last came to
   pub writes : ℕ
   pub last_write : Option Try
+  -- how often it was asked whether its connection is made, and what the last answer was
+  pub finishes : ℕ
+  pub last_finish : Option Finish
   -- how often a call failed
   pub faults : ℕ
   -- how many bytes its reads gave
@@ -62,6 +70,8 @@ pub record IsFresh (e : EndFacts) : Type 0 where
   pub last_read : e.last_read ≡ None
   pub writes : e.writes ≡ 0
   pub last_write : e.last_write ≡ None
+  pub finishes : e.finishes ≡ 0
+  pub last_finish : e.last_finish ≡ None
   pub faults : e.faults ≡ 0
   pub gave : e.gave ≡ 0
   pub over : e.over ≡ false
@@ -79,6 +89,8 @@ pub record CountsRead (old : EndFacts) (came_to : Try) (new : EndFacts) : Type 0
   pub listener : new.listener ≡ old.listener
   pub writes : new.writes ≡ old.writes
   pub last_write : new.last_write ≡ old.last_write
+  pub finishes : new.finishes ≡ old.finishes
+  pub last_finish : new.last_finish ≡ old.last_finish
   pub written : new.written ≡ old.written
   pub serial : new.serial ≡ old.serial
 
@@ -144,6 +156,8 @@ pub record CountsWrite (old : EndFacts) (came_to : Try) (new : EndFacts) : Type 
   pub listener : new.listener ≡ old.listener
   pub reads : new.reads ≡ old.reads
   pub last_read : new.last_read ≡ old.last_read
+  pub finishes : new.finishes ≡ old.finishes
+  pub last_finish : new.last_finish ≡ old.last_finish
   pub gave : new.gave ≡ old.gave
   pub over : new.over ≡ old.over
   pub bytes : new.bytes ≡ old.bytes
@@ -177,6 +191,36 @@ EndWrites old piece (sent.Bytes n) new = EndTakes old piece n new
 EndWrites old piece sent.Pause new = EndIsFull old new
 EndWrites old piece sent.Failed new = EndFailsToWrite old new
 
+-- ---- finishing a connection that is being made
+
+-- a call of `finish` was answered so: it is counted, and what it does not concern is as before
+pub record CountsFinish (old : EndFacts) (answer : Finish) (new : EndFacts) : Type 0 where
+  pub finishes : new.finishes ≡ counted old.finishes
+  pub last_finish : new.last_finish ≡ Some answer
+  pub listener : new.listener ≡ old.listener
+  pub reads : new.reads ≡ old.reads
+  pub last_read : new.last_read ≡ old.last_read
+  pub writes : new.writes ≡ old.writes
+  pub last_write : new.last_write ≡ old.last_write
+  pub gave : new.gave ≡ old.gave
+  pub over : new.over ≡ old.over
+  pub bytes : new.bytes ≡ old.bytes
+  pub written : new.written ≡ old.written
+  pub serial : new.serial ≡ old.serial
+  pub telling : new.telling ≡ old.telling
+  pub offering : new.offering ≡ old.offering
+
+-- whether the count of faults stands or rose, by the answer
+abbrev pub FaultsAfter : Finish → ℕ → ℕ → Type 0
+FaultsAfter finish.Done before now = now ≡ before
+FaultsAfter finish.Pause before now = now ≡ before
+FaultsAfter finish.Failed before now = Rose before now
+
+-- what a call of `finish` does, by its answer
+pub record EndFinishes (old : EndFacts) (answer : Finish) (new : EndFacts) : Type 0 where
+  pub counts : CountsFinish old answer new
+  pub faults : FaultsAfter answer old.faults new.faults
+
 -- ---- accepting
 
 -- what a listener's accept leaves as it was
@@ -187,7 +231,8 @@ pub record CountsAccept (old : EndFacts) (came_to : Try) (new : EndFacts) : Type
   pub bytes : new.bytes ≡ old.bytes
   pub telling : new.telling ≡ old.telling
 
--- where the listener tells its story, the end has the serial number of the offer that was next; where it doesn't, the end has none
+-- where the listener tells its story, the end has the serial number of the offer that was next;
+-- where it doesn't, the end has none
 abbrev pub TakesSerial : Option Offering → Option ℕ → Option Offering → Type 0
 TakesSerial None serial None = serial ≡ None
 TakesSerial None serial (Some new) = ⊥
@@ -205,7 +250,8 @@ pub record AcceptsEnd (old given new : EndFacts) : Type 0 where
 -- an accept found no connection waiting
 pub record AcceptsNone (old new : EndFacts) : Type 0 where
   pub counts : CountsAccept old Paused new
-  pub offering : NoOfferLeft old.offering new.offering ⊎ TakesOffer old.offering NoneThere new.offering
+  pub offering : NoOfferLeft old.offering new.offering
+      ⊎ TakesOffer old.offering NoneThere new.offering
   pub faults : new.faults ≡ old.faults
 
 -- an accept failed

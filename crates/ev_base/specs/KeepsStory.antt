@@ -23,9 +23,13 @@ abbrev pub IsStory : EndFacts → Story → Type 0
 IsStory e (OfBytes bytes) = IsReading e.bytes bytes
 IsStory e (OfParts parts) = IsTelling e.telling parts
 
--- A connection's end of a serial number keeps that what it has given, followed by what it has left, is the story that the
--- terms have of that number, and a listener the same of the listener's story; such a listener has no number itself.
+-- A connection's end of a serial number keeps that what it has given, followed by what it has left,
+-- is the story that the terms have of that number, and a listener the same of the listener's story;
+-- such a listener has no number itself.
 pub record KeepsStory (t : Terms) (e : EndFacts) : Type 0 where
-  pub connection : (serial : ℕ) (story : Story) → e.listener ≡ false → e.serial ≡ Some serial → story_of t serial ≡ Some story → IsStory e story
-  pub listener : (offers : List Offer) → e.listener ≡ true → t.offers ≡ Some offers → IsOffering e.offering offers
-  pub unnumbered : (offers : List Offer) → e.listener ≡ true → t.offers ≡ Some offers → e.serial ≡ None
+  pub connection : (serial : ℕ) (story : Story) → e.listener ≡ false → e.serial ≡ Some serial
+      → story_of t serial ≡ Some story → IsStory e story
+  pub listener : (offers : List Offer) → e.listener ≡ true → t.offers ≡ Some offers
+      → IsOffering e.offering offers
+  pub unnumbered : (offers : List Offer) → e.listener ≡ true → t.offers ≡ Some offers
+      → e.serial ≡ None

@@ -10,8 +10,11 @@ pub mod End
 pub mod KeepsStory
 pub mod Net
 pub mod Playing
+pub mod Calls
 pub mod Codes
 pub mod Host
+pub mod Dialer
 pub mod MemSource
 pub mod Standard
 pub mod Adapters
+pub use Rattle.ev_types

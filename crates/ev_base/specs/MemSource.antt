@@ -10,7 +10,10 @@ mem_source_facts source = record {
   faults = source.faults;
   gave = length (given_of source.next source.at source.pieces.items);
   over = source.over;
-  bytes = Some (record { given = given_of source.next source.at source.pieces.items; left = left_of source.next source.at source.pieces.items });
+  bytes = Some (record {
+    given = given_of source.next source.at source.pieces.items;
+    left = left_of source.next source.at source.pieces.items;
+  });
 }
 
 -- how many reads it made before it was over, and the numbers of those that are to fail
@@ -22,4 +25,5 @@ fails_of source = source.fails.items
 
 -- the next read is to fail
 abbrev pub IsToFail : MemSource → Type 0
-IsToFail source = ((mem_source_facts source).over ≡ false) × Contains (fails_of source) (reads_of source)
+IsToFail source = ((mem_source_facts source).over ≡ false)
+    × Contains (fails_of source) (reads_of source)

@@ -1,5 +1,6 @@
 -- What the sources and the sink in memory hold.
-use Rattle.std.specs.Prelude.{ℕ, zero, suc, List, [], ◌∷◌, ◌++◌, ◌<◌, length, Vec, Option, Some, None, min, take, drop}
+use Rattle.std.specs.Prelude.{ℕ, zero, suc, List, [], ◌∷◌, ◌++◌, ◌<◌, length, Vec, Option, Some}
+use Rattle.std.specs.Prelude.{None, min, take, drop}
 use Rattle.std.specs.declared.alloc.Global.{Global}
 
 -- all bytes of some pieces, in order

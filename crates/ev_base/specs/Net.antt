@@ -1,6 +1,9 @@
--- What a net, the demultiplexer of events on ends, tells, and what its calls do (POSA2, Reactor: Synchronous Event
--- Demultiplexer). What it tells of the past, it tells like the past of a journal: the latest first.
-use Rattle.std.specs.Prelude.{◌≡◌, ◌≤◌, ◌^◌, ◌+◌, ℕ, Bool, true, if◌then◌else◌, ◌==◌, not, ◌&&◌, filter, List, [], ◌∷◌, length, Option, Some, None, option_map, Result, Ok, Err}
+-- What a net, the demultiplexer of events on ends, tells, and what its calls do (POSA2, Reactor:
+-- Synchronous Event Demultiplexer). What it tells of the past, it tells like the past of a journal:
+-- the latest first.
+use Rattle.std.specs.Prelude.{◌≡◌, ◌≤◌, ◌^◌, ◌+◌, ℕ, Bool, true, if◌then◌else◌, ◌==◌, not, ◌&&◌}
+use Rattle.std.specs.Prelude.{filter, List, [], ◌∷◌, length, Option, Some, None, option_map, Result}
+use Rattle.std.specs.Prelude.{Ok, Err}
 use Rattle.std.specs.List.{list_any, list_all}
 use Rattle.ev_types.specs.declared.upcall.Mask.{Mask}
 use Rattle.ev_types.specs.declared.upcall.Kind.{Kind}
@@ -11,8 +14,9 @@ use Rattle.ev_base.specs.declared.net.Report.{Report}
 use Rattle.ev_base.specs.declared.net.Waited.{Waited}
 use Rattle.ev_base.specs.declared.net.Waited.TheVariants.{Reports, Quiet, Over, Failed}
 
--- A call of a net that did not fail: a wait with its limit, its answer and its reports; an end attached, with its handle,
--- its mask and its serial number if it has one; a mask set; an end retired; or an end turned away.
+-- A call of a net that did not fail: a wait with its limit, its answer and its reports; an end
+-- attached, with its handle, its mask and its serial number if it has one; a mask set; an end
+-- retired; or an end turned away.
 pub data Call : Type 0 where
   Waits : (most : Option ℕ) (answer : Waited) (reports : List Report) → Call
   Attaches : (handle : ℕ) (mask : Mask) (serial : Option ℕ) → Call
@@ -32,7 +36,8 @@ pub record NetFacts (E : Type 0) : Type 0 where
   -- the moment of the last wait in milliseconds, 0 before the first, and its reports
   pub now : ℕ
   pub reports : List Report
-  -- where it tells them: its calls, the masks of its handles, and the ends that were retired and turned away
+  -- where it tells them: its calls, the masks of its handles, and the ends that were retired and
+  -- turned away
   pub calls : Option (List Call)
   pub masks : Option (List (ℕ × Mask))
   pub retired : Option (List (ℕ × E))
@@ -70,7 +75,8 @@ without handle handles = filter (λ h. not (h == handle)) handles
 -- masks by handle, with one changed, and without one
 abbrev pub changed_mask : ℕ → Mask → List (ℕ × Mask) → List (ℕ × Mask)
 changed_mask handle mask [] = []
-changed_mask handle mask (entry ∷ masks) = (if entry.0 == handle then (handle, mask) else entry) ∷ changed_mask handle mask masks
+changed_mask handle mask (entry ∷ masks) =
+    (if entry.0 == handle then (handle, mask) else entry) ∷ changed_mask handle mask masks
 
 abbrev pub without_mask : ℕ → List (ℕ × Mask) → List (ℕ × Mask)
 without_mask handle masks = filter (λ entry. not (entry.0 == handle)) masks
@@ -82,7 +88,8 @@ mask_has mask Write = mask.write
 mask_has mask Except = mask.except
 
 abbrev pub is_wanted : List (ℕ × Mask) → Report → Bool
-is_wanted masks report = list_any (λ entry. entry.0 == report.handle.0 && mask_has entry.1 report.kind) masks
+is_wanted masks report = list_any (λ entry. entry.0 == report.handle.0
+    && mask_has entry.1 report.kind) masks
 
 -- where masks are told, each report is wanted: the others are held back
 abbrev pub AreWanted : Option (List (ℕ × Mask)) → List Report → Type 0
@@ -92,7 +99,8 @@ AreWanted (Some masks) reports = list_all (is_wanted masks) reports ≡ true
 -- ---- waiting
 
 -- a wait was answered at a moment in milliseconds, which is not below an earlier one
-pub record AnswersWait {E : Type 0} (old : NetFacts E) (most : Option ℕ) (answer : Waited) (moment : ℕ) (new : NetFacts E) : Type 0 where
+pub record AnswersWait {E : Type 0} (old : NetFacts E) (most : Option ℕ) (answer : Waited)
+    (moment : ℕ) (new : NetFacts E) : Type 0 where
   pub now : new.now ≡ moment
   pub later : old.now ≤ moment
   pub bounded : moment ≤ 2 ^ 62
@@ -127,7 +135,8 @@ pub record FailsToWait {E : Type 0} (old new : NetFacts E) : Type 0 where
 
 -- what a wait does, by its answer
 abbrev pub NetWaits : {E : Type 0} → NetFacts E → Option ℕ → Waited → NetFacts E → Type 0
-NetWaits old most (Reports now count) new = AnswersWait old most (Reports now count) now new × (length new.reports ≡ count) × (1 ≤ count)
+NetWaits old most (Reports now count) new =
+    AnswersWait old most (Reports now count) now new × (length new.reports ≡ count) × (1 ≤ count)
 NetWaits old most (Quiet now) new = AnswersWait old most (Quiet now) now new × (new.reports ≡ [])
 NetWaits old most (Over now) new = AnswersWait old most (Over now) now new × (new.reports ≡ [])
 NetWaits old most Failed new = FailsToWait old new
@@ -149,7 +158,8 @@ pub record Reserves {E : Type 0} (old new : NetFacts E) : Type 0 where
   pub turned_away : new.turned_away ≡ old.turned_away
 
 -- an end was attached, which uses one place
-pub record AttachesEnd {E : Type 0} (old : NetFacts E) (handle : ℕ) (mask : Mask) (serial : Option ℕ) (new : NetFacts E) : Type 0 where
+pub record AttachesEnd {E : Type 0} (old : NetFacts E) (handle : ℕ) (mask : Mask)
+    (serial : Option ℕ) (new : NetFacts E) : Type 0 where
   pub attached : new.attached ≡ handle ∷ old.attached
   pub spare : old.spare ≤ new.spare + 1
   pub calls : new.calls ≡ with_one old.calls (Attaches handle mask serial)
@@ -168,12 +178,14 @@ pub record FailsToAttach {E : Type 0} (old new : NetFacts E) : Type 0 where
   pub same : FailsCall old new
 
 -- what an attach does, by its answer
-abbrev pub NetAttaches : {E : Type 0} → NetFacts E → ℕ → Mask → Option ℕ → Result (Unit {0}) NetFailed → NetFacts E → Type 0
+abbrev pub NetAttaches : {E : Type 0} → NetFacts E → ℕ → Mask → Option ℕ
+    → Result (Unit {0}) NetFailed → NetFacts E → Type 0
 NetAttaches old handle mask serial (Ok _) new = AttachesEnd old handle mask serial new
 NetAttaches old handle mask serial (Err _) new = FailsToAttach old new
 
 -- a mask was set
-pub record SetsMaskOf {E : Type 0} (old : NetFacts E) (handle : ℕ) (mask : Mask) (new : NetFacts E) : Type 0 where
+pub record SetsMaskOf {E : Type 0} (old : NetFacts E) (handle : ℕ) (mask : Mask)
+    (new : NetFacts E) : Type 0 where
   pub masks : new.masks ≡ option_map (changed_mask handle mask) old.masks
   pub calls : new.calls ≡ with_one old.calls (SetsMask handle mask)
   pub attached : new.attached ≡ old.attached
@@ -187,7 +199,8 @@ pub record SetsMaskOf {E : Type 0} (old : NetFacts E) (handle : ℕ) (mask : Mas
   pub turned_away : new.turned_away ≡ old.turned_away
 
 -- an end was retired
-pub record RetiresEnd {E : Type 0} (old : NetFacts E) (handle : ℕ) (end : E) (new : NetFacts E) : Type 0 where
+pub record RetiresEnd {E : Type 0} (old : NetFacts E) (handle : ℕ) (end : E)
+    (new : NetFacts E) : Type 0 where
   pub attached : new.attached ≡ without handle old.attached
   pub masks : new.masks ≡ option_map (without_mask handle) old.masks
   pub retired : new.retired ≡ with_one old.retired (handle, end)
@@ -201,7 +214,8 @@ pub record RetiresEnd {E : Type 0} (old : NetFacts E) (handle : ℕ) (end : E) (
   pub turned_away : new.turned_away ≡ old.turned_away
 
 -- an end was turned away, which uses one place
-pub record TurnsAwayEnd {E : Type 0} (old : NetFacts E) (serial : Option ℕ) (end : E) (new : NetFacts E) : Type 0 where
+pub record TurnsAwayEnd {E : Type 0} (old : NetFacts E) (serial : Option ℕ) (end : E)
+    (new : NetFacts E) : Type 0 where
   pub turned_away : new.turned_away ≡ with_one old.turned_away end
   pub calls : new.calls ≡ with_one old.calls (TurnsAway serial)
   pub spare : old.spare ≤ new.spare + 1

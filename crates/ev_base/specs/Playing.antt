@@ -1,6 +1,8 @@
--- What a net answers that plays the groups of a script, by the calls that it was asked for (POSA2, Reactor: Synchronous Event
--- Demultiplexer; scripts are this project's own).
-use Rattle.std.specs.Prelude.{◌≡◌, ℕ, zero, suc, ◌+◌, ◌==◌, nat_lt, Bool, true, false, not, ◌&&◌, if◌then◌else◌, List, [], ◌∷◌, ◌++◌, length, filter, map, Option, Some, None}
+-- What a net answers that plays the groups of a script, by the calls that it was asked for (POSA2,
+-- Reactor: Synchronous Event Demultiplexer; scripts are this project's own).
+use Rattle.std.specs.Prelude.{◌≡◌, ℕ, zero, suc, ◌+◌, ◌==◌, nat_lt, Bool, true, false, not, ◌&&◌}
+use Rattle.std.specs.Prelude.{if◌then◌else◌, List, [], ◌∷◌, ◌++◌, length, filter, map, Option, Some}
+use Rattle.std.specs.Prelude.{None}
 use Rattle.std.specs.List.{list_any}
 use Rattle.ev_types.specs.declared.upcall.Mask.{Mask}
 use Rattle.ev_base.specs.Terms.{StepEnd, AtListener, AtConnection, Step, Group}
@@ -19,8 +21,8 @@ pub record Seat : Type 0 where
   pub mask : Mask
   pub end : StepEnd
 
--- How far a script was played: the present moment, the groups that are left, the steps that are held back, the ends that are
--- attached, and those that never will be again.
+-- How far a script was played: the present moment, the groups that are left, the steps that are
+-- held back, the ends that are attached, and those that never will be again.
 pub record Playing : Type 0 where
   pub moment : ℕ
   pub groups : List Group
@@ -63,7 +65,8 @@ given seats room (step ∷ steps) = gives (report_at seats step) room (λ room. 
 
 abbrev pub left : List Seat → ℕ → List Step → List Step
 left seats room [] = []
-left seats room (step ∷ steps) = leaves (report_at seats step) step room (λ room. left seats room steps)
+left seats room (step ∷ steps) = leaves (report_at seats step) step room
+    (λ room. left seats room steps)
 
 -- whether a step is at one of these ends, and the steps at no such end
 abbrev pub is_at : List StepEnd → Step → Bool
@@ -98,18 +101,27 @@ time_up (Some most) now = now + most
 abbrev pub of_held : Playing → Answered
 of_held p =
     let reports = given p.seats most_reports p.held in
-    record { answer = answer_at p.moment reports; reports = reports; next = record p { held = left p.seats most_reports p.held } }
+    record {
+      answer = answer_at p.moment reports;
+      reports = reports;
+      next = record p { held = left p.seats most_reports p.held };
+    }
 
 -- 2. Else, where no group is left, nothing can be reported any more.
 abbrev pub of_none : Playing → Answered
 of_none p = record { answer = Over p.moment; reports = []; next = p }
 
--- 3. Else, where the next group comes later than the wait may last, nothing is reported when the time is up.
+-- 3. Else, where the next group comes later than the wait may last, nothing is reported when the
+--    time is up.
 abbrev pub of_time : Option ℕ → Playing → Answered
-of_time most p = record { answer = Quiet (time_up most p.moment); reports = []; next = record p { moment = time_up most p.moment } }
+of_time most p = record {
+  answer = Quiet (time_up most p.moment);
+  reports = [];
+  next = record p { moment = time_up most p.moment };
+}
 
--- 4. Else the group comes. Its steps at ends that are attached and want them are reported; those at ends that are gone are
--- dropped; and the others are held.
+-- 4. Else the group comes. Its steps at ends that are attached and want them are reported; those at
+--    ends that are gone are dropped; and the others are held.
 abbrev pub of_group : Group → List Group → Playing → Answered
 of_group group groups p =
     let steps = without p.gone group.steps in
@@ -117,12 +129,17 @@ of_group group groups p =
     record {
       answer = answer_at group.moment reports;
       reports = reports;
-      next = record p { moment = group.moment; groups = groups; held = p.held ++ left p.seats most_reports steps };
+      next = record p {
+        moment = group.moment;
+        groups = groups;
+        held = p.held ++ left p.seats most_reports steps;
+      };
     }
 
 abbrev pub of_groups : Option ℕ → List Group → Playing → Answered
 of_groups most [] p = of_none p
-of_groups most (group ∷ groups) p = if is_late most p.moment group.moment then of_time most p else of_group group groups p
+of_groups most (group ∷ groups) p =
+    if is_late most p.moment group.moment then of_time most p else of_group group groups p
 
 abbrev pub by_held : List Report → Option ℕ → Playing → Answered
 by_held [] most p = of_groups most p.groups p
@@ -135,7 +152,9 @@ waited most p = by_held (given p.seats most_reports p.held) most p
 
 -- an end is attached
 abbrev pub attached : ℕ → Mask → StepEnd → Playing → Playing
-attached handle mask end p = record p { seats = record { handle = handle; mask = mask; end = end } ∷ p.seats }
+attached handle mask end p = record p {
+  seats = record { handle = handle; mask = mask; end = end } ∷ p.seats;
+}
 
 -- the mask of an end is set
 abbrev pub masked : ℕ → Mask → Seat → Seat
@@ -154,7 +173,8 @@ has_handle handle seat = seat.handle == handle
 -- an end is retired, or turned away
 abbrev pub retired : ℕ → Playing → Playing
 retired handle p =
-    dropped (map (λ seat. seat.end) (filter (has_handle handle) p.seats)) (record p { seats = filter (λ seat. not (has_handle handle seat)) p.seats })
+    dropped (map (λ seat. seat.end) (filter (has_handle handle) p.seats))
+    (record p { seats = filter (λ seat. not (has_handle handle seat)) p.seats })
 
 abbrev pub turned_away : StepEnd → Playing → Playing
 turned_away end p = dropped (end ∷ []) p
@@ -170,19 +190,22 @@ end_of_serial (Some serial) = AtConnection serial
 abbrev pub played : List Group → List Call → Playing
 played groups [] = at_start groups
 played groups (Waits most answer reports ∷ calls) = (waited most (played groups calls)).next
-played groups (Attaches handle mask serial ∷ calls) = attached handle mask (end_of_serial serial) (played groups calls)
+played groups (Attaches handle mask serial ∷ calls) =
+    attached handle mask (end_of_serial serial) (played groups calls)
 played groups (SetsMask handle mask ∷ calls) = mask_set handle mask (played groups calls)
 played groups (Retires handle ∷ calls) = retired handle (played groups calls)
 played groups (TurnsAway serial ∷ calls) = turned_away (end_of_serial serial) (played groups calls)
 
 -- each wait has the answer and the reports of the rules
-pub record IsAnswer (most : Option ℕ) (answer : Waited) (reports : List Report) (p : Playing) : Type 0 where
+pub record IsAnswer (most : Option ℕ) (answer : Waited) (reports : List Report) (p : Playing) : Type
+    0 where
   pub answers : answer ≡ (waited most p).answer
   pub gives : reports ≡ (waited most p).reports
 
 abbrev pub Plays : List Group → List Call → Type 0
 Plays groups [] = Unit {0}
-Plays groups (Waits most answer reports ∷ calls) = IsAnswer most answer reports (played groups calls) × Plays groups calls
+Plays groups (Waits most answer reports ∷ calls) =
+    IsAnswer most answer reports (played groups calls) × Plays groups calls
 Plays groups (Attaches handle mask serial ∷ calls) = Plays groups calls
 Plays groups (SetsMask handle mask ∷ calls) = Plays groups calls
 Plays groups (Retires handle ∷ calls) = Plays groups calls

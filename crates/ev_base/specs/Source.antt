@@ -16,14 +16,15 @@ pub record SourceFacts : Type 0 where
   pub bytes : Option ReaderBytes
 
 -- a read gave the first n bytes of the buffer
-pub record GivesBytes (old : SourceFacts) (buffer : List ℕ) (n : ℕ) (new : SourceFacts) : Type 0 where
-  pub some : 1 ≤ n
-  pub within : n ≤ length buffer
-  pub gave : new.gave ≡ old.gave + n
-  pub bytes : MovesOn old.bytes (take n buffer) new.bytes
-  pub was_not_over : old.over ≡ false
-  pub over : new.over ≡ false
-  pub faults : new.faults ≡ old.faults
+pub record GivesBytes (old : SourceFacts) (buffer : List ℕ) (n : ℕ) (new : SourceFacts) : Type 0
+  where
+    pub some : 1 ≤ n
+    pub within : n ≤ length buffer
+    pub gave : new.gave ≡ old.gave + n
+    pub bytes : MovesOn old.bytes (take n buffer) new.bytes
+    pub was_not_over : old.over ≡ false
+    pub over : new.over ≡ false
+    pub faults : new.faults ≡ old.faults
 
 -- a read found the end of the input
 pub record GivesEnd (old new : SourceFacts) : Type 0 where
@@ -41,7 +42,8 @@ pub record FailsToRead (old new : SourceFacts) : Type 0 where
   pub over : new.over ≡ false
   pub bytes : new.bytes ≡ old.bytes
 
--- what a read into a buffer does, by its answer; a source never pauses, and answers Over again and again
+-- what a read into a buffer does, by its answer; a source never pauses, and answers Over again and
+-- again
 abbrev pub Reads : SourceFacts → List ℕ → Got → SourceFacts → Type 0
 Reads old buffer (Bytes n) new = GivesBytes old buffer n new
 Reads old buffer Pause new = ⊥

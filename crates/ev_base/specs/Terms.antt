@@ -1,10 +1,11 @@
--- What a run starts with. Contracts alone see it. No call changes it, and each part but `most` may be left open: then the
--- contracts say nothing that hangs on it.
+-- What a run starts with. Contracts alone see it. No call changes it, and each part but `most` may
+-- be left open: then the contracts say nothing that hangs on it.
 use Rattle.std.specs.Prelude.{ℕ, Bool, List, Option, None, slice_get, option_and_then}
 use Rattle.ev_types.specs.declared.upcall.Kind.{Kind}
 use Rattle.ev_base.specs.Story.{Offer, Story}
 
--- One step of a net's script: something happens at an end, of the listener or of a connection by its serial number.
+-- One step of a net's script: something happens at an end, of the listener or of a connection by
+-- its serial number.
 pub data StepEnd : Type 0 where
   AtListener : StepEnd
   AtConnection : (serial : ℕ) → StepEnd
@@ -73,5 +74,6 @@ abbrev pub KeepsOn : {S : Type 0} → (Terms → S → Type 0) → S → S → T
 KeepsOn keeps old new = (t : Terms) → keeps t old → keeps t new
 
 -- a call that is lent or given another object too, here an end, which keeps the terms as well
-abbrev pub KeepsOnWith : {S E : Type 0} → (Terms → S → Type 0) → (Terms → E → Type 0) → E → S → S → Type 0
+abbrev pub KeepsOnWith : {S E : Type 0} → (Terms → S → Type 0) → (Terms → E → Type 0) → E → S → S
+    → Type 0
 KeepsOnWith keeps also given old new = (t : Terms) → keeps t old → also t given → keeps t new

@@ -24,14 +24,14 @@ pub enum Taken<E> {
     One(E),
     /// No connection waits now. A net that watches the listener reports it again once one waits.
     Pause,
-    /// The accept failed, and the count of faults rose. A net that watches the listener reports it again at a later wait, so that
-    /// a connection that waits there still is not forgotten.
+    /// The accept failed, and the count of faults rose. A net that watches the listener reports it
+    /// again at a later wait, so that a connection that waits there still is not forgotten.
     Failed,
 }
 
-/// One end of a connection, or a listener, which gives ends. Its calls never wait. It counts its reads and accepts, its
-/// writes, its faults and the bytes that its reads gave, and keeps what the last of each call came to; where it tells them, also
-/// its bytes, its serial number and its story.
+/// One end of a connection, or a listener, which gives ends. Its calls never wait. It counts its
+/// reads and accepts, its writes, its faults and the bytes that its reads gave, and keeps what the
+/// last of each call came to; where it tells them, also its bytes, its serial number and its story.
 pub trait PeerEnd: Sized {
     /// What contracts see of an end.
     ghost tells: { Self → EndFacts };
@@ -50,15 +50,16 @@ pub trait PeerEnd: Sized {
         ensures reads { EndReads (tells self.old) buf.new result (tells self.new) }
         ensures kept { KeepsOn keeps self.old self.new };
 
-    /// Writes a piece that is not empty to an end that is no listener. One that takes nothing and does not pause is at
-    /// fault.
+    /// Writes a piece that is not empty to an end that is no listener. One that takes nothing and
+    /// does not pause is at fault.
     fn write(&mut self, piece: &[u8]) -> Sent
         requires writer { (tells self.old).listener ≡ false }
         requires some { 0 < length piece.now }
         ensures writes { EndWrites (tells self.old) piece.now result (tells self.new) }
         ensures kept { KeepsOn keeps self.old self.new };
 
-    /// Takes the next connection from a listener. The end that it gives is no listener and has made no call.
+    /// Takes the next connection from a listener. The end that it gives is no listener and has made
+    /// no call.
     fn accept(&mut self) -> Taken<Self>
         requires { (tells self.old).listener ≡ true }
         ensures accepts { Accepts tells (tells self.old) result (tells self.new) }

@@ -1,5 +1,7 @@
 //! Sources and sinks in memory. They tell all their bytes.
-ghost use Rattle.std.specs.Prelude.{◌≡◌, ◌+◌, ◌≤◌, ◌<◌, ℕ, List, [], ◌++◌, length, take, drop, min, Some, None, true, false, OnOk, IfOk, Vec, vec_len, vec_capacity, slice_get, slice_index, ◌-◌, ◌↔◌, IfSome};
+ghost use Rattle.std.specs.Prelude.{◌≡◌, ◌+◌, ◌≤◌, ◌<◌, ℕ, List, [], ◌++◌, length, take, drop, min};
+ghost use Rattle.std.specs.Prelude.{Some, None, true, false, OnOk, IfOk, Vec, vec_len};
+ghost use Rattle.std.specs.Prelude.{vec_capacity, slice_get, slice_index, ◌-◌, ◌↔◌, IfSome};
 ghost use Rattle.ev_base.specs.MemoryForms.{joined, given_of, left_of, least_of, HasByteAt};
 
 use super::{Got, NoMemory, Sink, Source, Wrote};
@@ -19,7 +21,12 @@ impl SteadySource {
     /// A source of these bytes.
     pub fn new(bytes: Vec<u8>) -> SteadySource
         ensures { ⟦<SteadySource as Source>⟧.facts result
-            ≡ record { faults = 0; gave = 0; over = false; bytes = Some (record { given = []; left = bytes.items }) } }
+            ≡ record {
+              faults = 0;
+              gave = 0;
+              over = false;
+              bytes = Some (record { given = []; left = bytes.items });
+            } }
     {
         SteadySource {
             bytes,
@@ -30,7 +37,12 @@ impl SteadySource {
 }
 
 impl Source for SteadySource {
-    ghost facts = { λ s. record { faults = 0; gave = s.at; over = s.over; bytes = Some (record { given = take s.at s.bytes.items; left = drop s.at s.bytes.items }) } };
+    ghost facts = { λ s. record {
+      faults = 0;
+      gave = s.at;
+      over = s.over;
+      bytes = Some (record { given = take s.at s.bytes.items; left = drop s.at s.bytes.items });
+    } };
 
     fn read(&mut self, buf: &mut [u8]) -> Got {
         if self.at >= self.bytes.len() {
@@ -43,7 +55,8 @@ impl Source for SteadySource {
     }
 }
 
-/// Copies the bytes from a place on, as many as a buffer takes, to its front, and tells how many that is.
+/// Copies the bytes from a place on, as many as a buffer takes, to its front, and tells how many
+/// that is.
 fn copy_from(bytes: &[u8], at: usize, buf: &mut [u8]) -> usize
     requires { at ≤ length bytes.now }
     ensures count { result ≡ min (length bytes.now - at) (length buf.old) }
@@ -55,8 +68,8 @@ fn copy_from(bytes: &[u8], at: usize, buf: &mut [u8]) -> usize
     count
 }
 
-/// A source of pieces: each read gives bytes of one piece. The reads that are named by their numbers, from 0,
-/// fail. A read behind one that answered `Over` answers `Over`.
+/// A source of pieces: each read gives bytes of one piece. The reads that are named by their
+/// numbers, from 0, fail. A read behind one that answered `Over` answers `Over`.
 #[derive(Drop)]
 pub struct MemSource {
     pieces: Vec<Vec<u8>>,
@@ -74,8 +87,12 @@ impl MemSource {
 
     /// A source of these pieces. The reads whose numbers stand in `fails` are to fail.
     pub fn new(pieces: Vec<Vec<u8>>, fails: Vec<u64>) -> MemSource
-        ensures facts { mem_source_facts result
-            ≡ record { faults = 0; gave = 0; over = false; bytes = Some (record { given = []; left = joined pieces.items }) } }
+        ensures facts { mem_source_facts result ≡ record {
+          faults = 0;
+          gave = 0;
+          over = false;
+          bytes = Some (record { given = []; left = joined pieces.items });
+        } }
         ensures reads { reads_of result ≡ 0 }
         ensures fails { fails_of result ≡ fails.items }
     {
@@ -101,9 +118,11 @@ impl Source for MemSource {
 
     fn read(&mut self, buf: &mut [u8]) -> Got
         requires { 0 < length buf.old }
-        ensures reads { Reads (mem_source_facts self.old) buf.new result (mem_source_facts self.new) }
+        ensures reads { Reads (mem_source_facts self.old) buf.new result
+            (mem_source_facts self.new) }
         ensures failed { (result ≡ Got.Failed) ↔ IsToFail self.old }
-        ensures number { reads_of self.new ≡ (if (mem_source_facts self.old).over then reads_of self.old else counted (reads_of self.old)) }
+        ensures number { reads_of self.new ≡ (if (mem_source_facts self.old).over then reads_of
+            self.old else counted (reads_of self.old)) }
         ensures fails { fails_of self.new ≡ fails_of self.old }
     {
         if self.over {
@@ -129,8 +148,8 @@ impl Source for MemSource {
     }
 }
 
-/// The place of the next byte: the number of its piece, and its place there. Behind the last byte the number is
-/// that of the pieces.
+/// The place of the next byte: the number of its piece, and its place there. Behind the last byte
+/// the number is that of the pieces.
 fn past_spent(pieces: &[Vec<u8>], piece: usize, place: usize) -> (usize, usize)
     ensures given { given_of result.0 result.1 pieces.now ≡ given_of piece place pieces.now }
     ensures left { left_of result.0 result.1 pieces.now ≡ left_of piece place pieces.now }
@@ -162,10 +181,11 @@ pub struct MemSink {
 impl MemSink {
     ghost use Rattle.ev_base.specs.MemSink.{limit_of, taken_of, mem_sink_facts};
 
-    /// A sink that takes `room` bytes, or `fail_after` bytes if these are fewer, and fails at each write behind
-    /// them. `NoMemory` comes where there is no memory for the room.
+    /// A sink that takes `room` bytes, or `fail_after` bytes if these are fewer, and fails at each
+    /// write behind them. `NoMemory` comes where there is no memory for the room.
     pub fn new(alloc: Global, room: usize, fail_after: Option<u64>) -> Result<MemSink, NoMemory>
-        ensures empty { IfOk result (λ s. mem_sink_facts s ≡ record { faults = 0; text = Some [] }) }
+        ensures empty { IfOk result (λ s. mem_sink_facts s
+            ≡ record { faults = 0; text = Some [] }) }
         ensures limit { IfOk result (λ s. limit_of s ≡ least_of room fail_after) }
     {
         let bytes = Vec::with_capacity(alloc, room)?;
@@ -193,10 +213,12 @@ impl Sink for MemSink {
 
     fn write(&mut self, piece: &[u8]) -> Wrote
         requires { 0 < length piece.now }
-        ensures writes { Writes (mem_sink_facts self.old) piece.now result (mem_sink_facts self.new) }
+        ensures writes { Writes (mem_sink_facts self.old) piece.now result
+            (mem_sink_facts self.new) }
         ensures limit { limit_of self.new ≡ limit_of self.old }
         ensures takes { length (taken_of self.old) < limit_of self.old
-            → result ≡ Wrote.Bytes (min (length piece.now) (limit_of self.old - length (taken_of self.old))) }
+            → result ≡ Wrote.Bytes (min (length piece.now)
+            (limit_of self.old - length (taken_of self.old))) }
     {
         let space = self.limit - self.bytes.len();
         if space == 0 {

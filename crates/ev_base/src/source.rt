@@ -7,7 +7,8 @@ ghost use Rattle.ev_base.specs.Source.{SourceFacts, Reads};
 pub enum Got {
     /// So many bytes, at least one, now stand at the front of the buffer.
     Bytes(usize),
-    /// Nothing is there now; more may come. A net that watches the end reports it again once more came.
+    /// Nothing is there now; more may come. A net that watches the end reports it again once more
+    /// came.
     Pause,
     /// The end of the input, which each later read answers again.
     Over,
@@ -15,14 +16,15 @@ pub enum Got {
     Failed,
 }
 
-/// A source of bytes. It has a count of faults that never falls and a count of the bytes that it gave, and where it tells them,
-/// the bytes that it has given and those that it has left.
+/// A source of bytes. It has a count of faults that never falls and a count of the bytes that it
+/// gave, and where it tells them, the bytes that it has given and those that it has left.
 pub trait Source {
     /// What contracts see of a source.
     ghost facts: { Self → SourceFacts };
 
-    /// Reads into a buffer that is not empty. `Bytes(n)` has n from 1 to the buffer's length. A source never
-    /// answers `Pause`. `Failed` comes only where the count of faults rose, and leaves the bytes as they were.
+    /// Reads into a buffer that is not empty. `Bytes(n)` has n from 1 to the buffer's length. A
+    /// source never answers `Pause`. `Failed` comes only where the count of faults rose, and leaves
+    /// the bytes as they were.
     fn read(&mut self, buf: &mut [u8]) -> Got
         requires { 0 < length buf.old }
         ensures { Reads (facts self.old) buf.new result (facts self.new) };

@@ -1,5 +1,5 @@
-//! The words that every crate of the framework shares: handles, masks, the kinds of report, the upcalls
-//! of an event handler with their answers, and the two plain refusals.
+//! The words that every crate of the framework shares: handles, masks, the kinds of report, the
+//! upcalls of an event handler with their answers, and the two plain refusals.
 #![tactic(auto)]
 
 mod refusal;

@@ -4,8 +4,8 @@ use std::alloc::{AllocError, AllocFailed};
 use std::error::Error;
 use std::fmt;
 
-/// There was no memory for what was asked. After this answer all is as it was before the call, unless the
-/// call says otherwise.
+/// There was no memory for what was asked. After this answer all is as it was before the call,
+/// unless the call says otherwise.
 #[derive(Clone, Copy, PartialEq, Eq, Hash, Debug)]
 pub struct NoMemory;
 

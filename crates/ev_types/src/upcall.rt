@@ -16,6 +16,27 @@ pub struct Mask {
     pub except: bool,
 }
 
+impl Mask {
+    /// No kind.
+    pub const NONE: Mask = Mask {
+        read: false,
+        write: false,
+        except: false,
+    };
+
+    /// Reads and accepts alone.
+    pub const READ: Mask = Mask {
+        read: true,
+        ..Mask::NONE
+    };
+
+    /// Writes alone.
+    pub const WRITE: Mask = Mask {
+        write: true,
+        ..Mask::NONE
+    };
+}
+
 /// What a report of the demultiplexer, or a notification, is about.
 #[derive(Clone, Copy, PartialEq, Eq, Hash, Debug)]
 pub enum Kind {

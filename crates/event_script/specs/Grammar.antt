@@ -1,13 +1,18 @@
--- The text of a script, line by line (this project's own). Numbers are decimal digits, bytes are pairs of hexadecimal digits.
-use Rattle.std.specs.Prelude.{◌≡◌, ℕ, ◌+◌, ◌-◌, ◌*◌, ◌==◌, nat_lt, nat_le, Bool, true, false, ◌&&◌, if◌then◌else◌, List, [], ◌∷◌, ◌++◌, length, reverse, Option, Some, None, option_map, option_and_then, codes, Result, Ok, Err}
+-- The text of a script, line by line (this project's own). Numbers are decimal digits, bytes are
+-- pairs of hexadecimal digits.
+use Rattle.std.specs.Prelude.{◌≡◌, ℕ, ◌+◌, ◌-◌, ◌*◌, ◌==◌, nat_lt, nat_le, Bool, true, false, ◌&&◌}
+use Rattle.std.specs.Prelude.{if◌then◌else◌, List, [], ◌∷◌, ◌++◌, length, reverse, Option, Some}
+use Rattle.std.specs.Prelude.{None, option_map, option_and_then, codes, Result, Ok, Err}
 use Rattle.std.specs.Str.{bytes_eq}
 use Rattle.text_parts.specs.Parts.{parts}
 use Rattle.hex.specs.Hex.{decode_of}
-use Rattle.event_script.specs.Script.{ScriptStep, Opens, Brings, Shuts, Fails, ListenerFails, ScriptGroup, most_steps, may_follow as step_may_follow}
+use Rattle.event_script.specs.Script.{ScriptStep, Opens, Brings, Shuts, Fails, ListenerFails}
+use Rattle.event_script.specs.Script.{ScriptGroup, most_steps, may_follow as step_may_follow}
 
 -- ---- lines and words
 
--- the lines of a text, whose last line feed may be missing: an empty part behind the last line feed is no line
+-- the lines of a text, whose last line feed may be missing: an empty part behind the last line feed
+-- is no line
 abbrev pub without_last_empty : List (List ℕ) → List (List ℕ)
 without_last_empty [] = []
 without_last_empty ([] ∷ []) = []
@@ -34,7 +39,8 @@ digits_from n (byte ∷ bytes) = option_and_then (λ d. digits_from (n * 10 + d)
 -- decimal digits without a leading zero, `0` alone excepted
 abbrev pub number : List ℕ → Option ℕ
 number [] = None
-number (byte ∷ bytes) = if byte == 48 && nat_lt 0 (length bytes) then None else digits_from 0 (byte ∷ bytes)
+number (byte ∷ bytes) = if byte == 48
+    && nat_lt 0 (length bytes) then None else digits_from 0 (byte ∷ bytes)
 
 -- the value of an answer that is no refusal
 abbrev pub value_of : {T E : Type 0} → Result T E → Option T
@@ -58,7 +64,8 @@ abbrev pub quiet_line : List ℕ → Option Line
 quiet_line word = if bytes_eq word (codes "quiet") then Some Quiet else None
 
 abbrev pub fail_line : List ℕ → Option Line
-fail_line word = if bytes_eq word (codes "listener") then Some (Stepping ListenerFails) else option_map (λ c. Stepping (Fails c)) (number word)
+fail_line word = if bytes_eq word (codes "listener") then Some (Stepping ListenerFails)
+    else option_map (λ c. Stepping (Fails c)) (number word)
 
 abbrev pub two_words : List ℕ → List ℕ → Option Line
 two_words word value =
@@ -69,7 +76,8 @@ two_words word value =
     else None
 
 abbrev pub data_line : List ℕ → List ℕ → Option Line
-data_line conn bytes = option_and_then (λ c. option_map (λ bs. Stepping (Brings c bs)) (hex_bytes bytes)) (number conn)
+data_line conn bytes = option_and_then
+    (λ c. option_map (λ bs. Stepping (Brings c bs)) (hex_bytes bytes)) (number conn)
 
 abbrev pub three_words : List ℕ → List ℕ → List ℕ → Option Line
 three_words word conn bytes = if bytes_eq word (codes "data") then data_line conn bytes else None
@@ -106,16 +114,19 @@ last_moment = 4294967295
 abbrev pub may_stand : List Line → Line → Bool
 may_stand past (At moment) = nat_le (moment_of past) moment && nat_le moment last_moment
 may_stand past Quiet = true
-may_stand past (Stepping step) = nat_lt (length (steps_in past)) most_steps && step_may_follow (steps_in past) step
+may_stand past (Stepping step) = nat_lt (length (steps_in past)) most_steps
+    && step_may_follow (steps_in past) step
 
 -- ---- the whole text
 
--- These lines of a text, the latest first, spell these lines, each of which may stand behind those before it.
+-- These lines of a text, the latest first, spell these lines, each of which may stand behind those
+-- before it.
 abbrev pub Spells : List (List ℕ) → List Line → Type 0
 Spells [] [] = Unit {0}
 Spells [] (line ∷ past) = ⊥
 Spells (raw ∷ raws) [] = ⊥
-Spells (raw ∷ raws) (line ∷ past) = (line_of raw ≡ Some line) × (may_stand past line ≡ true) × Spells raws past
+Spells (raw ∷ raws) (line ∷ past) =
+    (line_of raw ≡ Some line) × (may_stand past line ≡ true) × Spells raws past
 
 -- a line that spells none, or one that may not stand there
 abbrev pub IsBadBehind : List Line → Option Line → Type 0
@@ -133,8 +144,8 @@ pub record IsBadAt (text : List ℕ) (number : ℕ) : Type 0 where
   pub is_bad : IsBadBehind past (line_of bad)
   pub counts : number ≡ length good + 1
 
--- The groups: each longest run of steps without an `at` or a `quiet` between them, at its moment, and each `quiet`.
--- whether the latest line is a step, so that a further step joins the last group
+-- The groups: each longest run of steps without an `at` or a `quiet` between them, at its moment,
+-- and each `quiet`. whether the latest line is a step, so that a further step joins the last group
 abbrev pub is_step : List Line → Bool
 is_step (Stepping step ∷ past) = true
 is_step _ = false
@@ -149,7 +160,9 @@ abbrev pub groups_of : List Line → List ScriptGroup
 groups_of [] = []
 groups_of (At moment ∷ past) = groups_of past
 groups_of (Quiet ∷ past) = groups_of past ++ record { moment = moment_of past; steps = [] } ∷ []
-groups_of (Stepping step ∷ past) = if is_step past then with_step step (groups_of past) else groups_of past ++ record { moment = moment_of past; steps = step ∷ [] } ∷ []
+groups_of (Stepping step ∷ past) =
+    if is_step past then with_step step (groups_of past) else groups_of past
+    ++ record { moment = moment_of past; steps = step ∷ [] } ∷ []
 
 -- the text is that of a script with these groups
 pub record IsScriptText (text : List ℕ) (groups : List ScriptGroup) : Type 0 where

@@ -1,10 +1,12 @@
 -- A script of network events, as data (this project's own).
-use Rattle.std.specs.Prelude.{ℕ, ◌==◌, nat_lt, Bool, true, false, not, ◌&&◌, ◌||◌, List, [], ◌∷◌, ◌+◌, map, flat_map, length}
+use Rattle.std.specs.Prelude.{ℕ, ◌==◌, nat_lt, Bool, true, false, not, ◌&&◌, ◌||◌, List, [], ◌∷◌}
+use Rattle.std.specs.Prelude.{◌+◌, map, flat_map, length}
 use Rattle.std.specs.List.{list_any}
-use Rattle.ev_types.specs.declared.upcall.Kind.TheVariants.{Read}
+use Rattle.ev_base.specs.ev_types.specs.declared.upcall.Kind.TheVariants.{Read}
 use Rattle.ev_base.specs.Terms.{StepEnd, AtListener, AtConnection, Step, Group}
 
--- One step: the connection of a number comes; it brings bytes; it is shut; it fails; or the listener fails once.
+-- One step: the connection of a number comes; it brings bytes; it is shut; it fails; or the
+-- listener fails once.
 pub data ScriptStep : Type 0 where
   Opens : (conn : ℕ) → ScriptStep
   Brings : (conn : ℕ) (bytes : List ℕ) → ScriptStep
@@ -41,10 +43,6 @@ groups_told groups = map group_told groups
 
 -- ---- tests of a step
 
-abbrev pub is_opening : ScriptStep → Bool
-is_opening (Opens conn) = true
-is_opening _ = false
-
 abbrev pub is_of : ℕ → ScriptStep → Bool
 is_of c (Brings conn bytes) = conn == c
 is_of c (Shuts conn) = conn == c
@@ -74,7 +72,8 @@ most_connections = 65536
 abbrev pub most_steps : ℕ
 most_steps = 1000000
 
--- by the steps so far, the latest first: whether the connection came, and whether it was shut or failed
+-- by the steps so far, the latest first: whether the connection came, and whether it was shut or
+-- failed
 abbrev pub came : ℕ → List ScriptStep → Bool
 came c past = nat_lt c (opened past)
 
@@ -84,8 +83,8 @@ is_done c past = list_any (λ step. shuts c step || fails c step) past
 abbrev pub goes_on : ℕ → List ScriptStep → Bool
 goes_on c past = came c past && not (is_done c past)
 
--- Connections are numbered as they come. One brings at least one byte at a time. It brings bytes, is shut and fails only behind its
--- coming, and nothing of it follows once it was shut or failed.
+-- Connections are numbered as they come. One brings at least one byte at a time. It brings bytes,
+-- is shut and fails only behind its coming, and nothing of it follows once it was shut or failed.
 abbrev pub may_follow : List ScriptStep → ScriptStep → Bool
 may_follow past (Opens conn) = conn == opened past && nat_lt conn most_connections
 may_follow past (Brings conn bytes) = goes_on conn past && nat_lt 0 (length bytes)

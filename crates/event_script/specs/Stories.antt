@@ -1,11 +1,13 @@
 -- What each end has to tell in a script: the table of steps and items (this project's own).
 use Rattle.std.specs.Prelude.{ℕ, ◌==◌, Bool, if◌then◌else◌, List, [], ◌∷◌, map, flat_map}
 use Rattle.std.specs.List.{list_any, range_with_len}
-use Rattle.ev_base.specs.Story.{Part, Piece, Pausing, Ending, Failing, Offer, Connection, NoneThere, OneFailure, Story, OfParts}
-use Rattle.event_script.specs.Script.{ScriptStep, Opens, Brings, Shuts, Fails, ListenerFails, shuts, fails, opened}
+use Rattle.ev_base.specs.Story.{Part, Piece, Pausing, Ending, Failing, Offer, Connection, NoneThere}
+use Rattle.ev_base.specs.Story.{OneFailure, Story, OfParts}
+use Rattle.event_script.specs.Script.{ScriptStep, Opens, Brings, Shuts, Fails, ListenerFails, shuts}
+use Rattle.event_script.specs.Script.{fails, opened}
 
--- Of a connection: bytes and then one pause for each step that brings some, the end where it is shut, a failure where it fails. The
--- last two are told from then on.
+-- Of a connection: bytes and then one pause for each step that brings some, the end where it is
+-- shut, a failure where it fails. The last two are told from then on.
 abbrev pub parts_of : ℕ → ScriptStep → List Part
 parts_of c (Brings conn bytes) = if conn == c then Piece bytes ∷ Pausing ∷ [] else []
 parts_of c (Shuts conn) = if conn == c then Ending ∷ [] else []

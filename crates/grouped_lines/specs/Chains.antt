@@ -1,10 +1,11 @@
 -- Where the entries of each connection stand in a journal, found from each other.
-use Rattle.std.specs.Prelude.{◌≡◌, ◌<◌, ◌≤◌, ◌+◌, ℕ, suc, if◌then◌else◌, Bool, true, false, List, [], ◌∷◌, drop, length, slice_get, slice_index, Option, Some, None}
+use Rattle.std.specs.Prelude.{◌≡◌, ◌<◌, ◌≤◌, ◌+◌, ℕ, suc, if◌then◌else◌, Bool, true, false, List}
+use Rattle.std.specs.Prelude.{[], ◌∷◌, drop, length, slice_get, slice_index, Option, Some, None}
 use Rattle.reactor_journal.specs.declared.entry.Entry.{Entry}
 use Rattle.log_handler.specs.declared.note.ServerNote.{ServerNote}
 use Rattle.log_handler.specs.declared.note.ServerNote.TheVariants as note
 use Rattle.reactor_journal.specs.declared.entry.Entry.TheVariants.{Returned, Refused, Closed}
-use Rattle.script_runs.specs.Connections.{is_entry_of, accepted}
+use Rattle.laws_script_runs.specs.Connections.{is_entry_of, accepted}
 use Rattle.grouped_lines.specs.declared.chains.Chains.{Chains}
 
 -- the connection that a note is of, if it has lines
@@ -32,18 +33,22 @@ entries_before c (e ∷ entries) = if is_entry_of c e then 0 else suc (entries_b
 abbrev pub place_from : ℕ → List (Entry ServerNote) → ℕ → ℕ
 place_from c entries i = i + entries_before c (drop i entries)
 
--- Behind each entry from place i on that is of one of so many connections stands the place of that connection's next.
+-- Behind each entry from place i on that is of one of so many connections stands the place of that
+-- connection's next.
 abbrev pub AreLinked : List (Entry ServerNote) → ℕ → List ℕ → ℕ → Type 0
 AreLinked entries connections behind i =
-    (at c : ℕ) (e : Entry ServerNote) → i ≤ at → c < connections → slice_get entries at ≡ Some e → is_entry_of c e ≡ true
+    (at c : ℕ) (e : Entry ServerNote) → i ≤ at → c < connections → slice_get entries at ≡ Some e
+    → is_entry_of c e ≡ true
     → slice_index behind at ≡ place_from c entries (suc at)
 
--- The chains of the entries from place i on: each connection's first place, and behind each place the next.
-pub record AreChains (entries : List (Entry ServerNote)) (i : ℕ) (first behind : List ℕ) : Type 0 where
-  pub connections : length first ≡ accepted entries
-  pub places : length behind ≡ length entries
-  pub begins : (c : ℕ) → c < accepted entries → slice_index first c ≡ place_from c entries i
-  pub linked : AreLinked entries (accepted entries) behind i
+-- The chains of the entries from place i on: each connection's first place, and behind each place
+-- the next.
+pub record AreChains (entries : List (Entry ServerNote)) (i : ℕ) (first behind : List ℕ) : Type 0
+  where
+    pub connections : length first ≡ accepted entries
+    pub places : length behind ≡ length entries
+    pub begins : (c : ℕ) → c < accepted entries → slice_index first c ≡ place_from c entries i
+    pub linked : AreLinked entries (accepted entries) behind i
 
 abbrev pub ChainsFrom : List (Entry ServerNote) → ℕ → Chains → Type 0
 ChainsFrom entries i chains = AreChains entries i chains.first.items chains.behind.items

@@ -1,15 +1,16 @@
 //! Where the entries of each connection stand.
-ghost use Rattle.std.specs.Prelude.{◌≡◌, ◌<◌, ◌+◌, length, replicate, IfOk, MatchOption, Some, slice_index};
-ghost use Rattle.script_runs.specs.Connections.{accepted, accepts};
+ghost use Rattle.std.specs.Prelude.{◌≡◌, ◌<◌, ◌+◌, length, replicate, IfOk, MatchOption, Some};
+ghost use Rattle.std.specs.Prelude.{slice_index};
+ghost use Rattle.laws_script_runs.specs.Connections.{accepted, accepts};
 ghost use Rattle.grouped_lines.specs.Chains.{ChainsFrom, IsOfNone, conn_of, conn_of_note};
 
-use ev_types::NoMemory;
+use ev_base::NoMemory;
 use log_handler::ServerNote;
 use reactor_journal::Entry;
 use std::alloc::Global;
 
-/// The places of the entries that have lines of a connection: for each connection that was accepted its first, and behind each the next.
-/// Where there is none, the place is the end of the journal.
+/// The places of the entries that have lines of a connection: for each connection that was accepted
+/// its first, and behind each the next. Where there is none, the place is the end of the journal.
 #[derive(Drop)]
 pub(crate) struct Chains {
     first: Vec<usize>,
@@ -111,7 +112,8 @@ fn accepts(entry: &Entry<ServerNote>) -> bool
 
 /// The connection whose lines an entry has, where it is one of so many.
 fn conn_among(entry: &Entry<ServerNote>, connections: usize) -> Option<usize>
-    ensures { MatchOption result (IsOfNone connections entry.now) (λ conn. (conn_of entry.now ≡ Some conn) × (conn < connections)) }
+    ensures { MatchOption result (IsOfNone connections entry.now)
+        (λ conn. (conn_of entry.now ≡ Some conn) × (conn < connections)) }
 {
     match conn_of(entry) {
         Some(conn) if conn < connections as u64 => Some(conn as usize),

@@ -2,20 +2,20 @@
 ghost use Rattle.std.specs.Prelude.{◌≡◌, ◌<◌, length, OnOk, OnErr, IfOk};
 ghost use Rattle.sink_buffer.specs.Texts.{Puts};
 ghost use Rattle.sink_buffer.specs.Written.{WritesAll};
-ghost use Rattle.script_runs.specs.Connections.{lines_by_connection, lines_of};
+ghost use Rattle.laws_script_runs.specs.Connections.{lines_by_connection, lines_of};
 ghost use Rattle.grouped_lines.specs.Chains.{ChainsFrom};
 
 use crate::chains::Chains;
-use ev_base::Sink;
-use ev_types::NoMemory;
+use ev_base::{NoMemory, Sink};
 use log_handler::{ServerNote, put_entry_lines};
 use reactor_journal::Entry;
 use sink_buffer::{SinkBuffer, TextOut};
 use std::alloc::Global;
 
-/// Puts the lines of a journal's notes, connection after connection by rising number, those of each in the journal's order. The connections are
-/// as many as the journal tells as accepted, numbered from 0. It takes memory for a place of each entry and of each connection; for want of it
-/// nothing was put.
+/// Puts the lines of a journal's notes, connection after connection by rising number, those of each
+/// in the journal's order. The connections are as many as the journal tells as accepted, numbered
+/// from 0. It takes memory for a place of each entry and of each connection; for want of it nothing
+/// was put.
 pub fn put_by_connection<T: TextOut>(
     alloc: Global,
     out: &mut T,
@@ -56,14 +56,16 @@ fn put_one<T: TextOut>(out: &mut T, entries: &[Entry<ServerNote>], chains: &Chai
     }
 }
 
-/// Writes the lines of a journal's notes to a sink, as `put_by_connection` puts them, in few writes, and gives the sink back, and whether no
-/// write failed: where one did, it has a front of the lines. For want of memory nothing was written.
+/// Writes the lines of a journal's notes to a sink, as `put_by_connection` puts them, in few
+/// writes, and gives the sink back, and whether no write failed: where one did, it has a front of
+/// the lines. For want of memory nothing was written.
 pub fn write_by_connection<K: Sink>(
     alloc: Global,
     output: K,
     entries: &[Entry<ServerNote>],
 ) -> (K, Result<bool, NoMemory>)
-    ensures ok { IfOk result.1 (λ whole. WritesAll (K.facts output) (lines_by_connection entries.now) whole (K.facts result.0)) }
+    ensures ok { IfOk result.1 (λ whole. WritesAll (K.facts output)
+        (lines_by_connection entries.now) whole (K.facts result.0)) }
     ensures err { OnErr result.1 (result.0 ≡ output) }
 {
     let mut lines = SinkBuffer::new(output);

@@ -1,5 +1,5 @@
-//! The lines of a journal's notes, connection after connection (this project's own form of what the networked logging server of C++NPv2
-//! prints).
+//! The lines of a journal's notes, connection after connection (this project's own form of what the
+//! networked logging server of C++NPv2 prints).
 #![tactic(auto)]
 
 mod chains;

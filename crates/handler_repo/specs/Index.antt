@@ -1,9 +1,11 @@
--- How a repository keeps its map: an index in rising order of handle, whose keys name the places of a slab.
-use Rattle.std.specs.Prelude.{ℕ, ◌≡◌, ◌≢◌, ◌≤◌, ◌+◌, List, length, map, Option, All, AllPairs, unwrap_or}
+-- How a repository keeps its map: an index in rising order of handle, whose keys name the places of
+-- a slab.
+use Rattle.std.specs.Prelude.{ℕ, ◌≡◌, ◌≢◌, ◌≤◌, ◌+◌, List, length, map, Option, All, AllPairs}
+use Rattle.std.specs.Prelude.{unwrap_or}
 use Rattle.std.specs.Option.{option_map}
 use Rattle.std.specs.Mem.{manually_drop_value}
 use Rattle.std.specs.declared.mem.ManuallyDrop.{ManuallyDrop}
-use Rattle.sorted_handles.specs.Rising as R
+use Rattle.handle_search.specs.Rising as R
 use Rattle.slab.specs.Slab.{Slab, get, ContainsKey, slab_len}
 use Rattle.handler_repo.specs.declared.index.Registered.{Registered}
 use Rattle.handler_repo.specs.declared.seat.Seat.{Seat}
@@ -27,7 +29,8 @@ module _ {H : Type 0} where
   entries_of seats index = map (entry_at seats) index
 
   -- each registered key has a seat of its own, and both tables have room for so many more
-  pub record IsSound (seats : Slab (ManuallyDrop (Seat H))) (index : List Registered) (room spare : ℕ) : Type 0 where
+  pub record IsSound (seats : Slab (ManuallyDrop (Seat H))) (index : List Registered)
+      (room spare : ℕ) : Type 0 where
     pub rising : IsRising index
     pub present : All (λ r. ContainsKey seats r.key) index
     pub apart : AllPairs (λ r s. r.key ≢ s.key) index

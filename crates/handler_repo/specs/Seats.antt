@@ -1,6 +1,7 @@
--- What a contract sees of a handler repository: the map of handles to event handlers
--- (C++NPv2 section 3.3, `ACE_Select_Reactor_Handler_Repository`; POSA2, Reactor, "demultiplexing table").
-use Rattle.std.specs.Prelude.{ℕ, not, ◌==◌, nat_lt, List, [], ◌∷◌, if◌then◌else◌, filter, Option, Some, None}
+-- What a contract sees of a handler repository: the map of handles to event handlers (C++NPv2
+-- section 3.3, `ACE_Select_Reactor_Handler_Repository`; POSA2, Reactor, "demultiplexing table").
+use Rattle.std.specs.Prelude.{ℕ, not, ◌==◌, nat_lt, List, [], ◌∷◌, if◌then◌else◌, filter, Option}
+use Rattle.std.specs.Prelude.{Some, None}
 use Rattle.handler_repo.specs.declared.seat.Seat.{Seat}
 use Rattle.handler_repo.specs.declared.seat.Seat.TheVariants.{Home, Out}
 
@@ -34,7 +35,8 @@ module _ {H : Type 0} where
   -- the map with another seat at a handle that it has
   abbrev pub with_seat : ℕ → Seat H → List (Entry H) → List (Entry H)
   with_seat handle seat [] = []
-  with_seat handle seat (e ∷ rest) = if e.handle == handle then record e { seat = seat } ∷ rest else e ∷ with_seat handle seat rest
+  with_seat handle seat (e ∷ rest) =
+      if e.handle == handle then record e { seat = seat } ∷ rest else e ∷ with_seat handle seat rest
 
   -- the map without a handle
   abbrev pub without_handle : ℕ → List (Entry H) → List (Entry H)

@@ -1,11 +1,13 @@
-//! Cells: places of event handlers in memory, so that a handler which is taken out and given back stays where it is.
+//! Cells: places of event handlers in memory, so that a handler which is taken out and given back
+//! stays where it is.
 ghost use Rattle.std.specs.Prelude.{◌≡◌, None, IsSome};
 
 use ev_types::NoMemory;
 use std::alloc::{AllocFailed, Global};
 use std::marker::Model;
 
-/// An event handler in a cell of its own, so that to move it moves a pointer. A contract sees the handler.
+/// An event handler in a cell of its own, so that to move it moves a pointer. A contract sees the
+/// handler.
 pub struct Placed<H> {
     pub(crate) cell: Box<Option<H>>,
     ghost full: { IsSome cell.value },

@@ -4,7 +4,8 @@ ghost use Rattle.std.specs.Prelude.{◌≤◌, ◌+◌, OnOk, length, vec_capaci
 use crate::cell::Spare;
 use ev_types::NoMemory;
 
-/// Makes cells until there are so many. As many handlers as are said have cells that may come back: there is room for those too.
+/// Makes cells until there are so many. As many handlers as are said have cells that may come back:
+/// there is room for those too.
 pub(crate) fn add_cells<H>(
     cells: &mut Vec<Spare<H>>,
     filled: usize,

@@ -5,8 +5,8 @@ ghost use Rattle.handler_repo.specs.Index.{seat_at};
 
 use crate::seat::{Seat, kept};
 use ev_types::Handle;
+use handle_search::HasHandle;
 use slab::Slab;
-use sorted_handles::HasHandle;
 use std::mem;
 use std::mem::ManuallyDrop;
 
@@ -29,7 +29,8 @@ impl HasHandle for Registered {
 pub fn exchange<H>(seats: &mut Slab<ManuallyDrop<Seat<H>>>, key: usize, seat: Seat<H>) -> Seat<H>
     requires { ContainsKey seats.old key }
     ensures was { seat_at seats.old key ≡ Some result }
-    ensures now { (k : ℕ) → seat_at seats.new k ≡ (if k == key then Some seat else seat_at seats.old k) }
+    ensures now { (k : ℕ) → seat_at seats.new k ≡ (if k
+        == key then Some seat else seat_at seats.old k) }
     ensures len { slab_len seats.new ≡ slab_len seats.old }
     ensures capacity { seats.new.capacity ≡ seats.old.capacity }
 {

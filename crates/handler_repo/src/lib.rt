@@ -1,5 +1,5 @@
-//! The handler repository of a reactor (C++NPv2 section 3.3): it keeps each event handler by its handle, and
-//! hands one out while an upcall on it is open.
+//! The handler repository of a reactor (C++NPv2 section 3.3): it keeps each event handler by its
+//! handle, and hands one out while an upcall on it is open.
 #![tactic(auto)]
 
 mod cell;

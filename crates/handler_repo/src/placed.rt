@@ -1,5 +1,6 @@
 //! The handler repository whose handlers have cells.
-ghost use Rattle.std.specs.Prelude.{◌≡◌, ◌≤◌, ◌+◌, [], Some, None, OnOk, OnErr, IsOk, OnSome, IfNone, length, vec_capacity};
+ghost use Rattle.std.specs.Prelude.{◌≡◌, ◌≤◌, ◌+◌, [], Some, None, OnOk, OnErr, IsOk, OnSome};
+ghost use Rattle.std.specs.Prelude.{IfNone, length, vec_capacity};
 ghost use Rattle.handler_repo.specs.declared.seat.Seat.TheVariants.{Home, Out};
 ghost use Rattle.handler_repo.specs.Seats.{seat_of, home_of, with_entry, with_seat, without_handle};
 
@@ -10,10 +11,12 @@ use ev_types::{Handle, NoMemory};
 use std::alloc::Global;
 use std::marker::Model;
 
-/// A repository of event handlers, each of which has a cell of its own from `put` to `drop_out`: to take it out and to give it back
-/// moves a pointer. The cells of handlers that are gone are used again.
+/// A repository of event handlers, each of which has a cell of its own from `put` to `drop_out`: to
+/// take it out and to give it back moves a pointer. The cells of handlers that are gone are used
+/// again.
 ///
-/// A contract sees what it sees of a `Repo`. Only `reserve` takes memory. A repository is not dropped, and `close` wants it empty.
+/// A contract sees what it sees of a `Repo`. Only `reserve` takes memory. A repository is not
+/// dropped, and `close` wants it empty.
 pub struct PlacedRepo<H> {
     repo: Repo<Placed<H>>,
     // The cells that have no handler.
@@ -50,7 +53,8 @@ impl<H> PlacedRepo<H> {
         }
     }
 
-    /// Makes at least `n` places spare. It answers `NoMemory` only where fewer were spare, and then all is as before.
+    /// Makes at least `n` places spare. It answers `NoMemory` only where fewer were spare, and then
+    /// all is as before.
     pub fn reserve(&mut self, n: usize) -> Result<(), NoMemory>
         ensures entries { self.new.entries ≡ self.old.entries }
         ensures spare { OnOk result (n ≤ self.new.spare) }
@@ -71,7 +75,10 @@ impl<H> PlacedRepo<H> {
     pub fn put(&mut self, handle: Handle, h: H)
         requires room { 1 ≤ self.old.spare }
         requires absent { seat_of handle.0 self.old.entries ≡ None }
-        ensures entries { self.new.entries ≡ with_entry (record { handle = handle.0; seat = Home h }) self.old.entries }
+        ensures entries { self.new.entries ≡ with_entry (record {
+          handle = handle.0;
+          seat = Home h;
+        }) self.old.entries }
         ensures spare { self.new.spare + 1 ≡ self.old.spare }
     {
         let Some(cell) = self.cells.pop() else {
@@ -101,7 +108,8 @@ impl<H> PlacedRepo<H> {
         self.repo.give_back(handle, h);
     }
 
-    /// Forgets a handle that is out, and gives its place and its cell back. Its event handler, which goes for good, is answered.
+    /// Forgets a handle that is out, and gives its place and its cell back. Its event handler,
+    /// which goes for good, is answered.
     pub fn drop_out(&mut self, handle: Handle, h: Placed<H>) -> H
         requires { seat_of handle.0 self.old.entries ≡ Some Out }
         ensures handler { result ≡ h }

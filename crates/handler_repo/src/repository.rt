@@ -1,21 +1,22 @@
 //! The handler repository.
-ghost use Rattle.std.specs.Prelude.{◌≡◌, ◌≤◌, ◌+◌, [], Some, None, OnOk, OnErr, IsOk, OnSome, IfNone};
+ghost use Rattle.std.specs.Prelude.{◌≡◌, ◌≤◌, ◌+◌, [], Some, None, OnOk, OnErr, IsOk, OnSome};
+ghost use Rattle.std.specs.Prelude.{IfNone};
 ghost use Rattle.handler_repo.specs.declared.seat.Seat.TheVariants.{Home, Out};
 ghost use Rattle.handler_repo.specs.Seats.{seat_of, home_of, with_entry, with_seat, without_handle};
 
 use crate::index::{Registered, exchange};
 use crate::seat::{Seat, kept};
 use ev_types::{Handle, NoMemory};
+use handle_search::{first_from, place_of};
 use slab::Slab;
-use sorted_handles::{first_from, place_of};
 use std::alloc::Global;
 use std::marker::Model;
 use std::mem::ManuallyDrop;
 
 /// The event handlers of a reactor by their handles, each at home or out, and places for more.
 ///
-/// Only `reserve` takes memory. A handler that goes in comes out by `take`, so none is lost: a repository is
-/// not dropped, and `close` wants it empty.
+/// Only `reserve` takes memory. A handler that goes in comes out by `take`, so none is lost: a
+/// repository is not dropped, and `close` wants it empty.
 pub struct Repo<H> {
     seats: Slab<ManuallyDrop<Seat<H>>>,
     // In rising order of handle.
@@ -48,8 +49,8 @@ impl<H> Repo<H> {
         }
     }
 
-    /// Makes at least `n` places spare. It answers `NoMemory` only where fewer were spare, and then all is as
-    /// before.
+    /// Makes at least `n` places spare. It answers `NoMemory` only where fewer were spare, and then
+    /// all is as before.
     pub fn reserve(&mut self, n: usize) -> Result<(), NoMemory>
         ensures entries { self.new.entries ≡ self.old.entries }
         ensures spare { OnOk result (n ≤ self.new.spare) }
@@ -70,7 +71,10 @@ impl<H> Repo<H> {
     pub fn put(&mut self, handle: Handle, h: H)
         requires room { 1 ≤ self.old.spare }
         requires absent { seat_of handle.0 self.old.entries ≡ None }
-        ensures entries { self.new.entries ≡ with_entry (record { handle = handle.0; seat = Home h }) self.old.entries }
+        ensures entries { self.new.entries ≡ with_entry (record {
+          handle = handle.0;
+          seat = Home h;
+        }) self.old.entries }
         ensures spare { self.new.spare + 1 ≡ self.old.spare }
     {
         let place = first_from(&self.index, handle);
@@ -113,7 +117,8 @@ impl<H> Repo<H> {
         }
     }
 
-    /// Forgets a handle that is out, whose event handler is gone for good, and gives its place back.
+    /// Forgets a handle that is out, whose event handler is gone for good, and gives its place
+    /// back.
     pub fn drop_out(&mut self, handle: Handle)
         requires { seat_of handle.0 self.old.entries ≡ Some Out }
         ensures entries { self.new.entries ≡ without_handle handle.0 self.old.entries }

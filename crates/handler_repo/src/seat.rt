@@ -12,8 +12,8 @@ pub enum Seat<H> {
     Out,
 }
 
-// A seat as the slab keeps it. An event handler may not be dropped, and an empty slab is: each seat that goes
-// in comes out by `ManuallyDrop::into_inner`.
+// A seat as the slab keeps it. An event handler may not be dropped, and an empty slab is: each seat
+// that goes in comes out by `ManuallyDrop::into_inner`.
 pub(crate) fn kept<H>(seat: Seat<H>) -> ManuallyDrop<Seat<H>>
     ensures { manually_drop_value result ≡ seat }
 {

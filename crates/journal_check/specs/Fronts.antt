@@ -1,25 +1,33 @@
--- What the checker keeps beside a summary: the events that go first among those of their handles, where these may be
--- started, and the handles that wait for their close.
-use Rattle.std.specs.Prelude.{ℕ, ◌≡◌, ◌==◌, Bool, true, false, ◌&&◌, if◌then◌else◌, List, Option, Some, None, option_map}
+-- What the checker keeps beside a summary: the events that go first among those of their handles,
+-- where these may be started, and the handles that wait for their close.
+use Rattle.std.specs.Prelude.{ℕ, ◌≡◌, ◌==◌, Bool, true, false, ◌&&◌, if◌then◌else◌, List, Option}
+use Rattle.std.specs.Prelude.{Some, None, option_map}
 use Rattle.std.specs.List.{find}
-use Rattle.std.specs.Ordering.{is_eq}
+use Rattle.std.specs.Ordering.{is_eq, nat_cmp}
+use Rattle.std.specs.BTreeSet.{contains}
 use Rattle.ev_types.specs.declared.upcall.Handle.{Handle}
 use Rattle.reactor_journal.specs.Past.{class_of, is_timeout_of}
 use Rattle.reactor_journal.specs.declared.entry.Entry.{Entry}
-use Rattle.reactor_journal.specs.declared.entry.Entry.TheVariants.{Opened, Cancelled, Due, Ready, Posted, Started, Returned, Masked, Suspended, Resumed, Removed, Closed}
+use Rattle.reactor_journal.specs.declared.entry.Entry.TheVariants.{Opened, Cancelled, Due, Ready}
+use Rattle.reactor_journal.specs.declared.entry.Entry.TheVariants.{Posted, Started, Returned}
+use Rattle.reactor_journal.specs.declared.entry.Entry.TheVariants.{Masked, Suspended, Resumed}
+use Rattle.reactor_journal.specs.declared.entry.Entry.TheVariants.{Removed, Closed}
 use Rattle.reactor_summary.specs.declared.parts.ArmedTimer.{ArmedTimer}
 use Rattle.reactor_summary.specs.declared.parts.OpenEvent.{OpenEvent}
 use Rattle.reactor_summary.specs.declared.parts.WaitingEvent.{WaitingEvent}
-use Rattle.reactor_summary.specs.Summary.{Summary, else_, is_free, waits_for_closed, pick, armed_timer, open_event, waiting_event}
+use Rattle.reactor_summary.specs.Summary.{Summary, else_, is_free, waits_for_closed, pick}
+use Rattle.reactor_summary.specs.Summary.{armed_timer, open_event, waiting_event}
 use Rattle.reactor_summary.specs.Tells.{Each}
 use Rattle.journal_check.specs.Index.{pair_cmp}
+use Rattle.journal_check.specs.declared.checker.Checker.{Checker}
 
 -- the waiting event of a handle that goes first: the first of the first class that has one
 abbrev pub front_in : List WaitingEvent → ℕ → ℕ → Option WaitingEvent
 front_in ws x class = find (λ w. class_of w.upcall == class && x == w.handle.0) ws
 
 abbrev pub front : List WaitingEvent → ℕ → Option WaitingEvent
-front ws x = else_ (front_in ws x 0) (else_ (front_in ws x 1) (else_ (front_in ws x 2) (else_ (front_in ws x 3) (front_in ws x 4))))
+front ws x = else_ (front_in ws x 0)
+    (else_ (front_in ws x 1) (else_ (front_in ws x 2) (else_ (front_in ws x 3) (front_in ws x 4))))
 
 -- its class and number, where an event of the handle may be started
 abbrev pub key_of : WaitingEvent → ℕ × ℕ
@@ -33,6 +41,10 @@ pub record IsUpToDate (s : Summary) (fronts : ℕ × ℕ → Bool) (closing : �
   pub front : (k : ℕ × ℕ) → fronts k ≡ true → (x : ℕ) × (front_key s x ≡ Some k)
   pub has : (k : ℕ × ℕ) (x : ℕ) → front_key s x ≡ Some k → fronts k ≡ true
   pub waits : (x : ℕ) → closing x ≡ waits_for_closed s x
+
+-- a checker's two sets say what its summary says
+abbrev pub AreUpToDate : Checker → Type 0
+AreUpToDate c = IsUpToDate c.machine (contains pair_cmp c.fronts) (contains nat_cmp c.closing)
 
 -- the number of the event to be started next
 abbrev pub number_of : WaitingEvent → ℕ
@@ -53,7 +65,8 @@ waiting_handle w = w.handle
 
 abbrev pub IsAbout : {N : Type 0} → Summary → Entry N → Option Handle → Type 0
 IsAbout s (Opened handle mask) o = o ≡ Some handle
-IsAbout s (Cancelled timer) o = Each (λ w. is_timeout_of timer w.upcall ≡ true → o ≡ Some w.handle) s.waiting
+IsAbout s (Cancelled timer) o = Each (λ w. is_timeout_of timer w.upcall ≡ true → o ≡ Some w.handle)
+    s.waiting
 IsAbout s (Due timer) o = o ≡ option_map timer_handle (armed_timer s timer)
 IsAbout s (Ready handle kind) o = o ≡ Some handle
 IsAbout s (Posted handle kind from seq) o = o ≡ Some handle

@@ -6,15 +6,19 @@ use Rattle.journal_check.specs.Refusal.{RefusesAt}
 
 -- each front up to there is legal
 abbrev pub IsLegalBefore : Type 0 → Type 0
-IsLegalBefore N = (journal : List (Entry N)) (most at n : ℕ) → RefusesAt journal most at → n ≤ at → Legal (take n journal) most
+IsLegalBefore N = (journal : List (Entry N)) (most at n : ℕ) → RefusesAt journal most at → n ≤ at
+    → Legal (take n journal) most
 
 -- none beyond is, nor the journal
 abbrev pub IsIllegalBehind : Type 0 → Type 0
-IsIllegalBehind N = (journal : List (Entry N)) (most at n : ℕ) → RefusesAt journal most at → at < n → ¬ (Legal (take n journal) most)
+IsIllegalBehind N = (journal : List (Entry N)) (most at n : ℕ) → RefusesAt journal most at → at < n
+    → ¬ (Legal (take n journal) most)
 
 abbrev pub IsIllegalAsWhole : Type 0 → Type 0
-IsIllegalAsWhole N = (journal : List (Entry N)) (most at : ℕ) → RefusesAt journal most at → ¬ (Legal journal most)
+IsIllegalAsWhole N = (journal : List (Entry N)) (most at : ℕ) → RefusesAt journal most at
+    → ¬ (Legal journal most)
 
 -- so there is one such place
 abbrev pub RefusesOnce : Type 0 → Type 0
-RefusesOnce N = (journal : List (Entry N)) (most a b : ℕ) → RefusesAt journal most a → RefusesAt journal most b → a ≡ b
+RefusesOnce N = (journal : List (Entry N)) (most a b : ℕ) → RefusesAt journal most a
+    → RefusesAt journal most b → a ≡ b

@@ -8,3 +8,5 @@ pub mod Sound
 pub mod Next
 pub mod Refusal
 pub mod Laws
+pub use Rattle.reactor_journal
+pub use Rattle.reactor_summary

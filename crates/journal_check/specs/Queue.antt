@@ -1,5 +1,7 @@
--- The index of the waiting events: each is found by its number, by its handle and class, and by its timer.
-use Rattle.std.specs.Prelude.{ℕ, ◌≡◌, ◌<◌, ◌≤◌, ◌+◌, ◌*◌, ◌^◌, ◌==◌, nat_lt, nat_le, Bool, true, false, ◌&&◌, ◌||◌, if◌then◌else◌, List, Option, Some, None}
+-- The index of the waiting events: each is found by its number, by its handle and class, and by its
+-- timer.
+use Rattle.std.specs.Prelude.{ℕ, ◌≡◌, ◌<◌, ◌≤◌, ◌+◌, ◌*◌, ◌^◌, ◌==◌, nat_lt, nat_le, Bool, true}
+use Rattle.std.specs.Prelude.{false, ◌&&◌, ◌||◌, if◌then◌else◌, List, Option, Some, None}
 use Rattle.std.specs.List.{find, list_any}
 use Rattle.std.specs.List.Sorted.{IsStrictlySortedBy}
 use Rattle.std.specs.Map.{keys_of, values_of}
@@ -36,7 +38,8 @@ abbrev pub timer_key : WaitingEvent → Option ℕ
 timer_key w = timer_of w.upcall
 
 -- the set has a lane, or timer, with the number of an event exactly where that event waits
-pub record Finds (key : WaitingEvent → Option ℕ) (has : ℕ × ℕ → Bool) (xs : List WaitingEvent) : Type 0 where
+pub record Finds (key : WaitingEvent → Option ℕ) (has : ℕ × ℕ → Bool)
+    (xs : List WaitingEvent) : Type 0 where
   pub at : (n i : ℕ) → has (n, i) ≡ list_any (λ w. is_num n (key w) && w.event == i) xs
 
 pub record IsQueued (es : List (ℕ × WaitingEvent)) (lanes timers : ℕ × ℕ → Bool) : Type 0 where
@@ -64,7 +67,8 @@ pub record IsOne (p : WaitingEvent → Bool) (i : ℕ) (xs : List WaitingEvent) 
 
 -- whether an event goes before another, or is it: by class, and in one class by number
 abbrev pub goes_first : WaitingEvent → WaitingEvent → Bool
-goes_first a b = nat_lt (class_of a.upcall) (class_of b.upcall) || (class_of a.upcall == class_of b.upcall && nat_le a.event b.event)
+goes_first a b = nat_lt (class_of a.upcall) (class_of b.upcall)
+    || (class_of a.upcall == class_of b.upcall && nat_le a.event b.event)
 
 -- the event of the handle that goes first
 pub record IsFirstOf (x : ℕ) (xs : List WaitingEvent) (a : WaitingEvent) : Type 0 where
@@ -79,11 +83,13 @@ IsFront x xs (Some a) = IsFirstOf x xs a
 -- a set with one key more, or less, where there is one
 abbrev pub Gains : Option ℕ → ℕ → (ℕ × ℕ → Bool) → (ℕ × ℕ → Bool) → Type 0
 Gains None i has later = (q : ℕ × ℕ) → later q ≡ has q
-Gains (Some n) i has later = (q : ℕ × ℕ) → later q ≡ (if is_eq (pair_cmp (n, i) q) then true else has q)
+Gains (Some n) i has later = (q : ℕ × ℕ)
+    → later q ≡ (if is_eq (pair_cmp (n, i) q) then true else has q)
 
 abbrev pub Loses : Option ℕ → ℕ → (ℕ × ℕ → Bool) → (ℕ × ℕ → Bool) → Type 0
 Loses None i has later = (q : ℕ × ℕ) → later q ≡ has q
-Loses (Some n) i has later = (q : ℕ × ℕ) → later q ≡ (if is_eq (pair_cmp (n, i) q) then false else has q)
+Loses (Some n) i has later = (q : ℕ × ℕ)
+    → later q ≡ (if is_eq (pair_cmp (n, i) q) then false else has q)
 
 -- the timeouts of a timer are of one handle
 pub record IsOwned (timer : ℕ) (xs : List WaitingEvent) : Type 0 where

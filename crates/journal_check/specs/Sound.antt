@@ -1,6 +1,8 @@
--- What holds of the summary of each legal journal, and what one more entry makes of it but for the number of entries.
+-- What holds of the summary of each legal journal, and what one more entry makes of it but for the
+-- number of entries.
 use Rattle.std.specs.List.{list_any}
-use Rattle.std.specs.Prelude.{ℕ, ◌≡◌, ◌<◌, ◌≤◌, ◌==◌, Bool, true, false, not, ◌++◌, filter, Option, Some}
+use Rattle.std.specs.Prelude.{ℕ, ◌≡◌, ◌<◌, ◌≤◌, ◌==◌, Bool, true, false, not, ◌++◌, filter, Option}
+use Rattle.std.specs.Prelude.{Some}
 use Rattle.reactor_journal.specs.declared.entry.Entry.{Entry}
 use Rattle.reactor_journal.specs.declared.entry.Entry.TheVariants.{Polled, Started, Ended}
 use Rattle.reactor_summary.specs.declared.parts.OpenEvent.{OpenEvent}
@@ -15,9 +17,9 @@ use Rattle.journal_check.specs.Queue.{IsOwned}
 abbrev pub AreEarlier : Summary → Type 0
 AreEarlier s = Each (λ w. w.event < s.entries) s.waiting
 
--- the numbers of its waiting events rise and are those of entries, their timers are not armed, and no timer is armed
--- that was not set; its handles were opened, the timeouts of a timer are of one handle, no waiting event is open, and
--- no two open events have one number
+-- the numbers of its waiting events rise and are those of entries, their timers are not armed, and
+-- no timer is armed that was not set; its handles were opened, the timeouts of a timer are of one
+-- handle, no waiting event is open, and no two open events have one number
 pub record IsSound (s : Summary) : Type 0 where
   pub event : ℕ → Option WaitingEvent
   pub bound : ℕ
@@ -36,7 +38,8 @@ pub record IsSound (s : Summary) : Type 0 where
 abbrev pub after : {N : Type 0} → Summary → Entry N → Summary
 after s e = record (S.step s e) { entries = s.entries }
 
--- the event is started: it waits no more, is open from then on, and a periodic timer that came due is armed again
+-- the event is started: it waits no more, is open from then on, and a periodic timer that came due
+-- is armed again
 abbrev pub started : Summary → WaitingEvent → Summary
 started s w = record s {
   waiting = filter (λ v. not (w.event == v.event)) s.waiting;
@@ -44,8 +47,8 @@ started s w = record s {
   armed = S.with_next s.moment w.handle w.due s.armed;
 }
 
--- whether the case of the entry can be told without the event to be started next and the handles that wait for their
--- close
+-- whether the case of the entry can be told without the event to be started next and the handles
+-- that wait for their close
 abbrev pub is_alone : {N : Type 0} → Entry N → Bool
 is_alone (Started event) = false
 is_alone (Polled moment) = false

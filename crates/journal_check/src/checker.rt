@@ -1,13 +1,15 @@
-//! The summary of the entries that were read, with what is to be started next and which handles wait for their close.
+//! The summary of the entries that were read, with what is to be started next and which handles
+//! wait for their close.
 
-ghost use Rattle.std.specs.Prelude.{◌≡◌, ◌<◌, ◌+◌, ◌^◌, [], true, false, Some, OnOk, ℕ, if◌then◌else◌};
+ghost use Rattle.std.specs.Prelude.{◌≡◌, ◌<◌, ◌+◌, ◌^◌, [], true, false, Some, OnOk, ℕ};
+ghost use Rattle.std.specs.Prelude.{if◌then◌else◌};
 ghost use Rattle.std.specs.BTreeSet.{contains};
 ghost use Rattle.std.specs.Ordering.{nat_cmp, is_eq};
 ghost use Rattle.reactor_journal.specs.declared.entry.Entry.{Entry};
 ghost use Rattle.reactor_summary.specs.Summary as S;
 ghost use Rattle.reactor_summary.specs.Rules as R;
 ghost use Rattle.journal_check.specs.Fronts as K;
-ghost use Rattle.journal_check.specs.Fronts.{IsUpToDate};
+ghost use Rattle.journal_check.specs.Fronts.{AreUpToDate};
 ghost use Rattle.journal_check.specs.Index.{pair_cmp};
 ghost use Rattle.journal_check.specs.Next.{IsNext};
 ghost use Rattle.journal_check.specs.Small.{IsSmall};
@@ -19,8 +21,8 @@ use reactor_journal::Entry;
 use std::alloc::Global;
 use std::collections::BTreeSet;
 
-/// The summary, the class and number of the event that goes first of each handle that is free, and the handles that
-/// wait for their close.
+/// The summary, the class and number of the event that goes first of each handle that is free, and
+/// the handles that wait for their close.
 #[derive(Drop)]
 pub struct Checker {
     pub machine: Machine,
@@ -64,7 +66,9 @@ fn replace_key(
     before: Option<(u128, u64)>,
     after: Option<(u128, u64)>,
 ) -> Result<(), NoMemory>
-    ensures { ((key : ℕ × ℕ) → before ≡ Some key → contains pair_cmp keys.old key ≡ true) → OnOk result (K.Replaces before after (contains pair_cmp keys.old) (contains pair_cmp keys.new)) }
+    ensures { ((key : ℕ × ℕ) → before ≡ Some key → contains pair_cmp keys.old key ≡ true)
+        → OnOk result (K.Replaces before after (contains pair_cmp keys.old)
+        (contains pair_cmp keys.new)) }
 {
     if is_same(before, after) {
         return Ok(());
@@ -75,7 +79,8 @@ fn replace_key(
 
 /// Puts a handle in or takes it out.
 fn mark(handles: &mut BTreeSet<u64>, handle: Handle, there: bool) -> Result<(), NoMemory>
-    ensures { OnOk result ((x : ℕ) → contains nat_cmp handles.new x ≡ (if is_eq (nat_cmp handle.0 x) then there else contains nat_cmp handles.old x)) }
+    ensures { OnOk result ((x : ℕ) → contains nat_cmp handles.new x
+        ≡ (if is_eq (nat_cmp handle.0 x) then there else contains nat_cmp handles.old x)) }
 {
     if there {
         handles.insert(handle.0)?;
@@ -92,7 +97,9 @@ fn mark_changed(
     before: bool,
     after: bool,
 ) -> Result<(), NoMemory>
-    ensures { contains nat_cmp handles.old handle.0 ≡ before → OnOk result ((x : ℕ) → contains nat_cmp handles.new x ≡ (if is_eq (nat_cmp handle.0 x) then after else contains nat_cmp handles.old x)) }
+    ensures { contains nat_cmp handles.old handle.0 ≡ before
+        → OnOk result ((x : ℕ) → contains nat_cmp handles.new x
+        ≡ (if is_eq (nat_cmp handle.0 x) then after else contains nat_cmp handles.old x)) }
 {
     if before == after {
         return Ok(());
@@ -104,7 +111,7 @@ impl Checker {
     /// That of no entries.
     pub fn new(alloc: Global) -> Checker
         ensures machine { result.machine ≡ S.nothing }
-        ensures index { IsUpToDate result.machine (contains pair_cmp result.fronts) (contains nat_cmp result.closing) }
+        ensures index { AreUpToDate result }
     {
         Checker {
             machine: Machine::new(alloc),
@@ -115,7 +122,8 @@ impl Checker {
 
     /// The number of the event to be started next.
     fn pick(&self) -> Option<u64>
-        ensures { IsUpToDate self.now.machine (contains pair_cmp self.now.fronts) (contains nat_cmp self.now.closing) → IsSound self.now.machine → result ≡ K.pick_number self.now.machine }
+        ensures { AreUpToDate self.now → IsSound self.now.machine
+            → result ≡ K.pick_number self.now.machine }
     {
         match self.fronts.first() {
             Some(key) => Some(key.1),
@@ -125,7 +133,7 @@ impl Checker {
 
     /// Whether some handle waits for its close.
     fn some_wait(&self) -> bool
-        ensures { IsUpToDate self.now.machine (contains pair_cmp self.now.fronts) (contains nat_cmp self.now.closing) → result ≡ S.some_wait self.now.machine }
+        ensures { AreUpToDate self.now → result ≡ S.some_wait self.now.machine }
     {
         match self.closing.first() {
             Some(_) => true,
@@ -133,10 +141,11 @@ impl Checker {
         }
     }
 
-    /// Whether the entry may follow. `due` says whether a timer may come due now, and `ready` whether a report may
-    /// come now.
+    /// Whether the entry may follow. `due` says whether a timer may come due now, and `ready`
+    /// whether a report may come now.
     pub fn may_follow<N>(&self, due: bool, ready: bool, entry: &Entry<N>, most: u64) -> bool
-        ensures { IsUpToDate self.now.machine (contains pair_cmp self.now.fronts) (contains nat_cmp self.now.closing) → IsSound self.now.machine → result ≡ R.may_follow most due ready self.now.machine entry.now }
+        ensures { AreUpToDate self.now → IsSound self.now.machine
+            → result ≡ R.may_follow most due ready self.now.machine entry.now }
     {
         let pick = self.pick();
         let waits = self.some_wait();
@@ -146,9 +155,14 @@ impl Checker {
 
     fn step_at<N>(&mut self, handle: Handle, entry: &Entry<N>) -> Result<(), NoMemory>
         requires small { IsSmall self.old.machine }
-        requires due { (timer : ℕ) → entry.now ≡ Entry.Due timer → S.is_first_due self.old.machine timer ≡ true }
-        ensures machine { IsSound self.old.machine → IsNext self.old.machine entry.now → OnOk result (self.new.machine ≡ S.step self.old.machine entry.now) }
-        ensures index { IsUpToDate self.old.machine (contains pair_cmp self.old.fronts) (contains nat_cmp self.old.closing) → IsSound self.old.machine → IsNext self.old.machine entry.now → IsSound (S.step self.old.machine entry.now) → K.IsAbout self.old.machine entry.now (Some handle) → OnOk result (IsUpToDate self.new.machine (contains pair_cmp self.new.fronts) (contains nat_cmp self.new.closing)) }
+        requires due { (timer : ℕ) → entry.now ≡ Entry.Due timer
+            → S.is_first_due self.old.machine timer ≡ true }
+        ensures machine { IsSound self.old.machine → IsNext self.old.machine entry.now
+            → OnOk result (self.new.machine ≡ S.step self.old.machine entry.now) }
+        ensures index { AreUpToDate self.old → IsSound self.old.machine
+            → IsNext self.old.machine entry.now → IsSound (S.step self.old.machine entry.now)
+            → K.IsAbout self.old.machine entry.now (Some handle)
+            → OnOk result (AreUpToDate self.new) }
     {
         let before = self.machine.front_key(handle);
         let waited = self.machine.waits(handle);
@@ -162,9 +176,13 @@ impl Checker {
     /// Reads one more entry, which may follow.
     pub fn step<N>(&mut self, entry: &Entry<N>) -> Result<(), NoMemory>
         requires small { IsSmall self.old.machine }
-        requires due { (timer : ℕ) → entry.now ≡ Entry.Due timer → S.is_first_due self.old.machine timer ≡ true }
-        ensures machine { IsSound self.old.machine → IsNext self.old.machine entry.now → OnOk result (self.new.machine ≡ S.step self.old.machine entry.now) }
-        ensures index { IsUpToDate self.old.machine (contains pair_cmp self.old.fronts) (contains nat_cmp self.old.closing) → IsSound self.old.machine → IsNext self.old.machine entry.now → IsSound (S.step self.old.machine entry.now) → OnOk result (IsUpToDate self.new.machine (contains pair_cmp self.new.fronts) (contains nat_cmp self.new.closing)) }
+        requires due { (timer : ℕ) → entry.now ≡ Entry.Due timer
+            → S.is_first_due self.old.machine timer ≡ true }
+        ensures machine { IsSound self.old.machine → IsNext self.old.machine entry.now
+            → OnOk result (self.new.machine ≡ S.step self.old.machine entry.now) }
+        ensures index { AreUpToDate self.old → IsSound self.old.machine
+            → IsNext self.old.machine entry.now → IsSound (S.step self.old.machine entry.now)
+            → OnOk result (AreUpToDate self.new) }
     {
         match self.machine.about(entry) {
             None => self.machine.step(entry),

@@ -1,6 +1,7 @@
 //! The live handles, by number.
 
-ghost use Rattle.std.specs.Prelude.{◌≡◌, ◌<◌, ◌==◌, ◌&&◌, ◌++◌, ◌∷◌, [], not, map, filter, true, false, OnOk, ℕ, List, Bool, None, IfSome, if◌then◌else◌};
+ghost use Rattle.std.specs.Prelude.{◌≡◌, ◌<◌, ◌==◌, ◌&&◌, ◌++◌, ◌∷◌, [], not, map, filter, true};
+ghost use Rattle.std.specs.Prelude.{false, OnOk, ℕ, List, Bool, None, IfSome, if◌then◌else◌};
 ghost use Rattle.std.specs.List.{list_any};
 ghost use Rattle.std.specs.Map.{values_of};
 ghost use Rattle.reactor_journal.specs.Past as P;
@@ -40,7 +41,8 @@ impl Handles {
     }
 
     fn get(&self, handle: Handle) -> Option<LiveHandle>
-        ensures asked { (q : LiveHandle → Bool) → list_any (λ h. h.handle.0 == handle.0 && q h) self.now ≡ passes q result }
+        ensures asked { (q : LiveHandle → Bool) → list_any (λ h. h.handle.0 == handle.0 && q h)
+            self.now ≡ passes q result }
         ensures found { IfSome result (IsTheOne handle.0 self.now) }
         ensures none { result ≡ None → list_any (λ h. handle.0 == h.handle.0) self.now ≡ false }
     {
@@ -59,7 +61,8 @@ impl Handles {
 
     /// Whether it is alive and suspended.
     pub fn is_suspended(&self, handle: Handle) -> bool
-        ensures { result ≡ list_any (λ h. h.handle.0 == handle.0 && (h.alive && h.suspended)) self.now }
+        ensures { result ≡ list_any (λ h. h.handle.0 == handle.0 && (h.alive && h.suspended))
+            self.now }
     {
         match self.get(handle) {
             Some(h) => h.alive && h.suspended,
@@ -69,7 +72,8 @@ impl Handles {
 
     /// Whether it is alive and not suspended.
     pub fn is_resumed(&self, handle: Handle) -> bool
-        ensures { result ≡ list_any (λ h. h.handle.0 == handle.0 && (h.alive && not h.suspended)) self.now }
+        ensures { result ≡ list_any (λ h. h.handle.0 == handle.0 && (h.alive && not h.suspended))
+            self.now }
     {
         match self.get(handle) {
             Some(h) => h.alive && !h.suspended,
@@ -79,7 +83,8 @@ impl Handles {
 
     /// Whether it is alive and wants reports of the kind.
     pub fn is_wanted(&self, handle: Handle, kind: Kind) -> bool
-        ensures { result ≡ list_any (λ h. h.handle.0 == handle.0 && (h.alive && P.has_kind h.mask kind)) self.now }
+        ensures { result ≡ list_any (λ h. h.handle.0 == handle.0
+            && (h.alive && P.has_kind h.mask kind)) self.now }
     {
         match self.get(handle) {
             Some(h) => h.alive && has_kind(h.mask, kind),
@@ -99,7 +104,8 @@ impl Handles {
 
     /// Adds a handle. After an Err nothing changed.
     pub fn push(&mut self, h: LiveHandle) -> Result<(), NoMemory>
-        ensures { Each (λ g. g.handle.0 < h.handle.0) self.old → OnOk result (self.new ≡ self.old ++ h ∷ []) }
+        ensures { Each (λ g. g.handle.0 < h.handle.0) self.old
+            → OnOk result (self.new ≡ self.old ++ h ∷ []) }
     {
         self.live.insert(h.handle.0, h)?;
         Ok(())

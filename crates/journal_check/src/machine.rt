@@ -1,6 +1,7 @@
 //! The summary of the entries that were read, and what it says of the next one.
 
-ghost use Rattle.std.specs.Prelude.{◌≡◌, ◌==◌, not, if◌then◌else◌, ◌&&◌, ◌||◌, ◌<◌, ◌+◌, ◌^◌, ◌++◌, ◌∷◌, [], true, false, None, Some, OnOk, ℕ, List};
+ghost use Rattle.std.specs.Prelude.{◌≡◌, ◌==◌, not, if◌then◌else◌, ◌&&◌, ◌||◌, ◌<◌, ◌+◌, ◌^◌, ◌++◌};
+ghost use Rattle.std.specs.Prelude.{◌∷◌, [], true, false, None, Some, OnOk, ℕ, List};
 ghost use Rattle.reactor_journal.specs.declared.entry.Entry.{Entry};
 ghost use Rattle.reactor_summary.specs.Summary as S;
 ghost use Rattle.reactor_summary.specs.Summary.{Summary};
@@ -50,7 +51,19 @@ impl Model for Machine {
 
     ghost Value = { Summary };
 
-    ghost view = { λ m. record { entries = m.entries; moment = m.moment; opened = m.opened; closed = m.closed; scheduled = m.scheduled; refused = m.refused; ended = m.ended; handles = m.handles; waiting = m.waiting; opens = m.opens; armed = m.armed } };
+    ghost view = { λ m. record {
+      entries = m.entries;
+      moment = m.moment;
+      opened = m.opened;
+      closed = m.closed;
+      scheduled = m.scheduled;
+      refused = m.refused;
+      ended = m.ended;
+      handles = m.handles;
+      waiting = m.waiting;
+      opens = m.opens;
+      armed = m.armed;
+    } };
 }
 
 impl Machine {
@@ -92,7 +105,8 @@ impl Machine {
     }
 
     fn may_refuse(&self, live: u64, fault: bool, most: u64) -> bool
-        ensures { result ≡ (live == R.live self.now && (R.live self.now == most || (self.now.opened == F.most_handles || (fault || self.now.ended)))) }
+        ensures { result ≡ (live == R.live self.now && (R.live self.now == most
+            || (self.now.opened == F.most_handles || (fault || self.now.ended)))) }
     {
         live == self.live()
             && (self.live() == most || (self.opened == MOST_HANDLES || (fault || self.ended)))
@@ -146,7 +160,8 @@ impl Machine {
         entry: &Entry<N>,
         most: u64,
     ) -> bool
-        ensures { pick ≡ K.pick_number self.now → waits ≡ S.some_wait self.now → result ≡ R.fits most due ready self.now entry.now }
+        ensures { pick ≡ K.pick_number self.now → waits ≡ S.some_wait self.now
+            → result ≡ R.fits most due ready self.now entry.now }
     {
         match entry {
             Entry::Started { event } => self.may_begin(is_number(pick, *event), waits),
@@ -156,8 +171,9 @@ impl Machine {
         }
     }
 
-    /// Whether the entry may follow. `due` says whether a timer may come due now, and `ready` whether a report may
-    /// come now; `pick` is the event to be started next, and `waits` says whether some handle waits for its close.
+    /// Whether the entry may follow. `due` says whether a timer may come due now, and `ready`
+    /// whether a report may come now; `pick` is the event to be started next, and `waits` says
+    /// whether some handle waits for its close.
     pub fn may_follow<N>(
         &self,
         due: bool,
@@ -167,7 +183,8 @@ impl Machine {
         entry: &Entry<N>,
         most: u64,
     ) -> bool
-        ensures { pick ≡ K.pick_number self.now → waits ≡ S.some_wait self.now → result ≡ R.may_follow most due ready self.now entry.now }
+        ensures { pick ≡ K.pick_number self.now → waits ≡ S.some_wait self.now
+            → result ≡ R.may_follow most due ready self.now entry.now }
     {
         (winds_up(entry) || !self.ended) && self.fits(due, ready, pick, waits, entry, most)
     }
@@ -226,7 +243,12 @@ impl Machine {
         upcall: Upcall,
         due: Option<DueTimer>,
     ) -> Result<(), NoMemory>
-        ensures { AreEarlier self.old → OnOk result (self.new ≡ record self.old { waiting = self.old.waiting ++ record { event = self.old.entries; handle = handle; upcall = upcall; due = due } ∷ [] }) }
+        ensures { AreEarlier self.old → OnOk result (self.new
+            ≡ record self.old {
+              waiting = self.old.waiting
+                  ++ record { event = self.old.entries; handle = handle; upcall = upcall; due = due }
+                  ∷ [];
+            }) }
     {
         let event = self.entries;
         self.waiting.push(WaitingEvent {
@@ -239,7 +261,8 @@ impl Machine {
 
     fn open(&mut self, handle: Handle, mask: Mask) -> Result<(), NoMemory>
         requires { self.old.opened + 1 < 2 ^ 64 }
-        ensures { Each (λ h. h.handle.0 < handle.0) self.old.handles → OnOk result (self.new ≡ after {N = ℕ} self.old (Entry.Opened handle mask)) }
+        ensures { Each (λ h. h.handle.0 < handle.0) self.old.handles
+            → OnOk result (self.new ≡ after {N = ℕ} self.old (Entry.Opened handle mask)) }
     {
         self.handles.push(LiveHandle {
             handle,
@@ -259,7 +282,8 @@ impl Machine {
         every: u64,
     ) -> Result<(), NoMemory>
         requires { self.old.scheduled + 1 < 2 ^ 64 }
-        ensures { S.is_armed self.old timer ≡ false → OnOk result (self.new ≡ after {N = ℕ} self.old (Entry.Scheduled timer handle first every)) }
+        ensures { S.is_armed self.old timer ≡ false → OnOk result
+            (self.new ≡ after {N = ℕ} self.old (Entry.Scheduled timer handle first every)) }
     {
         self.armed.arm(ArmedTimer {
             deadline: first as u128,
@@ -273,7 +297,8 @@ impl Machine {
 
     fn come_due(&mut self, timer: u64) -> Result<(), NoMemory>
         requires { S.is_first_due self.old timer ≡ true }
-        ensures { AreEarlier self.old → OnOk result (self.new ≡ after {N = ℕ} self.old (Entry.Due timer)) }
+        ensures { AreEarlier self.old → OnOk result (self.new
+            ≡ after {N = ℕ} self.old (Entry.Due timer)) }
     {
         let first = self.armed.first_due(self.moment, timer);
         self.armed.disarm(timer);
@@ -298,7 +323,10 @@ impl Machine {
     }
 
     fn begin(&mut self, w: WaitingEvent) -> Result<(), NoMemory>
-        ensures { is_idle w.due self.old.armed ≡ true → list_any (λ o. w.event == o.event) self.old.opens ≡ false → S.is_busy self.old w.handle.0 ≡ false → OnOk result (self.new ≡ L.started self.old w) }
+        ensures { is_idle w.due self.old.armed ≡ true
+            → list_any (λ o. w.event == o.event) self.old.opens ≡ false
+            → S.is_busy self.old w.handle.0 ≡ false
+            → OnOk result (self.new ≡ L.started self.old w) }
     {
         self.waiting.take(w.event);
         self.armed.arm_again(self.moment, w.handle, w.due)?;
@@ -312,7 +340,8 @@ impl Machine {
     }
 
     fn start(&mut self, event: u64) -> Result<(), NoMemory>
-        ensures { IsSound self.old → S.is_pick self.old event ≡ true → OnOk result (self.new ≡ after {N = ℕ} self.old (Entry.Started event)) }
+        ensures { IsSound self.old → S.is_pick self.old event ≡ true
+            → OnOk result (self.new ≡ after {N = ℕ} self.old (Entry.Started event)) }
     {
         match self.waiting.find(event) {
             None => Ok(()),
@@ -337,7 +366,8 @@ impl Machine {
 
     /// Adds an event that asks for the same upcall once more, where the handle is alive.
     fn once_more(&mut self, o: OpenEvent) -> Result<(), NoMemory>
-        ensures { AreEarlier self.old → OnOk result (self.new ≡ record self.old { waiting = self.old.waiting ++ S.waiting_again self.old (Some o) }) }
+        ensures { AreEarlier self.old → OnOk result (self.new
+            ≡ record self.old { waiting = self.old.waiting ++ S.waiting_again self.old (Some o) }) }
     {
         if self.handles.is_alive(o.handle) {
             self.report(o.handle, o.upcall, None)
@@ -347,7 +377,8 @@ impl Machine {
     }
 
     fn settle_again(&mut self, event: u64) -> Result<(), NoMemory>
-        ensures { AreEarlier self.old → OnOk result (self.new ≡ after {N = ℕ} self.old (Entry.Returned event Answer.Again 0)) }
+        ensures { AreEarlier self.old → OnOk result (self.new
+            ≡ after {N = ℕ} self.old (Entry.Returned event Answer.Again 0)) }
     {
         let found = self.opens.find(event);
         self.opens.settle(event);
@@ -370,7 +401,8 @@ impl Machine {
     }
 
     fn settle(&mut self, event: u64, answer: Answer) -> Result<(), NoMemory>
-        ensures { AreEarlier self.old → OnOk result (self.new ≡ after {N = ℕ} self.old (Entry.Returned event answer 0)) }
+        ensures { AreEarlier self.old → OnOk result (self.new
+            ≡ after {N = ℕ} self.old (Entry.Returned event answer 0)) }
     {
         match answer {
             Answer::Keep => {
@@ -391,7 +423,8 @@ impl Machine {
         requires closed { self.old.closed + 1 < 2 ^ 64 }
         requires scheduled { self.old.scheduled + 1 < 2 ^ 64 }
         requires refused { self.old.refused + 1 < 2 ^ 64 }
-        requires due { (timer : ℕ) → entry.now ≡ Entry.Due timer → S.is_first_due self.old timer ≡ true }
+        requires due { (timer : ℕ) → entry.now ≡ Entry.Due timer
+            → S.is_first_due self.old timer ≡ true }
         requires other { (event : ℕ) → entry.now ≡ Entry.Started event → ⊥ }
         ensures { IsNew self.old entry.now → OnOk result (self.new ≡ after self.old entry.now) }
     {
@@ -457,8 +490,10 @@ impl Machine {
         requires closed { self.old.closed + 1 < 2 ^ 64 }
         requires scheduled { self.old.scheduled + 1 < 2 ^ 64 }
         requires refused { self.old.refused + 1 < 2 ^ 64 }
-        requires due { (timer : ℕ) → entry.now ≡ Entry.Due timer → S.is_first_due self.old timer ≡ true }
-        ensures { IsSound self.old → IsNext self.old entry.now → OnOk result (self.new ≡ after self.old entry.now) }
+        requires due { (timer : ℕ) → entry.now ≡ Entry.Due timer
+            → S.is_first_due self.old timer ≡ true }
+        ensures { IsSound self.old → IsNext self.old entry.now
+            → OnOk result (self.new ≡ after self.old entry.now) }
     {
         match entry {
             Entry::Started { event } => self.start(*event),
@@ -475,8 +510,10 @@ impl Machine {
     /// Reads one more entry, which may follow.
     pub fn step<N>(&mut self, entry: &Entry<N>) -> Result<(), NoMemory>
         requires small { IsSmall self.old }
-        requires due { (timer : ℕ) → entry.now ≡ Entry.Due timer → S.is_first_due self.old timer ≡ true }
-        ensures { IsSound self.old → IsNext self.old entry.now → OnOk result (self.new ≡ S.step self.old entry.now) }
+        requires due { (timer : ℕ) → entry.now ≡ Entry.Due timer
+            → S.is_first_due self.old timer ≡ true }
+        ensures { IsSound self.old → IsNext self.old entry.now
+            → OnOk result (self.new ≡ S.step self.old entry.now) }
     {
         let entries = self.entries + 1;
         self.change(entry)?;

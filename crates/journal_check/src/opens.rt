@@ -1,6 +1,7 @@
 //! The open events, in the order in which they were started.
 
-ghost use Rattle.std.specs.Prelude.{◌≡◌, ◌<◌, ◌+◌, ◌^◌, ◌==◌, ◌++◌, ◌∷◌, [], not, filter, false, OnOk, ℕ, List, option_map};
+ghost use Rattle.std.specs.Prelude.{◌≡◌, ◌<◌, ◌+◌, ◌^◌, ◌==◌, ◌++◌, ◌∷◌, [], not, filter, false};
+ghost use Rattle.std.specs.Prelude.{OnOk, ℕ, List, option_map};
 ghost use Rattle.std.specs.List.{list_any, find};
 ghost use Rattle.std.specs.Map.{values_of};
 ghost use Rattle.number_map.specs.Content.{found};
@@ -14,8 +15,8 @@ use reactor_summary::OpenEvent;
 use std::alloc::Global;
 use std::marker::Model;
 
-/// The open events by the number of their start. The number of an event leads to that of its start, and
-/// its handle to its number; either may lead to an event that is no longer open.
+/// The open events by the number of their start. The number of an event leads to that of its start,
+/// and its handle to its number; either may lead to an event that is no longer open.
 #[derive(Drop)]
 pub struct Opens {
     started: NumberMap<OpenEvent>,
@@ -29,7 +30,8 @@ impl Model for Opens {
 
     ghost view = { λ t. values_of t.started.entries };
 
-    ghost invariant = { λ t. IsOpenIndex t.started.entries (found t.starts) (found t.events) t.next };
+    ghost invariant = { λ t. IsOpenIndex t.started.entries (found t.starts) (found t.events)
+        t.next };
 }
 
 impl Opens {
@@ -100,8 +102,10 @@ impl Opens {
     /// Takes the open event of a handle away.
     fn settle_of(&mut self, handle: Handle)
         ensures none { list_any (λ o. o.handle.0 == handle.0) self.new ≡ false }
-        ensures others { (i : ℕ) → list_any (λ o. i == o.event) self.old ≡ false → list_any (λ o. i == o.event) self.new ≡ false }
-        ensures same { list_any (λ o. o.handle.0 == handle.0) self.old ≡ false → self.new ≡ self.old }
+        ensures others { (i : ℕ) → list_any (λ o. i == o.event) self.old ≡ false
+            → list_any (λ o. i == o.event) self.new ≡ false }
+        ensures same { list_any (λ o. o.handle.0 == handle.0) self.old ≡ false
+            → self.new ≡ self.old }
     {
         if self.is_busy(handle) {
             if let Some(event) = self.events.get(handle.0) {
@@ -126,10 +130,12 @@ impl Opens {
         Ok(())
     }
 
-    /// Opens an event, in place of one of its number or of its handle. More starts than a word counts are answered
-    /// as want of memory; no journal in memory has as many.
+    /// Opens an event, in place of one of its number or of its handle. More starts than a word
+    /// counts are answered as want of memory; no journal in memory has as many.
     pub fn push(&mut self, o: OpenEvent) -> Result<(), NoMemory>
-        ensures { list_any (λ b. o.event == b.event) self.old ≡ false → list_any (λ b. b.handle.0 == o.handle.0) self.old ≡ false → OnOk result (self.new ≡ self.old ++ o ∷ []) }
+        ensures { list_any (λ b. o.event == b.event) self.old ≡ false
+            → list_any (λ b. b.handle.0 == o.handle.0) self.old ≡ false
+            → OnOk result (self.new ≡ self.old ++ o ∷ []) }
     {
         self.settle(o.event);
         self.settle_of(o.handle);

@@ -75,9 +75,11 @@ fn admits_ready<N>(entry: &Entry<N>) -> bool
 
 fn read_by<N>(checker: &mut Checker, journal: &[Entry<N>], most: u64) -> Result<(), CheckRefused>
     requires machine { checker.old.machine ≡ S.nothing }
-    requires index { IsUpToDate checker.old.machine (contains pair_cmp checker.old.fronts) (contains nat_cmp checker.old.closing) }
+    requires index { IsUpToDate checker.old.machine (contains pair_cmp checker.old.fronts)
+        (contains nat_cmp checker.old.closing) }
     ensures ok { OnOk result (F.Legal journal.now most) }
-    ensures illegal { (at : ℕ) → result ≡ Err (CheckRefused.Illegal at) → RefusesAt journal.now most at }
+    ensures illegal { (at : ℕ) → result ≡ Err (CheckRefused.Illegal at)
+        → RefusesAt journal.now most at }
 {
     let mut due = false;
     let mut ready = false;
@@ -94,19 +96,22 @@ fn read_by<N>(checker: &mut Checker, journal: &[Entry<N>], most: u64) -> Result<
 
 fn read<N>(alloc: Global, journal: &[Entry<N>], most: u64) -> Result<(), CheckRefused>
     ensures ok { OnOk result (F.Legal journal.now most) }
-    ensures illegal { (at : ℕ) → result ≡ Err (CheckRefused.Illegal at) → RefusesAt journal.now most at }
+    ensures illegal { (at : ℕ) → result ≡ Err (CheckRefused.Illegal at)
+        → RefusesAt journal.now most at }
 {
     let mut checker = Checker::new(alloc);
     read_by(&mut checker, journal, most)
 }
 
-/// Whether the journal is legal where at most `most` handles may be live at once: Ok exactly where it is, and else
-/// the number of the first entry that may not follow those before it.
+/// Whether the journal is legal where at most `most` handles may be live at once: Ok exactly where
+/// it is, and else the number of the first entry that may not follow those before it.
 pub fn check<N>(alloc: Global, journal: &[Entry<N>], most: u64) -> Result<(), CheckRefused>
     ensures ok { OnOk result (F.Legal journal.now most) }
     ensures legal { F.Legal journal.now most → IsUnlessNoMemory result (Ok tt) }
-    ensures illegal { (at : ℕ) → result ≡ Err (CheckRefused.Illegal at) → RefusesAt journal.now most at }
-    ensures refused { (at : ℕ) → RefusesAt journal.now most at → IsUnlessNoMemory result (Err (CheckRefused.Illegal at)) }
+    ensures illegal { (at : ℕ) → result ≡ Err (CheckRefused.Illegal at)
+        → RefusesAt journal.now most at }
+    ensures refused { (at : ℕ) → RefusesAt journal.now most at
+        → IsUnlessNoMemory result (Err (CheckRefused.Illegal at)) }
 {
     read(alloc, journal, most)
 }

@@ -1,6 +1,7 @@
 //! The armed timers, in the order in which they come due.
 
-ghost use Rattle.std.specs.Prelude.{◌≡◌, ◌<◌, ◌≤◌, ◌==◌, ◌&&◌, not, filter, true, false, [], OnOk, ℕ, List, Some, None, IfSome, Bool, slice_get, option_map};
+ghost use Rattle.std.specs.Prelude.{◌≡◌, ◌<◌, ◌≤◌, ◌==◌, ◌&&◌, not, filter, true, false, [], OnOk};
+ghost use Rattle.std.specs.Prelude.{ℕ, List, Some, None, IfSome, Bool, slice_get, option_map};
 ghost use Rattle.std.specs.List.{list_any, find};
 ghost use Rattle.std.specs.BTreeSet.{contains};
 ghost use Rattle.std.specs.Map.{values_of};
@@ -18,8 +19,9 @@ use std::alloc::Global;
 use std::collections::{BTreeMap, BTreeSet};
 use std::marker::Model;
 
-/// The armed timers by deadline and number. A number leads to the timer that was armed last under it, and each
-/// handle to the numbers of its timers; either may lead to a timer that is no longer armed.
+/// The armed timers by deadline and number. A number leads to the timer that was armed last under
+/// it, and each handle to the numbers of its timers; either may lead to a timer that is no longer
+/// armed.
 #[derive(Drop)]
 pub struct Timers {
     order: BTreeMap<(u128, u64), ArmedTimer>,
@@ -32,10 +34,12 @@ impl Model for Timers {
 
     ghost view = { λ t. values_of t.order.entries };
 
-    ghost invariant = { λ t. IsIndexed t.order.entries (found t.numbered) (contains pair_cmp t.owned) };
+    ghost invariant = { λ t. IsIndexed t.order.entries (found t.numbered)
+        (contains pair_cmp t.owned) };
 }
 
-/// The least of deadline + k * every, from k = 1 on, that is above the moment. It may be beyond 64 bits.
+/// The least of deadline + k * every, from k = 1 on, that is above the moment. It may be beyond 64
+/// bits.
 #[tactic(auto, using(crate::proofs::Clock::steps_below))]
 pub fn next_deadline(deadline: u64, every: u64, moment: u64) -> u128
     requires { 0 < every }
@@ -64,8 +68,10 @@ fn disarm_of(
     timer: u64,
 )
     requires { (owns : ℕ × ℕ → Bool) × IsIndexed order.old.entries (found numbered.now) owns }
-    ensures gone { values_of order.new.entries ≡ filter (λ a. not (a.handle.0 == handle.0 && a.timer == timer)) (values_of order.old.entries) }
-    ensures left { (owns : ℕ × ℕ → Bool) → IsIndexed order.old.entries (found numbered.now) owns → IsIndexed order.new.entries (found numbered.now) owns }
+    ensures gone { values_of order.new.entries ≡ filter
+        (λ a. not (a.handle.0 == handle.0 && a.timer == timer)) (values_of order.old.entries) }
+    ensures left { (owns : ℕ × ℕ → Bool) → IsIndexed order.old.entries (found numbered.now) owns
+        → IsIndexed order.new.entries (found numbered.now) owns }
 {
     if let Some(a) = numbered.get(timer) {
         if a.handle.0 == handle.0 {
@@ -160,7 +166,8 @@ impl Timers {
         handle: Handle,
         due: Option<DueTimer>,
     ) -> Result<(), NoMemory>
-        ensures { is_idle due self.old ≡ true → OnOk result (self.new ≡ S.with_next moment handle due self.old) }
+        ensures { is_idle due self.old ≡ true → OnOk result
+            (self.new ≡ S.with_next moment handle due self.old) }
     {
         match due {
             None => Ok(()),
@@ -182,7 +189,8 @@ impl Timers {
 
     /// The timer that comes due, if it is the first and its deadline is reached.
     pub fn first_due(&self, moment: u64, timer: u64) -> Option<ArmedTimer>
-        ensures found { S.is_first moment timer self.now ≡ true → result ≡ find (λ a. a.timer == timer) self.now }
+        ensures found { S.is_first moment timer self.now ≡ true
+            → result ≡ find (λ a. a.timer == timer) self.now }
         ensures reached { IfSome result (λ a. a.deadline ≤ moment) }
         ensures number { IfSome result (λ a. a.timer ≡ timer) }
     {

@@ -1,6 +1,8 @@
 //! The waiting events, by number, by handle and class, and by timer.
 
-ghost use Rattle.std.specs.Prelude.{◌≡◌, ◌<◌, ◌≤◌, ◌+◌, ◌*◌, ◌^◌, ◌==◌, ◌&&◌, ◌++◌, ◌∷◌, [], not, filter, length, true, false, OnOk, ℕ, List, Some, None, IfSome, MatchOption, option_map};
+ghost use Rattle.std.specs.Prelude.{◌≡◌, ◌<◌, ◌≤◌, ◌+◌, ◌*◌, ◌^◌, ◌==◌, ◌&&◌, ◌++◌, ◌∷◌, [], not};
+ghost use Rattle.std.specs.Prelude.{filter, length, true, false, OnOk, ℕ, List, Some, None, IfSome};
+ghost use Rattle.std.specs.Prelude.{MatchOption, option_map};
 ghost use Rattle.std.specs.List.{list_any, find};
 ghost use Rattle.std.specs.BTreeSet.{contains};
 ghost use Rattle.std.specs.Map.{values_of};
@@ -10,7 +12,8 @@ ghost use Rattle.reactor_summary.specs.declared.parts.WaitingEvent.{WaitingEvent
 ghost use Rattle.journal_check.specs.Index.{pair_cmp};
 ghost use Rattle.journal_check.specs.Fronts as K;
 ghost use Rattle.journal_check.specs.Queue as Q;
-ghost use Rattle.journal_check.specs.Queue.{IsQueued, IsLeast, IsOne, IsFront, IsOwned, IsNarrow, is_within};
+ghost use Rattle.journal_check.specs.Queue.{IsQueued, IsLeast, IsOne, IsFront, IsOwned, IsNarrow};
+ghost use Rattle.journal_check.specs.Queue.{is_within};
 
 use crate::words::{first_lane, lane_of, timer_of};
 use ev_types::{Handle, Mask, NoMemory};
@@ -20,8 +23,8 @@ use std::alloc::Global;
 use std::collections::BTreeSet;
 use std::marker::Model;
 
-/// The waiting events by number. A set has the lane and number of each, so that those of a handle stand by class,
-/// and another the timer and number of each timeout.
+/// The waiting events by number. A set has the lane and number of each, so that those of a handle
+/// stand by class, and another the timer and number of each timeout.
 #[derive(Drop)]
 pub struct Waiting {
     events: NumberMap<WaitingEvent>,
@@ -34,13 +37,15 @@ impl Model for Waiting {
 
     ghost view = { λ q. values_of q.events.entries };
 
-    ghost invariant = { λ q. IsQueued q.events.entries (contains pair_cmp q.lanes) (contains pair_cmp q.timers) };
+    ghost invariant = { λ q. IsQueued q.events.entries (contains pair_cmp q.lanes)
+        (contains pair_cmp q.timers) };
 }
 
 /// The event of the first pair from `low` to `last`.
 fn first_between(keys: &BTreeSet<(u64, u64)>, low: u64, last: u64) -> Option<u64>
     ensures found { IfSome result (IsLeast low (last + 1) (contains pair_cmp keys.now)) }
-    ensures none { result ≡ None → (n i : ℕ) → low ≤ n → n < last + 1 → contains pair_cmp keys.now (n, i) ≡ false }
+    ensures none { result ≡ None → (n i : ℕ) → low ≤ n → n < last + 1
+        → contains pair_cmp keys.now (n, i) ≡ false }
 {
     match keys.range((low, 0)..).next() {
         Some(&(at, event)) if at <= last => Some(event),
@@ -55,7 +60,9 @@ fn enlist(
     w: &WaitingEvent,
 ) -> Result<(), NoMemory>
     requires { IsNarrow w.now }
-    ensures { OnOk result (Q.Gains (Q.lane_key w.now) w.now.event (contains pair_cmp lanes.old) (contains pair_cmp lanes.new) × Q.Gains (Q.timer_key w.now) w.now.event (contains pair_cmp timers.old) (contains pair_cmp timers.new)) }
+    ensures { OnOk result (Q.Gains (Q.lane_key w.now) w.now.event (contains pair_cmp lanes.old)
+        (contains pair_cmp lanes.new) × Q.Gains (Q.timer_key w.now) w.now.event
+        (contains pair_cmp timers.old) (contains pair_cmp timers.new)) }
 {
     lanes.insert((lane_of(w), w.event))?;
     if let Some(timer) = timer_of(w.upcall) {
@@ -67,7 +74,9 @@ fn enlist(
 /// Takes the keys of an event away.
 fn delist(lanes: &mut BTreeSet<(u64, u64)>, timers: &mut BTreeSet<(u64, u64)>, w: &WaitingEvent)
     requires { IsNarrow w.now }
-    ensures { Q.Loses (Q.lane_key w.now) w.now.event (contains pair_cmp lanes.old) (contains pair_cmp lanes.new) × Q.Loses (Q.timer_key w.now) w.now.event (contains pair_cmp timers.old) (contains pair_cmp timers.new) }
+    ensures { Q.Loses (Q.lane_key w.now) w.now.event (contains pair_cmp lanes.old)
+        (contains pair_cmp lanes.new) × Q.Loses (Q.timer_key w.now) w.now.event
+        (contains pair_cmp timers.old) (contains pair_cmp timers.new) }
 {
     let _ = lanes.remove(&(lane_of(w), w.event));
     if let Some(timer) = timer_of(w.upcall) {
@@ -99,7 +108,8 @@ impl Waiting {
     /// After an Err none is left.
     fn put(&mut self, w: WaitingEvent) -> Result<(), NoMemory>
         requires { list_any (λ v. w.event == v.event) self.old ≡ false }
-        ensures { Each (λ v. v.event < w.event) self.old → OnOk result (self.new ≡ self.old ++ w ∷ []) }
+        ensures { Each (λ v. v.event < w.event) self.old
+            → OnOk result (self.new ≡ self.old ++ w ∷ []) }
     {
         match put_in(&mut self.events, &mut self.lanes, &mut self.timers, w) {
             Ok(()) => Ok(()),
@@ -112,15 +122,18 @@ impl Waiting {
         }
     }
 
-    /// Adds an event, in place of one of its number. After an Err nothing is said of those that are left.
+    /// Adds an event, in place of one of its number. After an Err nothing is said of those that are
+    /// left.
     pub fn push(&mut self, w: WaitingEvent) -> Result<(), NoMemory>
-        ensures { Each (λ v. v.event < w.event) self.old → OnOk result (self.new ≡ self.old ++ w ∷ []) }
+        ensures { Each (λ v. v.event < w.event) self.old
+            → OnOk result (self.new ≡ self.old ++ w ∷ []) }
     {
         self.take(w.event);
         self.put(w)
     }
 
-    /// The first of the five lanes of a handle. None where they do not all fit a word: no event of such a handle waits.
+    /// The first of the five lanes of a handle. None where they do not all fit a word: no event of
+    /// such a handle waits.
     fn first_lane(&self, handle: Handle) -> Option<u64>
         ensures lane { IfSome result (λ n. n ≡ handle.0 * 5 × n + 4 < 2 ^ 64) }
         ensures none { result ≡ None → list_any (λ w. handle.0 == w.handle.0) self.now ≡ false }
@@ -131,8 +144,10 @@ impl Waiting {
 
     /// The first event of a lane from `low` to `last`.
     fn first_in(&self, low: u64, last: u64) -> Option<u64>
-        ensures found { IfSome result (λ i. IsOne (λ w. is_within low (last + 1) (Q.lane_of w)) i self.now) }
-        ensures none { result ≡ None → list_any (λ w. is_within low (last + 1) (Q.lane_of w)) self.now ≡ false }
+        ensures found { IfSome result (λ i. IsOne (λ w. is_within low (last + 1) (Q.lane_of w)) i
+            self.now) }
+        ensures none { result ≡ None → list_any (λ w. is_within low (last + 1) (Q.lane_of w))
+            self.now ≡ false }
     {
         let _ = &self.events;
         first_between(&self.lanes, low, last)
@@ -140,8 +155,10 @@ impl Waiting {
 
     /// A timeout of the timer that waits.
     fn first_timeout(&self, timer: u64) -> Option<u64>
-        ensures found { IfSome result (λ i. IsOne (λ w. P.is_timeout_of timer w.upcall) i self.now) }
-        ensures none { result ≡ None → list_any (λ w. P.is_timeout_of timer w.upcall) self.now ≡ false }
+        ensures found { IfSome result (λ i. IsOne (λ w. P.is_timeout_of timer w.upcall) i
+            self.now) }
+        ensures none { result ≡ None → list_any (λ w. P.is_timeout_of timer w.upcall) self.now
+            ≡ false }
     {
         let _ = &self.events;
         first_between(&self.timers, timer, timer)
@@ -173,7 +190,8 @@ impl Waiting {
 
     /// The handle of a timeout of the timer, if one waits.
     pub fn timeout_handle(&self, timer: u64) -> Option<Handle>
-        ensures { IsOwned timer self.now → Each (λ w. P.is_timeout_of timer w.upcall ≡ true → result ≡ Some w.handle) self.now }
+        ensures { IsOwned timer self.now → Each (λ w. P.is_timeout_of timer w.upcall ≡ true
+            → result ≡ Some w.handle) self.now }
     {
         match self.first_timeout(timer) {
             None => None,
@@ -226,7 +244,8 @@ impl Waiting {
 
     /// Takes the reports of a handle away that the mask lacks.
     pub fn clear_masked(&mut self, handle: Handle, mask: Mask)
-        ensures { self.new ≡ filter (λ w. not (handle.0 == w.handle.0 && P.is_without mask w.upcall)) self.old }
+        ensures { self.new ≡ filter (λ w. not (handle.0 == w.handle.0
+            && P.is_without mask w.upcall)) self.old }
     {
         if let Some(first) = self.first_lane(handle) {
             self.clear_if(!mask.write, first + 2);
@@ -236,18 +255,21 @@ impl Waiting {
     }
 }
 
-/// Adds an event that is not there, with its keys. A handle whose lanes do not all fit a word is refused as want of memory: no
-/// journal in memory has as many handles.
+/// Adds an event that is not there, with its keys. A handle whose lanes do not all fit a word is
+/// refused as want of memory: no journal in memory has as many handles.
 fn put_in(
     events: &mut NumberMap<WaitingEvent>,
     lanes: &mut BTreeSet<(u64, u64)>,
     timers: &mut BTreeSet<(u64, u64)>,
     w: WaitingEvent,
 ) -> Result<(), NoMemory>
-    requires queued { IsQueued events.old.entries (contains pair_cmp lanes.old) (contains pair_cmp timers.old) }
+    requires queued { IsQueued events.old.entries (contains pair_cmp lanes.old)
+        (contains pair_cmp timers.old) }
     requires absent { list_any (λ v. w.event == v.event) (values_of events.old.entries) ≡ false }
-    ensures queued { OnOk result (IsQueued events.new.entries (contains pair_cmp lanes.new) (contains pair_cmp timers.new)) }
-    ensures last { Each (λ v. v.event < w.event) (values_of events.old.entries) → OnOk result (values_of events.new.entries ≡ values_of events.old.entries ++ w ∷ []) }
+    ensures queued { OnOk result (IsQueued events.new.entries (contains pair_cmp lanes.new)
+        (contains pair_cmp timers.new)) }
+    ensures last { Each (λ v. v.event < w.event) (values_of events.old.entries)
+        → OnOk result (values_of events.new.entries ≡ values_of events.old.entries ++ w ∷ []) }
 {
     if first_lane(w.handle).is_none() {
         return Err(NoMemory);

@@ -14,7 +14,8 @@ step_for entries = if nat_le entries 4000 then 12 else if nat_le entries 30000 t
 abbrev pub layout_of : ℕ → ℕ → Layout
 layout_of entries handles = record { step = step_for entries; entries = entries; handles = handles }
 
--- where the entry of this number stands from the left, and the middle of a lane from above; lane 0 is the reactor's own
+-- where the entry of this number stands from the left, and the middle of a lane from above; lane 0
+-- is the reactor's own
 abbrev pub across : Layout → ℕ → ℕ
 across layout number = told (told (layout.step * number) + 90)
 

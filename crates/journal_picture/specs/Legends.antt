@@ -11,22 +11,26 @@ style =
     ++ codes ".ready{fill:#1565c0}.posted{fill:#ef6c00}.stale{fill:#bcaaa4}\n"
     ++ codes ".scheduled{fill:#80cbc4}.due{fill:#00695c}.cancelled{fill:#b0bec5}\n"
     ++ codes ".started{fill:#90a4ae}.keep{fill:#5b8fd6}.again{fill:#35a79c}.close{fill:#d9534f}\n"
-    ++ codes ".masked{fill:#8e24aa}.suspended{fill:#5e35b1}.resumed{fill:#9575cd}.refused{fill:#c62828}\n"
+    ++ codes
+    ".masked{fill:#8e24aa}.suspended{fill:#5e35b1}.resumed{fill:#9575cd}.refused{fill:#c62828}\n"
     ++ codes ".polled{fill:#c9b458}.ended{fill:#000}.bad{fill:#e00000}\n"
-    ++ codes "text{fill:#333}.name{text-anchor:end}.axis{fill:#888;font-size:9px}.moment{fill:#7a6a10;font-size:8px}\n"
+    ++ codes
+    "text{fill:#333}.name{text-anchor:end}.axis{fill:#888;font-size:9px}.moment{fill:#7a6a10;font-size:8px}\n"
     ++ codes "</style>\n"
 
 -- a sample of a mark, and what it means
 abbrev pub sample : List ℕ → ℕ → ℕ → List ℕ → List ℕ → List ℕ
 sample class x y shape meaning =
-    codes "<g class='" ++ class ++ codes "'>" ++ shape_text x y shape ++ (codes "</g><text dx='16' dy='4' x='" ++ decimal x) ++ (codes "' y='" ++ decimal y)
+    codes "<g class='" ++ class ++ codes "'>" ++ shape_text x y shape
+    ++ (codes "</g><text dx='16' dy='4' x='" ++ decimal x) ++ (codes "' y='" ++ decimal y)
     ++ codes "'>" ++ meaning ++ codes "</text>\n"
 
 -- the samples of what becomes of handles
 abbrev pub handle_samples : List ℕ
 handle_samples =
     sample (codes "opened") 20 18 (codes "m0-7l9 7-9 7z") (codes "opened")
-    ++ sample (codes "removed") 130 18 (codes "m0-4l2-2 3 3 3-3 2 2-3 3 3 3-2 2-3-3-3 3-2-2 3-3z") (codes "removed")
+    ++ sample (codes "removed") 130 18 (codes "m0-4l2-2 3 3 3-3 2 2-3 3 3 3-2 2-3-3-3 3-2-2 3-3z")
+    (codes "removed")
     ++ sample (codes "closed") 240 18 (codes "m0-9h4v18h-4z") (codes "closed")
     ++ sample (codes "suspended") 350 18 (codes "m0-6h3v12h-3zm5 0h3v12h-3z") (codes "suspended")
     ++ sample (codes "resumed") 460 18 (codes "m0-6l8 6-8 6z") (codes "resumed")

@@ -1,5 +1,6 @@
 -- The whole picture of a journal (this project's own).
-use Rattle.std.specs.Prelude.{◌≡◌, ℕ, ◌+◌, List, [], ◌++◌, length, take, slice_get, Option, Some, None, flat_map, codes}
+use Rattle.std.specs.Prelude.{◌≡◌, ℕ, ◌+◌, List, [], ◌++◌, length, take, slice_get, Option, Some}
+use Rattle.std.specs.Prelude.{None, flat_map, codes}
 use Rattle.std.specs.List.{count_by}
 use Rattle.ev_base.specs.Sink.{SinkFacts}
 use Rattle.sink_buffer.specs.Written.{TakesAll, BreaksOff}
@@ -36,9 +37,11 @@ bad_part layout journal (Some at) = bad_entry_mark layout at (slice_get journal 
 abbrev pub opened_in : List (Entry ServerNote) → ℕ
 opened_in entries = count_by is_opened entries
 
--- the picture of so many entries: its begin, the marks of the good ones, in order, that of the bad one, and its end
+-- the picture of so many entries: its begin, the marks of the good ones, in order, that of the bad
+-- one, and its end
 abbrev pub page : Layout → List (Entry ServerNote) → List ℕ → List ℕ
-page layout good bad = header layout ++ flat_map (text_of layout) (marks layout.handles (past_of good)) ++ bad ++ codes "</svg>\n"
+page layout good bad = header layout
+    ++ flat_map (text_of layout) (marks layout.handles (past_of good)) ++ bad ++ codes "</svg>\n"
 
 -- the layout of a journal's picture
 abbrev pub layout_for : List (Entry ServerNote) → Option ℕ → Layout
@@ -46,7 +49,8 @@ layout_for journal bad = layout_of (drawn_count journal bad) (opened_in (good_pa
 
 -- the picture of a journal, whose entry `bad` may not follow those before it
 abbrev pub picture : List (Entry ServerNote) → Option ℕ → List ℕ
-picture journal bad = page (layout_for journal bad) (good_part journal bad) (bad_part (layout_for journal bad) journal bad)
+picture journal bad = page (layout_for journal bad) (good_part journal bad)
+    (bad_part (layout_for journal bad) journal bad)
 
 -- a picture was written, or a front of it, or nothing
 abbrev pub Draws : SinkFacts → List ℕ → SinkFacts → Drawn → Type 0

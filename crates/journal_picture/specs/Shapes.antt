@@ -1,9 +1,15 @@
--- The words and shapes of marks (this project's own). A shape is a path from where the entry stands on, in the middle of its lane.
+-- The words and shapes of marks (this project's own). A shape is a path from where the entry stands
+-- on, in the middle of its lane.
 use Rattle.std.specs.Prelude.{ℕ, List, [], codes}
-use Rattle.ev_types.specs.declared.upcall.Answer.{Answer}
-use Rattle.ev_types.specs.declared.upcall.Answer.TheVariants.{Keep, Again, Close}
+use Rattle.reactor_journal.specs.ev_types.specs.declared.upcall.Answer.{Answer}
+use Rattle.reactor_journal.specs.ev_types.specs.declared.upcall.Answer.TheVariants.{Keep, Again}
+use Rattle.reactor_journal.specs.ev_types.specs.declared.upcall.Answer.TheVariants.{Close}
 use Rattle.reactor_journal.specs.declared.entry.Entry.{Entry}
-use Rattle.reactor_journal.specs.declared.entry.Entry.TheVariants.{Opened, Scheduled, Cancelled, Polled, Due, Ready, Posted, Stale, Started, Returned, Masked, Suspended, Resumed, Refused, Removed, Closed, Ended}
+use Rattle.reactor_journal.specs.declared.entry.Entry.TheVariants.{Opened, Scheduled, Cancelled}
+use Rattle.reactor_journal.specs.declared.entry.Entry.TheVariants.{Polled, Due, Ready, Posted}
+use Rattle.reactor_journal.specs.declared.entry.Entry.TheVariants.{Stale, Started, Returned, Masked}
+use Rattle.reactor_journal.specs.declared.entry.Entry.TheVariants.{Suspended, Resumed, Refused}
+use Rattle.reactor_journal.specs.declared.entry.Entry.TheVariants.{Removed, Closed, Ended}
 use Rattle.log_handler.specs.declared.note.ServerNote.{ServerNote}
 
 -- the class of the bar of an upcall
@@ -32,7 +38,8 @@ class_of (Removed handle) = codes "removed"
 class_of (Closed handle note) = codes "closed"
 class_of Ended = codes "ended"
 
--- the shape of its mark: triangles, squares, circles, diamonds and bars; what has a bar or a line of its own has none
+-- the shape of its mark: triangles, squares, circles, diamonds and bars; what has a bar or a line
+-- of its own has none
 abbrev pub shape_of : Entry ServerNote → List ℕ
 shape_of (Opened handle mask) = codes "m0-7l9 7-9 7z"
 shape_of (Scheduled timer handle first every) = codes "m0-4h8v8h-8z"

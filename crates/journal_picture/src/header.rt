@@ -44,7 +44,8 @@ fn put_axis<T: TextOut>(out: &mut T, layout: Layout)
     }
 }
 
-/// How many entries it is from one number above the lanes to the next, by how far the entries are from one another.
+/// How many entries it is from one number above the lanes to the next, by how far the entries are
+/// from one another.
 fn ticks_apart(step: u64) -> u64
     ensures { result ≡ H.ticks_apart step }
 {

@@ -1,4 +1,5 @@
-//! Where things stand in the picture. Its numbers are the units of the picture's `viewBox`; one above `u64::MAX` is told as `u64::MAX`.
+//! Where things stand in the picture. Its numbers are the units of the picture's `viewBox`; one
+//! above `u64::MAX` is told as `u64::MAX`.
 ghost use Rattle.std.specs.Prelude.{◌≡◌};
 ghost use Rattle.journal_picture.specs.Layouts as L;
 
@@ -21,12 +22,14 @@ pub(crate) struct Layout {
     pub step: u64,
     /// How many entries there are.
     pub entries: u64,
-    /// How many handles have a lane. Lane 0 is the reactor's own, and lane `h + 1` that of handle `h`.
+    /// How many handles have a lane. Lane 0 is the reactor's own, and lane `h + 1` that of handle
+    /// `h`.
     pub handles: u64,
 }
 
 impl Layout {
-    /// The layout for so many entries and handles: the more entries there are, the closer they stand.
+    /// The layout for so many entries and handles: the more entries there are, the closer they
+    /// stand.
     pub(crate) fn of(entries: u64, handles: u64) -> Layout
         ensures { result ≡ L.layout_of entries handles }
     {
@@ -73,7 +76,8 @@ impl Layout {
     }
 }
 
-/// How far it is from one of so many entries to the next: a picture of 100,000 entries is not wider than a browser draws.
+/// How far it is from one of so many entries to the next: a picture of 100,000 entries is not wider
+/// than a browser draws.
 fn step_for(entries: u64) -> u64
     ensures { result ≡ L.step_for entries }
 {

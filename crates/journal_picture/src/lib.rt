@@ -1,5 +1,6 @@
-//! The picture of a journal of the logging server, as an SVG text: a lane for each handle, time running to the right by the number of the
-//! entry, and one mark for each entry (this project's own).
+//! The picture of a journal of the logging server, as an SVG text: a lane for each handle, time
+//! running to the right by the number of the entry, and one mark for each entry (this project's
+//! own).
 #![tactic(auto)]
 
 mod header;

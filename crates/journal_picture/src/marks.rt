@@ -6,13 +6,14 @@ use crate::layout::{Layout, down};
 use crate::pieces::{put_bar, put_counted, put_ground, put_line, put_moment, put_name, put_shape};
 use crate::seen::Place;
 use crate::words::{class_of, shape_of};
-use ev_types::Handle;
+use ev_base::Handle;
 use journal_text::put_entry_line;
 use log_handler::ServerNote;
 use reactor_journal::Entry;
 use sink_buffer::TextOut;
 
-/// Puts the begin of the mark of an entry: its class, and as its title the number of the entry and its text.
+/// Puts the begin of the mark of an entry: its class, and as its title the number of the entry and
+/// its text.
 fn put_titled<T: TextOut>(out: &mut T, class: &[u8], number: u64, entry: &Entry<ServerNote>)
     ensures { Puts T.stands out.old (M.titled class.now number entry.now) out.new }
 {
@@ -85,7 +86,8 @@ fn put_birth<T: TextOut>(out: &mut T, x: u64, right: u64, y: u64, handle: Handle
     put_name(out, x, y, b"handle ", handle.0);
 }
 
-/// Puts the mark of the first entry that may not follow those before it: a line through all lanes, which end at `bottom`.
+/// Puts the mark of the first entry that may not follow those before it: a line through all lanes,
+/// which end at `bottom`.
 pub(crate) fn put_bad_mark<T: TextOut>(
     out: &mut T,
     x: u64,

@@ -13,8 +13,7 @@ use crate::header::put_header;
 use crate::layout::Layout;
 use crate::marks::{put_bad_mark, put_mark};
 use crate::seen::Seen;
-use ev_base::Sink;
-use ev_types::NoMemory;
+use ev_base::{NoMemory, Sink};
 use log_handler::ServerNote;
 use reactor_journal::Entry;
 use sink_buffer::{SinkBuffer, TextOut};
@@ -31,8 +30,9 @@ pub enum Drawn {
     NoMemory,
 }
 
-/// Writes the picture of a journal: of all its entries, or, where `bad` is the number of one that may not follow those before it, of those
-/// before it, and of that one as a bad one. Memory is taken before anything is written.
+/// Writes the picture of a journal: of all its entries, or, where `bad` is the number of one that
+/// may not follow those before it, of those before it, and of that one as a bad one. Memory is
+/// taken before anything is written.
 pub fn draw<K: Sink>(
     alloc: Global,
     journal: &[Entry<ServerNote>],
@@ -117,7 +117,8 @@ fn put_picture<T: TextOut>(out: &mut T, journal: &[Entry<ServerNote>], bad: Opti
 fn put_marks<T: TextOut>(out: &mut T, layout: Layout, entries: &[Entry<ServerNote>], seen: Seen)
     requires seen { tables_of seen ≡ nothing }
     requires room { length entries.now ≤ room_of seen }
-    ensures { Puts T.stands out.old (flat_map (text_of layout) (marks seen.handles (past_of entries.now))) out.new }
+    ensures { Puts T.stands out.old (flat_map (text_of layout)
+        (marks seen.handles (past_of entries.now))) out.new }
 {
     let mut seen = seen;
     for entry in entries {

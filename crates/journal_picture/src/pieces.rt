@@ -65,7 +65,8 @@ pub(crate) fn put_line<T: TextOut>(out: &mut T, x: u64, bottom: u64, width: &[u8
     out.put(b"V124z'/>");
 }
 
-/// Puts the moment at which a wait was answered, above its line and upright, so that those of waits that follow each other have room.
+/// Puts the moment at which a wait was answered, above its line and upright, so that those of waits
+/// that follow each other have room.
 pub(crate) fn put_moment<T: TextOut>(out: &mut T, x: u64, now: u64)
     ensures { Puts T.stands out.old (P.moment_text x now) out.new }
 {

@@ -1,9 +1,10 @@
 //! What the entries before one tell of it: its lane, and where the upcall began that it ends.
 ghost use Rattle.std.specs.Prelude.{◌≡◌, ◌≤◌, ◌+◌, ℕ, IfOk, length, vec_len};
-ghost use Rattle.journal_picture.specs.Places.{number_at, lane_for, lane_in, from_in, start_set, place_in, grown, nothing};
+ghost use Rattle.journal_picture.specs.Places.{number_at, lane_for, lane_in, from_in, start_set};
+ghost use Rattle.journal_picture.specs.Places.{place_in, grown, nothing};
 ghost use Rattle.journal_picture.specs.Rooms.{tables_of, room_of};
 
-use ev_types::{Handle, NoMemory};
+use ev_base::{Handle, NoMemory};
 use log_handler::ServerNote;
 use reactor_journal::Entry;
 use std::alloc::Global;
@@ -120,7 +121,9 @@ impl Seen {
 
     /// Notes that the upcall of this event began at the entry of this number.
     fn start(&mut self, event: u64, number: u64)
-        ensures seen { tables_of self.new ≡ record (tables_of self.old) { starts = start_set event number self.old.starts.items } }
+        ensures seen { tables_of self.new ≡ record (tables_of self.old) {
+          starts = start_set event number self.old.starts.items;
+        } }
         ensures handles { self.new.handles ≡ self.old.handles }
         ensures room { room_of self.new ≡ room_of self.old }
     {

@@ -2,7 +2,7 @@
 ghost use Rattle.std.specs.Prelude.{◌≡◌};
 ghost use Rattle.journal_picture.specs.Shapes.{class_of, answer_class, shape_of};
 
-use ev_types::Answer;
+use ev_base::Answer;
 use log_handler::ServerNote;
 use reactor_journal::Entry;
 
@@ -42,7 +42,8 @@ fn answer_class(answer: Answer) -> &'static [u8]
     }
 }
 
-/// The shape of an entry's mark, from where the entry stands on. The entries that have a bar or a line have none.
+/// The shape of an entry's mark, from where the entry stands on. The entries that have a bar or a
+/// line have none.
 pub(crate) fn shape_of(entry: &Entry<ServerNote>) -> &'static [u8]
     ensures { result.now ≡ shape_of entry.now }
 {

@@ -1,5 +1,7 @@
 -- Records and ends of connections, and the words that spell them.
-use Rattle.std.proofs.Common.{◌≡◌, ◌∙◌, ℕ, ◌<◌, inl, inr, List, [], ◌∷◌, ◌++◌, decimal, codes, Option, Some, refl, sym, ap, subst, arith, append_assoc, append-nil, map}
+use Rattle.std.proofs.Common.{◌≡◌, ◌∙◌, ℕ, ◌<◌, inl, inr, List, [], ◌∷◌, ◌++◌, decimal, codes}
+use Rattle.std.proofs.Common.{Option, Some, refl, sym, ap, subst, arith, append_assoc, append-nil}
+use Rattle.std.proofs.Common.{map}
 use Rattle.std.specs.Prelude.{◌^◌}
 use Rattle.std.specs.List.{join_with_byte, AllByRecursion}
 use Rattle.std.specs.Fmt.{signed_decimal}
@@ -8,19 +10,30 @@ use Rattle.std.specs.Int.RustNames.{FitsSigned}
 use Rattle.std.proofs.lemmas.List.Splits.{join_with_byte-slice_split}
 use Rattle.hex.specs.Hex.{encode_lower}
 use Rattle.cdr_record.specs.declared.record.LogRecord.{LogRecord}
-use Rattle.log_lines.specs.declared.end_kind.EndKind.{EndKind}
-use Rattle.log_lines.specs.declared.end_kind.EndKind.TheVariants.{End, Partial, Malformed, Failed, NoMemory, Idle, Stopped, Refused}
+use Rattle.log_handler.specs.log_lines.specs.declared.end_kind.EndKind.{EndKind}
+use Rattle.log_handler.specs.log_lines.specs.declared.end_kind.EndKind.TheVariants.{End, Partial}
+use Rattle.log_handler.specs.log_lines.specs.declared.end_kind.EndKind.TheVariants.{Malformed}
+use Rattle.log_handler.specs.log_lines.specs.declared.end_kind.EndKind.TheVariants.{Failed}
+use Rattle.log_handler.specs.log_lines.specs.declared.end_kind.EndKind.TheVariants.{NoMemory, Idle}
+use Rattle.log_handler.specs.log_lines.specs.declared.end_kind.EndKind.TheVariants.{Stopped}
+use Rattle.log_handler.specs.log_lines.specs.declared.end_kind.EndKind.TheVariants.{Refused}
 use Rattle.journal_text.specs.Texts.{end_text, record_word, record_words}
 use Rattle.journal_reader.specs.Limits.{RecordIsWithin, EndIsWithin}
 use Rattle.text_parts.specs.Parts.{parts}
-use Rattle.journal_reader.specs.Reading.{at_end, message_of, Numbers, numbers_of, with_message, record_of, records_of, end_with, counted_end_of, end_of, next, ◌>>=◌}
+use Rattle.journal_reader.specs.Reading.{at_end, message_of, Numbers, numbers_of, with_message}
+use Rattle.journal_reader.specs.Reading.{record_of, records_of, end_with, counted_end_of, end_of}
+use Rattle.journal_reader.specs.Reading.{next, ◌>>=◌}
 use Rattle.text_parts.proofs.Cuts.{last_one}
-use Rattle.journal_reader.proofs.Joins.{AllFree, IsNoDigit, Plain, AllPlain, parts_joined, free_number, free_signed, plain_both, plain_number, plain_signed}
-use Rattle.journal_reader.proofs.Spelled.{Spelled, took, went, chosen, value_is, any_word, numbers, signed_numbers, narrow_numbers, widened}
+use Rattle.journal_reader.proofs.Joins.{AllFree, IsNoDigit, Plain, AllPlain, parts_joined}
+use Rattle.journal_reader.proofs.Joins.{free_number, free_signed, plain_both, plain_number}
+use Rattle.journal_reader.proofs.Joins.{plain_signed}
+use Rattle.journal_reader.proofs.Spelled.{Spelled, took, went, chosen, value_is, any_word, numbers}
+use Rattle.journal_reader.proofs.Spelled.{signed_numbers, narrow_numbers, widened}
 use Rattle.journal_reader.proofs.Messages.{messages, free_message, plain_message}
 
 -- no word is left behind a value
-pub ended : {V : Type 0} (words : List (List ℕ)) (o : Option V) (v : V) → at_end words o ≡ Some v → (words ≡ []) × (o ≡ Some v)
+pub ended : {V : Type 0} (words : List (List ℕ)) (o : Option V) (v : V) → at_end words o ≡ Some v
+    → (words ≡ []) × (o ≡ Some v)
 ended [] o v h = (refl, h)
 ended (word ∷ rest) o v h = cc h
 
@@ -30,7 +43,8 @@ colon = inr (omega arith)
 -- ---- a record
 
 abbrev record_parts : LogRecord → List (List ℕ)
-record_parts r = signed_decimal r.kind ∷ signed_decimal r.pid ∷ signed_decimal r.sec ∷ signed_decimal r.usec ∷ encode_lower r.text ∷ []
+record_parts r = signed_decimal r.kind ∷ signed_decimal r.pid ∷ signed_decimal r.sec
+    ∷ signed_decimal r.usec ∷ encode_lower r.text ∷ []
 
 record_joined : (r : LogRecord) → record_word r ≡ join_with_byte 58 (record_parts r)
 unfolding record_word
@@ -64,14 +78,18 @@ record_plain r w =
     let three : List ℕ = two ++ signed_decimal r.sec ++ codes ":" in
     let four : List ℕ = three ++ signed_decimal r.usec ++ codes ":" in
     let first : Plain one = plain_both (signed_decimal r.kind) (codes ":") kind refl in
-    let second : Plain two = plain_both (one ++ signed_decimal r.pid) (codes ":") (plain_both one (signed_decimal r.pid) first pid) refl in
-    let third : Plain three = plain_both (two ++ signed_decimal r.sec) (codes ":") (plain_both two (signed_decimal r.sec) second sec) refl in
-    let fourth : Plain four = plain_both (three ++ signed_decimal r.usec) (codes ":") (plain_both three (signed_decimal r.usec) third usec) refl in
+    let second : Plain two = plain_both (one ++ signed_decimal r.pid) (codes ":")
+    (plain_both one (signed_decimal r.pid) first pid) refl in
+    let third : Plain three = plain_both (two ++ signed_decimal r.sec) (codes ":")
+    (plain_both two (signed_decimal r.sec) second sec) refl in
+    let fourth : Plain four = plain_both (three ++ signed_decimal r.usec) (codes ":")
+    (plain_both three (signed_decimal r.usec) third usec) refl in
     plain_both four (encode_lower r.text) fourth text
 
 abbrev record_at : List (List ℕ) → Option LogRecord
 record_at ps =
-    numbers_of ps >>= λ numbers. next Some numbers.1 >>= λ digits. at_end digits.1 (message_of digits.0) >>= λ text. Some (with_message numbers.0 text)
+    numbers_of ps >>= λ numbers. next Some numbers.1 >>= λ digits.
+    at_end digits.1 (message_of digits.0) >>= λ text. Some (with_message numbers.0 text)
 
 record_is : (word : List ℕ) → record_of word ≡ record_at (parts 58 word)
 unfolding record_of
@@ -80,20 +98,29 @@ record_is word = refl
 at_parts : (r : LogRecord) → RecordIsWithin r → record_at (record_parts r) ≡ Some r
 unfolding numbers_of
 at_parts r w =
-    rw (narrow_numbers.all r.kind w.numbers.kind, narrow_numbers.all r.pid w.numbers.pid, signed_numbers.all r.sec w.sec, narrow_numbers.all r.usec w.numbers.usec, messages.all r.text (w.bytes, w.short)) refl
+    rw (
+      narrow_numbers.all r.kind w.numbers.kind,
+      narrow_numbers.all r.pid w.numbers.pid,
+      signed_numbers.all r.sec w.sec,
+      narrow_numbers.all r.usec w.numbers.usec,
+      messages.all r.text (w.bytes, w.short),
+    ) refl
 
 record_all : (r : LogRecord) → RecordIsWithin r → record_of (record_word r) ≡ Some r
 record_all r w =
-    record_is (record_word r) ∙ ap (λ (word : List ℕ). record_at (parts 58 word)) (record_joined r) ∙ ap record_at (parts_joined 58 _ _ (record_parts_free r w)) ∙ at_parts r w
+    record_is (record_word r) ∙ ap (λ (word : List ℕ). record_at (parts 58 word)) (record_joined r)
+    ∙ ap record_at (parts_joined 58 _ _ (record_parts_free r w)) ∙ at_parts r w
 
 record NumbersAre (ps : List (List ℕ)) (n : Numbers) (rest : List (List ℕ)) : Type 0 where
-  pub is : ps ≡ signed_decimal n.kind ∷ signed_decimal n.pid ∷ signed_decimal n.sec ∷ signed_decimal n.usec ∷ rest
+  pub is : ps ≡ signed_decimal n.kind ∷ signed_decimal n.pid ∷ signed_decimal n.sec
+      ∷ signed_decimal n.usec ∷ rest
   pub kind : FitsSigned w32 n.kind
   pub pid : FitsSigned w32 n.pid
   pub sec : FitsSigned w64 n.sec
   pub usec : FitsSigned w32 n.usec
 
-numbers_only : (ps : List (List ℕ)) (r : Numbers × List (List ℕ)) → numbers_of ps ≡ Some r → NumbersAre ps r.0 r.1
+numbers_only : (ps : List (List ℕ)) (r : Numbers × List (List ℕ)) → numbers_of ps ≡ Some r
+    → NumbersAre ps r.0 r.1
 unfolding numbers_of
 numbers_only ps r h =
     let kind = took _ _ _ narrow_numbers ps _ r h in
@@ -102,14 +129,17 @@ numbers_only ps r h =
     let usec = took _ _ _ narrow_numbers sec.rest _ r sec.more in
     let is = value_is _ r usec.more in
     subst (λ (r : Numbers × List (List ℕ)). NumbersAre ps r.0 r.1) is (record {
-      is = kind.is ∙ ap (λ (ws : List (List ℕ)). signed_decimal kind.value ∷ ws) (pid.is ∙ ap (λ (ws : List (List ℕ)). signed_decimal pid.value ∷ ws) (sec.is ∙ ap (λ (ws : List (List ℕ)). signed_decimal sec.value ∷ ws) usec.is));
+      is = kind.is ∙ ap (λ (ws : List (List ℕ)). signed_decimal kind.value ∷ ws)
+          (pid.is ∙ ap (λ (ws : List (List ℕ)). signed_decimal pid.value ∷ ws)
+          (sec.is ∙ ap (λ (ws : List (List ℕ)). signed_decimal sec.value ∷ ws) usec.is));
       kind = kind.within;
       pid = pid.within;
       sec = sec.within;
       usec = usec.within;
     })
 
-record_only : (word : List ℕ) (r : LogRecord) → record_of word ≡ Some r → (record_word r ≡ word) × RecordIsWithin r
+record_only : (word : List ℕ) (r : LogRecord) → record_of word ≡ Some r → (record_word r ≡ word)
+    × RecordIsWithin r
 record_only word r h =
     let n = went (numbers_of (parts 58 word)) _ r (sym (record_is word) ∙ h) in
     let d = took _ _ _ any_word n.value.1 _ r n.more in
@@ -119,38 +149,54 @@ record_only word r h =
     let ns = numbers_only (parts 58 word) n.value n.is in
     let made : LogRecord = with_message n.value.0 t.value in
     let is : parts 58 word ≡ record_parts made =
-    ns.is ∙ ap (λ (ws : List (List ℕ)). signed_decimal made.kind ∷ signed_decimal made.pid ∷ signed_decimal made.sec ∷ signed_decimal made.usec ∷ ws)
-    (d.is ∙ ap (λ (ws : List (List ℕ)). d.value ∷ ws) e.0 ∙ ap (λ (w : List ℕ). w ∷ []) (sym m.0)) in
-    let spelt : record_word made ≡ word = record_joined made ∙ ap (join_with_byte 58) (sym is) ∙ join_with_byte-slice_split 58 word in
+    ns.is ∙ ap (λ (ws : List (List ℕ)). signed_decimal made.kind ∷ signed_decimal made.pid
+    ∷ signed_decimal made.sec ∷ signed_decimal made.usec ∷ ws)
+    (d.is ∙ ap (λ (ws : List (List ℕ)). d.value ∷ ws) e.0 ∙ ap (λ (w : List ℕ). w ∷ []) (sym m.0))
+    in
+    let spelt : record_word made ≡ word =
+    record_joined made ∙ ap (join_with_byte 58) (sym is) ∙ join_with_byte-slice_split 58 word in
     subst (λ (r : LogRecord). (record_word r ≡ word) × RecordIsWithin r) (value_is made r t.more) (
       spelt,
-      record { numbers = record { kind = ns.kind; pid = ns.pid; usec = ns.usec }; sec = ns.sec; bytes = m.1.0; short = m.1.1 },
+      record {
+        numbers = record { kind = ns.kind; pid = ns.pid; usec = ns.usec };
+        sec = ns.sec;
+        bytes = m.1.0;
+        short = m.1.1;
+      },
     )
 
 -- ---- records
 
-pub records_all : (rs : List LogRecord) → AllByRecursion RecordIsWithin rs → records_of (map record_word rs) ≡ Some rs
+pub records_all : (rs : List LogRecord) → AllByRecursion RecordIsWithin rs
+    → records_of (map record_word rs) ≡ Some rs
 records_all [] w = refl
 records_all (r ∷ rs) w = rw (record_all r w.0, records_all rs w.1) refl
 
-pub records_only : (words : List (List ℕ)) (rs : List LogRecord) → records_of words ≡ Some rs → (map record_word rs ≡ words) × AllByRecursion RecordIsWithin rs
+pub records_only : (words : List (List ℕ)) (rs : List LogRecord) → records_of words ≡ Some rs
+    → (map record_word rs ≡ words) × AllByRecursion RecordIsWithin rs
 records_only [] rs h =
-    subst (λ (rs : List LogRecord). (map record_word rs ≡ []) × AllByRecursion RecordIsWithin rs) (value_is [] rs h) (refl, tt)
+    subst (λ (rs : List LogRecord). (map record_word rs ≡ []) × AllByRecursion RecordIsWithin rs)
+    (value_is [] rs h) (refl, tt)
 records_only (word ∷ words) rs h =
     let a = went (record_of word) _ rs h in
     let b = went (records_of words) _ rs a.more in
     let first = record_only word a.value a.is in
     let rest = records_only words b.value b.is in
-    subst (λ (rs : List LogRecord). (map record_word rs ≡ word ∷ words) × AllByRecursion RecordIsWithin rs) (value_is (a.value ∷ b.value) rs b.more) (
-      ap (λ (w : List ℕ). w ∷ map record_word b.value) first.0 ∙ ap (λ (ws : List (List ℕ)). word ∷ ws) rest.0,
+    subst (λ (rs : List LogRecord). (map record_word rs ≡ word ∷ words)
+    × AllByRecursion RecordIsWithin rs) (value_is (a.value ∷ b.value) rs b.more) (
+      ap (λ (w : List ℕ). w ∷ map record_word b.value) first.0
+          ∙ ap (λ (ws : List (List ℕ)). word ∷ ws) rest.0,
       (first.1, rest.1),
     )
 
-pub records_joined : (word : List ℕ) (rs : List LogRecord) → join_with_byte 32 (word ∷ map record_word rs) ≡ word ++ record_words rs
+pub records_joined : (word : List ℕ) (rs : List LogRecord)
+    → join_with_byte 32 (word ∷ map record_word rs) ≡ word ++ record_words rs
 records_joined word [] = sym (append-nil word)
-records_joined word (r ∷ rs) = ap (λ (text : List ℕ). word ++ (32 ∷ text)) (records_joined (record_word r) rs)
+records_joined word (r ∷ rs) = ap (λ (text : List ℕ). word ++ (32 ∷ text))
+    (records_joined (record_word r) rs)
 
-pub records_plain : (rs : List LogRecord) → AllByRecursion RecordIsWithin rs → AllPlain (map record_word rs)
+pub records_plain : (rs : List LogRecord) → AllByRecursion RecordIsWithin rs
+    → AllPlain (map record_word rs)
 records_plain [] w = tt
 records_plain (r ∷ rs) w = (record_plain r w.0, records_plain rs w.1)
 
@@ -159,8 +205,10 @@ records_plain (r ∷ rs) w = (record_plain r w.0, records_plain rs w.1)
 end_all : (e : EndKind) → EndIsWithin e → end_of (end_text e) ≡ Some e
 unfolding end_of counted_end_of
 end_all End w = refl
-end_all (Partial n) w = rw (last_one 58 (decimal n) (free_number 58 n colon w), numbers.all n w) refl
-end_all (Malformed n) w = rw (last_one 58 (decimal n) (free_number 58 n colon w), numbers.all n w) refl
+end_all (Partial n) w = rw (last_one 58 (decimal n) (free_number 58 n colon w), numbers.all n w)
+    refl
+end_all (Malformed n) w = rw (last_one 58 (decimal n) (free_number 58 n colon w), numbers.all n w)
+    refl
 end_all Failed w = refl
 end_all NoMemory w = refl
 end_all Idle w = refl
@@ -180,13 +228,16 @@ end_plain Refused w = refl
 abbrev EndIs : List ℕ → EndKind → Type 0
 EndIs word e = (end_text e ≡ word) × EndIsWithin e
 
-with_count : (name : List ℕ) (n : ℕ) (e : EndKind) → n < 2 ^ 64 → end_with name n ≡ Some e → EndIs (name ++ 58 ∷ decimal n) e
+with_count : (name : List ℕ) (n : ℕ) (e : EndKind) → n < 2 ^ 64 → end_with name n ≡ Some e
+    → EndIs (name ++ 58 ∷ decimal n) e
 with_count name n e small h =
     elim (chosen name (codes "partial") _ _ e h) [
-      | inl a ↦ subst (EndIs (name ++ 58 ∷ decimal n)) (value_is (Partial n) e a.1) (ap (λ (w : List ℕ). w ++ 58 ∷ decimal n) (sym a.0), small)
+      | inl a ↦ subst (EndIs (name ++ 58 ∷ decimal n)) (value_is (Partial n) e a.1)
+          (ap (λ (w : List ℕ). w ++ 58 ∷ decimal n) (sym a.0), small)
       | inr h ↦
           elim (chosen name (codes "malformed") _ _ e h) [
-            | inl a ↦ subst (EndIs (name ++ 58 ∷ decimal n)) (value_is (Malformed n) e a.1) (ap (λ (w : List ℕ). w ++ 58 ∷ decimal n) (sym a.0), small)
+            | inl a ↦ subst (EndIs (name ++ 58 ∷ decimal n)) (value_is (Malformed n) e a.1)
+                (ap (λ (w : List ℕ). w ++ 58 ∷ decimal n) (sym a.0), small)
             | inr h ↦ cc h
           ]
     ]
@@ -198,12 +249,17 @@ counted_only word e h =
     let count = took _ _ _ numbers name.rest _ e name.more in
     let last = ended count.rest (end_with name.value count.value) e count.more in
     let is : parts 58 word ≡ name.value ∷ decimal count.value ∷ [] =
-    name.is ∙ ap (λ (ws : List (List ℕ)). name.value ∷ ws) (count.is ∙ ap (λ (ws : List (List ℕ)). decimal count.value ∷ ws) last.0) in
-    let joined : name.value ++ 58 ∷ decimal count.value ≡ word = ap (join_with_byte 58) (sym is) ∙ join_with_byte-slice_split 58 word in
-    subst (λ (w : List ℕ). EndIs w e) joined (with_count name.value count.value e count.within last.1)
+    name.is ∙ ap (λ (ws : List (List ℕ)). name.value ∷ ws)
+    (count.is ∙ ap (λ (ws : List (List ℕ)). decimal count.value ∷ ws) last.0) in
+    let joined : name.value ++ 58 ∷ decimal count.value ≡ word =
+    ap (join_with_byte 58) (sym is) ∙ join_with_byte-slice_split 58 word in
+    subst (λ (w : List ℕ). EndIs w e) joined
+    (with_count name.value count.value e count.within last.1)
 
-of_word : (word text : List ℕ) (a e : EndKind) → word ≡ text → end_text a ≡ text → EndIsWithin a → Some a ≡ Some e → EndIs word e
-of_word word text a e is text_is within h = subst (EndIs word) (value_is a e h) (text_is ∙ sym is, within)
+of_word : (word text : List ℕ) (a e : EndKind) → word ≡ text → end_text a ≡ text → EndIsWithin a
+    → Some a ≡ Some e → EndIs word e
+of_word word text a e is text_is within h =
+    subst (EndIs word) (value_is a e h) (text_is ∙ sym is, within)
 
 end_only : (word : List ℕ) (e : EndKind) → end_of word ≡ Some e → EndIs word e
 unfolding end_of
@@ -224,7 +280,8 @@ end_only word e h =
                               | inl a ↦ of_word word (codes "stopped") Stopped e a.0 refl tt a.1
                               | inr h ↦
                                   elim (chosen word (codes "refused") _ _ e h) [
-                                    | inl a ↦ of_word word (codes "refused") Refused e a.0 refl tt a.1
+                                    | inl a ↦ of_word word (codes "refused") Refused e a.0 refl tt
+                                        a.1
                                     | inr h ↦ counted_only word e h
                                   ]
                             ]

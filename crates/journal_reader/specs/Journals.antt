@@ -1,7 +1,8 @@
 -- Which texts are those of journals, and which line of any other text is the first bad one.
-use Rattle.std.specs.Prelude.{◌≡◌, ◌<◌, ◌+◌, ◌==◌, ◌⊎◌, ℕ, if◌then◌else◌, List, [], ◌∷◌, ◌++◌, length}
+use Rattle.std.specs.Prelude.{◌≡◌, ◌<◌, ◌+◌, ◌==◌, ◌⊎◌, ℕ, if◌then◌else◌, List, [], ◌∷◌, ◌++◌}
+use Rattle.std.specs.Prelude.{length}
 use Rattle.std.specs.List.{AllByRecursion}
-use Rattle.reactor_journal.specs.declared.entry.Entry.{Entry}
+use Rattle.reactor_model.specs.reactor_journal.specs.declared.entry.Entry.{Entry}
 use Rattle.log_handler.specs.declared.note.ServerNote.{ServerNote}
 use Rattle.journal_reader.specs.declared.refusal.JournalRefused.{JournalRefused}
 use Rattle.journal_reader.specs.declared.refusal.JournalRefused.TheVariants.{BadLine, NoMemory}
@@ -9,10 +10,11 @@ use Rattle.journal_text.specs.Texts.{most_line, entry_line, journal_text}
 use Rattle.journal_reader.specs.Limits.{IsMost, EntryIsWithin}
 
 -- a journal's text, with all that it spells within the limits
-pub record IsJournalText (text : List ℕ) (most : ℕ) (entries : List (Entry ServerNote)) : Type 0 where
-  pub spelt : text ≡ journal_text most entries
-  pub most_within : IsMost most
-  pub within : AllByRecursion EntryIsWithin entries
+pub record IsJournalText (text : List ℕ) (most : ℕ) (entries : List (Entry ServerNote)) : Type 0
+  where
+    pub spelt : text ≡ journal_text most entries
+    pub most_within : IsMost most
+    pub within : AllByRecursion EntryIsWithin entries
 
 -- the first line of a text with its line feed, or all of a text that has none
 abbrev pub first_line : List ℕ → List ℕ
@@ -25,10 +27,11 @@ BeginsWithNoMost text = (most : ℕ) → IsMost most → first_line text ≡ mos
 
 -- the first line is none of an entry
 abbrev pub BeginsWithNoEntry : List ℕ → Type 0
-BeginsWithNoEntry text = (e : Entry ServerNote) → EntryIsWithin e → first_line text ≡ entry_line e → ⊥
+BeginsWithNoEntry text = (e : Entry ServerNote) → EntryIsWithin e → first_line text ≡ entry_line e
+    → ⊥
 
--- A journal's text stands first, so each of its lines is good; more stands behind it, and the first line there, which has this number, is
--- none of an entry.
+-- A journal's text stands first, so each of its lines is good; more stands behind it, and the first
+-- line there, which has this number, is none of an entry.
 pub record BreaksOffAt (text : List ℕ) (number : ℕ) : Type 0 where
   pub front : List ℕ
   pub rest : List ℕ

@@ -1,4 +1,5 @@
--- The limits of a journal's text. What they leave out can be put by a writer, and is refused by a reader.
+-- The limits of a journal's text. What they leave out can be put by a writer, and is refused by a
+-- reader.
 use Rattle.std.specs.Prelude.{◌≤◌, ◌<◌, ◌^◌, ℕ, length}
 use Rattle.std.specs.List.{AllByRecursion}
 use Rattle.std.specs.Int.{w64}
@@ -6,10 +7,15 @@ use Rattle.std.specs.Int.RustNames.{FitsSigned}
 use Rattle.hex.specs.Hex.{IsBytes}
 use Rattle.cdr_record.specs.declared.record.LogRecord.{LogRecord}
 use Rattle.cdr_record.specs.Laws.{HasNumbersOf32Bits}
-use Rattle.log_lines.specs.declared.end_kind.EndKind.{EndKind}
-use Rattle.log_lines.specs.declared.end_kind.EndKind.TheVariants.{End, Partial, Malformed, Failed, NoMemory, Idle, Stopped, Refused}
-use Rattle.reactor_journal.specs.declared.entry.Entry.{Entry}
-use Rattle.reactor_journal.specs.declared.entry.Entry.TheVariants as entry
+use Rattle.log_handler.specs.log_lines.specs.declared.end_kind.EndKind.{EndKind}
+use Rattle.log_handler.specs.log_lines.specs.declared.end_kind.EndKind.TheVariants.{End, Partial}
+use Rattle.log_handler.specs.log_lines.specs.declared.end_kind.EndKind.TheVariants.{Malformed}
+use Rattle.log_handler.specs.log_lines.specs.declared.end_kind.EndKind.TheVariants.{Failed}
+use Rattle.log_handler.specs.log_lines.specs.declared.end_kind.EndKind.TheVariants.{NoMemory, Idle}
+use Rattle.log_handler.specs.log_lines.specs.declared.end_kind.EndKind.TheVariants.{Stopped}
+use Rattle.log_handler.specs.log_lines.specs.declared.end_kind.EndKind.TheVariants.{Refused}
+use Rattle.reactor_model.specs.reactor_journal.specs.declared.entry.Entry.{Entry}
+use Rattle.reactor_model.specs.reactor_journal.specs.declared.entry.Entry.TheVariants as entry
 use Rattle.log_handler.specs.declared.note.ServerNote.{ServerNote}
 use Rattle.log_handler.specs.declared.note.ServerNote.TheVariants as note
 
@@ -21,7 +27,8 @@ IsMost most = (1 ≤ most) × (most ≤ 4097)
 abbrev pub IsNumber : ℕ → Type 0
 IsNumber n = n < 2 ^ 64
 
--- a record: its seconds have 64 bits and its other numbers 32, and its message is at most 65,536 bytes
+-- a record: its seconds have 64 bits and its other numbers 32, and its message is at most 65,536
+-- bytes
 pub record RecordIsWithin (r : LogRecord) : Type 0 where
   pub numbers : HasNumbersOf32Bits r
   pub sec : FitsSigned w64 r.sec
@@ -43,12 +50,15 @@ NoteIsWithin (note.Accepted conn) = IsNumber conn
 NoteIsWithin note.NoneWaiting = Unit {0}
 NoteIsWithin note.ListenerFailed = Unit {0}
 NoteIsWithin note.ListenerShut = Unit {0}
-NoteIsWithin (note.Piece conn took records) = IsNumber conn × IsNumber took × IsNumber (length records) × AllByRecursion RecordIsWithin records
+NoteIsWithin (note.Piece conn took records) =
+    IsNumber conn × IsNumber took × IsNumber (length records)
+    × AllByRecursion RecordIsWithin records
 NoteIsWithin (note.Finished conn end) = IsNumber conn × EndIsWithin end
 
 abbrev pub EntryIsWithin : Entry ServerNote → Type 0
 EntryIsWithin (entry.Opened handle mask) = IsNumber handle.0
-EntryIsWithin (entry.Scheduled timer handle first every) = IsNumber timer × IsNumber handle.0 × IsNumber first × IsNumber every
+EntryIsWithin (entry.Scheduled timer handle first every) =
+    IsNumber timer × IsNumber handle.0 × IsNumber first × IsNumber every
 EntryIsWithin (entry.Cancelled timer) = IsNumber timer
 EntryIsWithin (entry.Polled now) = IsNumber now
 EntryIsWithin (entry.Due timer) = IsNumber timer

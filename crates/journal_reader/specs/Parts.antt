@@ -13,6 +13,7 @@ Reads value old None new = next value (left old) ≡ None
 Reads value old (Some v) new = next value (left old) ≡ Some (v, left new)
 
 -- some parts were read so
-abbrev pub ReadsAll : {V : Type 0} → (List (List ℕ) → Option (V × List (List ℕ))) → Parts → Option V → Parts → Type 0
+abbrev pub ReadsAll : {V : Type 0} → (List (List ℕ) → Option (V × List (List ℕ))) → Parts → Option V
+    → Parts → Type 0
 ReadsAll value old None new = value (left old) ≡ None
 ReadsAll value old (Some v) new = value (left old) ≡ Some (v, left new)

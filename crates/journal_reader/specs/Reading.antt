@@ -1,5 +1,9 @@
--- What the lines of a journal's text are read as, word by word. Each function is the inverse of one that puts a text.
-use Rattle.std.specs.Prelude.{ℕ, ◌-◌, ◌^◌, ◌==◌, nat_lt, nat_le, Bool, true, false, ◌&&◌, if◌then◌else◌, List, [], ◌∷◌, length, slice_index, ℤ, pos, negsuc, Option, Some, None, option_map, option_and_then, codes, decimal, Result, Ok, Err}
+-- What the lines of a journal's text are read as, word by word. Each function is the inverse of one
+-- that puts a text.
+use Rattle.std.specs.Prelude.{ℕ, ◌-◌, ◌^◌, ◌==◌, nat_lt, nat_le, Bool, true, false, ◌&&◌}
+use Rattle.std.specs.Prelude.{if◌then◌else◌, List, [], ◌∷◌, length, slice_index, ℤ, pos, negsuc}
+use Rattle.std.specs.Prelude.{Option, Some, None, option_map, option_and_then, codes, decimal}
+use Rattle.std.specs.Prelude.{Result, Ok, Err}
 use Rattle.std.specs.List.{list_all}
 use Rattle.std.specs.Str.{bytes_eq}
 use Rattle.std.specs.Str.Parse.{digits_value}
@@ -11,10 +15,15 @@ use Rattle.ev_types.specs.declared.upcall.Kind.TheVariants.{Read, Write, Except}
 use Rattle.ev_types.specs.declared.upcall.Answer.{Answer}
 use Rattle.ev_types.specs.declared.upcall.Answer.TheVariants.{Keep, Again, Close}
 use Rattle.cdr_record.specs.declared.record.LogRecord.{LogRecord}
-use Rattle.log_lines.specs.declared.end_kind.EndKind.{EndKind}
-use Rattle.log_lines.specs.declared.end_kind.EndKind.TheVariants.{End, Partial, Malformed, Failed, NoMemory, Idle, Stopped, Refused}
-use Rattle.reactor_journal.specs.declared.entry.Entry.{Entry}
-use Rattle.reactor_journal.specs.declared.entry.Entry.TheVariants as entry
+use Rattle.log_handler.specs.log_lines.specs.declared.end_kind.EndKind.{EndKind}
+use Rattle.log_handler.specs.log_lines.specs.declared.end_kind.EndKind.TheVariants.{End, Partial}
+use Rattle.log_handler.specs.log_lines.specs.declared.end_kind.EndKind.TheVariants.{Malformed}
+use Rattle.log_handler.specs.log_lines.specs.declared.end_kind.EndKind.TheVariants.{Failed}
+use Rattle.log_handler.specs.log_lines.specs.declared.end_kind.EndKind.TheVariants.{NoMemory, Idle}
+use Rattle.log_handler.specs.log_lines.specs.declared.end_kind.EndKind.TheVariants.{Stopped}
+use Rattle.log_handler.specs.log_lines.specs.declared.end_kind.EndKind.TheVariants.{Refused}
+use Rattle.reactor_model.specs.reactor_journal.specs.declared.entry.Entry.{Entry}
+use Rattle.reactor_model.specs.reactor_journal.specs.declared.entry.Entry.TheVariants as entry
 use Rattle.log_handler.specs.declared.note.ServerNote.{ServerNote}
 use Rattle.log_handler.specs.declared.note.ServerNote.TheVariants as note
 
@@ -42,7 +51,8 @@ at_end parts o = if no_more parts then o else None
 
 -- decimal digits without a leading zero, of a number of 64 bits
 abbrev pub is_number : List ℕ → Bool
-is_number word = bytes_eq word (decimal (digits_value 10 word)) && nat_lt (digits_value 10 word) (2 ^ 64)
+is_number word = bytes_eq word (decimal (digits_value 10 word))
+    && nat_lt (digits_value 10 word) (2 ^ 64)
 
 unfoldable pub number_of : List ℕ → Option ℕ
 number_of word = if is_number word then Some (digits_value 10 word) else None
@@ -58,7 +68,8 @@ below_zero (Some n) = if nat_lt 0 n && nat_le n (2 ^ 63) then Some (negsuc (n - 
 
 unfoldable pub signed_of : List ℕ → Option ℤ
 signed_of [] = None
-signed_of (byte ∷ bytes) = if byte == 45 then below_zero (number_of bytes) else from_zero (number_of (byte ∷ bytes))
+signed_of (byte ∷ bytes) = if byte
+    == 45 then below_zero (number_of bytes) else from_zero (number_of (byte ∷ bytes))
 
 -- one of 32 bits
 abbrev pub narrowed : ℤ → Option ℤ
@@ -72,7 +83,8 @@ narrow_of word = signed_of word >>= narrowed
 
 -- a letter, or a hyphen
 abbrev pub letter_of : ℕ → ℕ → Option Bool
-letter_of letter byte = if byte == letter then Some true else if byte == 45 then Some false else None
+letter_of letter byte = if byte == letter then Some true else if byte
+    == 45 then Some false else None
 
 unfoldable pub mask_of : List ℕ → Option Mask
 mask_of word = if length word == 3 then (do
@@ -137,7 +149,8 @@ value_of (Err refused) = None
 
 -- the bytes of a message, by at most 131,072 digits in lower case
 unfoldable pub message_of : List ℕ → Option (List ℕ)
-message_of digits = if nat_le (length digits) 131072 && list_all is_lower_digit digits then value_of (decode_of digits) else None
+message_of digits = if nat_le (length digits) 131072
+    && list_all is_lower_digit digits then value_of (decode_of digits) else None
 
 -- a record's four numbers
 pub record Numbers : Type 0 where
@@ -155,7 +168,13 @@ numbers_of parts = do
   Some (record { kind = kind.0; pid = pid.0; sec = sec.0; usec = usec.0 }, usec.1)
 
 abbrev pub with_message : Numbers → List ℕ → LogRecord
-with_message numbers text = record { kind = numbers.kind; pid = numbers.pid; sec = numbers.sec; usec = numbers.usec; text = text }
+with_message numbers text = record {
+  kind = numbers.kind;
+  pid = numbers.pid;
+  sec = numbers.sec;
+  usec = numbers.usec;
+  text = text;
+}
 
 unfoldable pub record_of : List ℕ → Option LogRecord
 record_of word = do

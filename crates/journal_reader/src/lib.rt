@@ -1,4 +1,5 @@
-//! The reader of texts of journals: it gives the journal that a text spells, or the first line that is none of a journal's.
+//! The reader of texts of journals: it gives the journal that a text spells, or the first line that
+//! is none of a journal's.
 #![tactic(auto)]
 
 mod laws;

@@ -8,11 +8,12 @@ use crate::parts::Parts;
 use crate::read_entries::read_entry;
 use ev_types::NoMemory;
 use log_handler::ServerNote;
-use reactor_journal::Entry;
+use reactor_model::Entry;
 use std::alloc::Global;
 use text_parts::is_word;
 
-/// The first line of a text, without its line feed, and the text behind it; None where the text has no line feed.
+/// The first line of a text, without its line feed, and the text behind it; None where the text has
+/// no line feed.
 fn next_line(text: &[u8]) -> Option<(&[u8], &[u8])>
     ensures { IsFirstLine text.now result }
 {
@@ -47,7 +48,8 @@ fn limited(most: u64) -> Option<u64>
     }
 }
 
-/// The number of the first line `most N`, and the text behind that line; None where the first line is none.
+/// The number of the first line `most N`, and the text behind that line; None where the first line
+/// is none.
 pub(crate) fn read_most(text: &[u8]) -> Option<(u64, &[u8])>
     ensures { ReadsMost text.now result }
 {
@@ -56,7 +58,8 @@ pub(crate) fn read_most(text: &[u8]) -> Option<(u64, &[u8])>
     Some((most, rest))
 }
 
-/// The entry of the first line, and the text behind that line; None where the first line is that of no entry.
+/// The entry of the first line, and the text behind that line; None where the first line is that of
+/// no entry.
 pub(crate) fn read_first(
     alloc: Global,
     text: &[u8],

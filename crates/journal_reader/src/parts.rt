@@ -1,14 +1,15 @@
 //! The parts of a text between separators, one behind another.
 ghost use Rattle.std.specs.Prelude.{◌≡◌, ◌∷◌, [], MatchOption};
 ghost use Rattle.text_parts.specs.Parts.{parts};
-ghost use Rattle.journal_reader.specs.Reading.{no_more, number_of, signed_of, narrow_of, mask_of, kind_of, answer_of, fault_of, end_of};
+ghost use Rattle.journal_reader.specs.Reading.{no_more, number_of, signed_of, narrow_of, mask_of};
+ghost use Rattle.journal_reader.specs.Reading.{kind_of, answer_of, fault_of, end_of};
 ghost use Rattle.journal_reader.specs.Parts.{left, Reads};
 
 use crate::values::{
     read_answer, read_end, read_fault, read_kind, read_mask, read_narrow, read_number, read_signed,
 };
 use ev_types::{Answer, Kind, Mask};
-use log_lines::EndKind;
+use log_handler::EndKind;
 use text_parts::cut;
 
 /// The parts of a text that are left to be read.
@@ -31,7 +32,8 @@ impl<'a> Parts<'a> {
 
     /// The next part, or None where none is left.
     pub(crate) fn take(&mut self) -> Option<&'a [u8]>
-        ensures { MatchOption result (left self.old ≡ []) (λ part. left self.old ≡ part.now ∷ left self.new) }
+        ensures { MatchOption result (left self.old ≡ [])
+            (λ part. left self.old ≡ part.now ∷ left self.new) }
     {
         let rest = self.rest?;
         let (part, behind) = cut(rest, self.separator);

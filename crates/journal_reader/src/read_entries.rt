@@ -1,13 +1,16 @@
 //! The lines of entries, read.
 ghost use Rattle.std.specs.Prelude.{◌≡◌, IfOk};
-ghost use Rattle.journal_reader.specs.Reading.{opened_of, masked_of, scheduled_of, ready_of, posted_of, stale_of, entry_with, numbered_of, plain_of, returned_of, refused_of, closed_of, whole_of, named_of, entry_of};
+ghost use Rattle.journal_reader.specs.Reading.{opened_of, masked_of, scheduled_of, ready_of};
+ghost use Rattle.journal_reader.specs.Reading.{posted_of, stale_of, entry_with, numbered_of};
+ghost use Rattle.journal_reader.specs.Reading.{plain_of, returned_of, refused_of, closed_of};
+ghost use Rattle.journal_reader.specs.Reading.{whole_of, named_of, entry_of};
 ghost use Rattle.journal_reader.specs.Parts.{left, ReadsAll};
 
 use crate::parts::Parts;
 use crate::read_notes::read_note;
 use ev_types::{Handle, NoMemory};
 use log_handler::ServerNote;
-use reactor_journal::Entry;
+use reactor_model::Entry;
 use std::alloc::Global;
 use text_parts::is_word;
 

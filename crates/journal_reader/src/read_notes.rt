@@ -1,6 +1,7 @@
 //! Notes, read.
 ghost use Rattle.std.specs.Prelude.{◌≡◌, IfOk};
-ghost use Rattle.journal_reader.specs.Reading.{at_end, accepted_of, finished_of, short_note_of, counts_of, piece_of, note_of};
+ghost use Rattle.journal_reader.specs.Reading.{at_end, accepted_of, finished_of, short_note_of};
+ghost use Rattle.journal_reader.specs.Reading.{counts_of, piece_of, note_of};
 ghost use Rattle.journal_reader.specs.Parts.{left, ReadsAll};
 
 use crate::parts::Parts;

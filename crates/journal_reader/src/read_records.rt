@@ -14,7 +14,8 @@ use std::alloc::Global;
 /// How many digits a message has at most.
 const MOST_DIGITS: usize = 131_072;
 
-/// For how many records places are reserved at most before they are read, so that a wrong count takes little memory.
+/// For how many records places are reserved at most before they are read, so that a wrong count
+/// takes little memory.
 const MOST_RESERVED: u64 = 1_024;
 
 /// The four numbers of a record.
@@ -109,13 +110,15 @@ fn places_for(count: u64) -> usize
     count.min(MOST_RESERVED) as usize
 }
 
-/// All parts that are left, as records. The text says that there are so many: then each has one place, and none is spare.
+/// All parts that are left, as records. The text says that there are so many: then each has one
+/// place, and none is spare.
 pub(crate) fn read_records(
     alloc: Global,
     count: u64,
     parts: &mut Parts,
 ) -> Result<Option<Vec<LogRecord>>, NoMemory>
-    ensures { IfOk result (λ read. MatchOption read (records_of (left parts.old) ≡ None) (λ records. records_of (left parts.old) ≡ Some records.items)) }
+    ensures { IfOk result (λ read. MatchOption read (records_of (left parts.old) ≡ None)
+        (λ records. records_of (left parts.old) ≡ Some records.items)) }
 {
     let mut records = Vec::with_capacity(alloc, places_for(count))?;
     while let Some(word) = parts.take() {

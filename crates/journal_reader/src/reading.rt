@@ -8,7 +8,8 @@ use log_handler::ServerNote;
 use reactor_model::Journal;
 use std::alloc::Global;
 
-/// Reads the text of a journal: how many handlers may be live at once, and the entries. It is read in one pass.
+/// Reads the text of a journal: how many handlers may be live at once, and the entries. It is read
+/// in one pass.
 ///
 /// `BadLine` names the first line that the grammar or one of its limits does not allow.
 pub fn read_journal(

@@ -1,11 +1,14 @@
 //! What single words say.
 ghost use Rattle.std.specs.Prelude.{◌≡◌, ◌≤◌, ◌<◌, ◌^◌, IfSome};
 ghost use Rattle.std.specs.Str.Parse.{AllDigits, digits_value};
-ghost use Rattle.journal_reader.specs.Reading.{number_of, signed_of, from_zero, below_zero, narrowed, narrow_of, letter_of, mask_of, kind_of, answer_of, fault_of, end_with, counted_end_of, end_of};
+ghost use Rattle.journal_reader.specs.Reading.{number_of, signed_of, from_zero, below_zero};
+ghost use Rattle.journal_reader.specs.Reading.{narrowed, narrow_of, letter_of, mask_of, kind_of};
+ghost use Rattle.journal_reader.specs.Reading.{answer_of, fault_of, end_with, counted_end_of};
+ghost use Rattle.journal_reader.specs.Reading.{end_of};
 
 use crate::parts::Parts;
 use ev_types::{Answer, Kind, Mask};
-use log_lines::EndKind;
+use log_handler::EndKind;
 use text_parts::is_word;
 
 /// The number of these decimal digits, if it is one of 64 bits.

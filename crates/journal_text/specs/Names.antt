@@ -1,8 +1,8 @@
 -- The names of the kinds of entries and of the priorities of records.
 use Rattle.std.specs.Prelude.{ℕ, ◌==◌, if◌then◌else◌, List, [], ◌∷◌, codes}
-use Rattle.code_table.specs.Rows.{Named}
-use Rattle.reactor_journal.specs.declared.entry.Entry.{Entry}
-use Rattle.reactor_journal.specs.declared.entry.Entry.TheVariants as entry
+use Rattle.journal_text.specs.Rows.{Named}
+use Rattle.reactor_model.specs.reactor_journal.specs.declared.entry.Entry.{Entry}
+use Rattle.reactor_model.specs.reactor_journal.specs.declared.entry.Entry.TheVariants as entry
 use Rattle.log_handler.specs.declared.note.ServerNote.{ServerNote}
 
 -- the first word of a line

@@ -1,18 +1,21 @@
--- The text of a journal: the line `most N`, where N is how many handlers may be live at once, and then one line for each entry, in
--- order. Words are parted by one space, and each line ends with a line feed. The spelling is this project's own; each journal has one.
-use Rattle.std.specs.Prelude.{ℕ, Bool, true, false, if◌then◌else◌, List, ◌++◌, codes, decimal, flat_map, length}
+-- The text of a journal: the line `most N`, where N is how many handlers may be live at once, and
+-- then one line for each entry, in order. Words are parted by one space, and each line ends with a
+-- line feed. The spelling is this project's own; each journal has one.
+use Rattle.std.specs.Prelude.{ℕ, Bool, true, false, if◌then◌else◌, List, ◌++◌, codes, decimal}
+use Rattle.std.specs.Prelude.{flat_map, length}
 use Rattle.std.specs.Fmt.{signed_decimal}
 use Rattle.hex.specs.Hex.{encode_lower}
-use Rattle.ev_types.specs.declared.upcall.Mask.{Mask}
-use Rattle.ev_types.specs.declared.upcall.Kind.{Kind}
-use Rattle.ev_types.specs.declared.upcall.Kind.TheVariants.{Read, Write, Except}
-use Rattle.ev_types.specs.declared.upcall.Answer.{Answer}
-use Rattle.ev_types.specs.declared.upcall.Answer.TheVariants.{Keep, Again, Close}
+use Rattle.cdr_record.specs.ev_types.specs.declared.upcall.Mask.{Mask}
+use Rattle.cdr_record.specs.ev_types.specs.declared.upcall.Kind.{Kind}
+use Rattle.cdr_record.specs.ev_types.specs.declared.upcall.Kind.TheVariants.{Read, Write, Except}
+use Rattle.cdr_record.specs.ev_types.specs.declared.upcall.Answer.{Answer}
+use Rattle.cdr_record.specs.ev_types.specs.declared.upcall.Answer.TheVariants.{Keep, Again, Close}
 use Rattle.cdr_record.specs.declared.record.LogRecord.{LogRecord}
 use Rattle.log_lines.specs.declared.end_kind.EndKind.{EndKind}
-use Rattle.log_lines.specs.declared.end_kind.EndKind.TheVariants.{End, Partial, Malformed, Failed, NoMemory, Idle, Stopped, Refused}
-use Rattle.reactor_journal.specs.declared.entry.Entry.{Entry}
-use Rattle.reactor_journal.specs.declared.entry.Entry.TheVariants as entry
+use Rattle.log_lines.specs.declared.end_kind.EndKind.TheVariants.{End, Partial, Malformed, Failed}
+use Rattle.log_lines.specs.declared.end_kind.EndKind.TheVariants.{NoMemory, Idle, Stopped, Refused}
+use Rattle.reactor_model.specs.reactor_journal.specs.declared.entry.Entry.{Entry}
+use Rattle.reactor_model.specs.reactor_journal.specs.declared.entry.Entry.TheVariants as entry
 use Rattle.log_handler.specs.declared.note.ServerNote.{ServerNote}
 use Rattle.log_handler.specs.declared.note.ServerNote.TheVariants as note
 
@@ -51,7 +54,8 @@ end_text Refused = codes "refused"
 -- a record: `TYPE:PID:SEC:USEC:MESSAGE`, the message in lower-case hexadecimal digits
 unfoldable pub record_word : LogRecord → List ℕ
 record_word r =
-    signed_decimal r.kind ++ codes ":" ++ signed_decimal r.pid ++ codes ":" ++ signed_decimal r.sec ++ codes ":" ++ signed_decimal r.usec
+    signed_decimal r.kind ++ codes ":" ++ signed_decimal r.pid ++ codes ":" ++ signed_decimal r.sec
+    ++ codes ":" ++ signed_decimal r.usec
     ++ codes ":" ++ encode_lower r.text
 
 -- the records of a piece, a space before each
@@ -65,29 +69,40 @@ note_text note.NoneWaiting = codes "none"
 note_text note.ListenerFailed = codes "listenerfailed"
 note_text note.ListenerShut = codes "shut"
 note_text (note.Piece conn took records) =
-    codes "piece " ++ decimal conn ++ codes " " ++ decimal took ++ codes " " ++ decimal (length records) ++ record_words records
+    codes "piece " ++ decimal conn ++ codes " " ++ decimal took ++ codes " "
+    ++ decimal (length records) ++ record_words records
 note_text (note.Finished conn end) = codes "end " ++ decimal conn ++ codes " " ++ end_text end
 
 -- an entry, without the line feed
 unfoldable pub entry_text : Entry ServerNote → List ℕ
-entry_text (entry.Opened handle mask) = codes "opened " ++ decimal handle.0 ++ codes " " ++ mask_text mask
+entry_text (entry.Opened handle mask) =
+    codes "opened " ++ decimal handle.0 ++ codes " " ++ mask_text mask
 entry_text (entry.Scheduled timer handle first every) =
-    codes "scheduled " ++ decimal timer ++ codes " " ++ decimal handle.0 ++ codes " " ++ decimal first ++ codes " " ++ decimal every
+    codes "scheduled " ++ decimal timer ++ codes " " ++ decimal handle.0 ++ codes " "
+    ++ decimal first ++ codes " " ++ decimal every
 entry_text (entry.Cancelled timer) = codes "cancelled " ++ decimal timer
 entry_text (entry.Polled now) = codes "polled " ++ decimal now
 entry_text (entry.Due timer) = codes "due " ++ decimal timer
-entry_text (entry.Ready handle kind) = codes "ready " ++ decimal handle.0 ++ codes " " ++ kind_text kind
+entry_text (entry.Ready handle kind) =
+    codes "ready " ++ decimal handle.0 ++ codes " " ++ kind_text kind
 entry_text (entry.Posted handle kind from seq) =
-    codes "posted " ++ decimal handle.0 ++ codes " " ++ kind_text kind ++ codes " " ++ decimal from ++ codes " " ++ decimal seq
-entry_text (entry.Stale handle from seq) = codes "stale " ++ decimal handle.0 ++ codes " " ++ decimal from ++ codes " " ++ decimal seq
+    codes "posted " ++ decimal handle.0 ++ codes " " ++ kind_text kind ++ codes " " ++ decimal from
+    ++ codes " " ++ decimal seq
+entry_text (entry.Stale handle from seq) =
+    codes "stale " ++ decimal handle.0 ++ codes " " ++ decimal from ++ codes " " ++ decimal seq
 entry_text (entry.Started event) = codes "started " ++ decimal event
-entry_text (entry.Returned event answer said) = codes "returned " ++ decimal event ++ codes " " ++ answer_text answer ++ codes " " ++ note_text said
-entry_text (entry.Masked handle mask) = codes "masked " ++ decimal handle.0 ++ codes " " ++ mask_text mask
+entry_text (entry.Returned event answer said) =
+    codes "returned " ++ decimal event ++ codes " " ++ answer_text answer ++ codes " "
+    ++ note_text said
+entry_text (entry.Masked handle mask) =
+    codes "masked " ++ decimal handle.0 ++ codes " " ++ mask_text mask
 entry_text (entry.Suspended handle) = codes "suspended " ++ decimal handle.0
 entry_text (entry.Resumed handle) = codes "resumed " ++ decimal handle.0
-entry_text (entry.Refused live fault said) = codes "refused " ++ decimal live ++ codes " " ++ fault_text fault ++ codes " " ++ note_text said
+entry_text (entry.Refused live fault said) =
+    codes "refused " ++ decimal live ++ codes " " ++ fault_text fault ++ codes " " ++ note_text said
 entry_text (entry.Removed handle) = codes "removed " ++ decimal handle.0
-entry_text (entry.Closed handle said) = codes "closed " ++ decimal handle.0 ++ codes " " ++ note_text said
+entry_text (entry.Closed handle said) =
+    codes "closed " ++ decimal handle.0 ++ codes " " ++ note_text said
 entry_text entry.Ended = codes "ended"
 
 -- its line

@@ -5,9 +5,9 @@ ghost use Rattle.journal_text.specs.Texts.{entry_text, entry_line, most_line, no
 
 use crate::notes::put_note;
 use crate::words::{answer_word, fault_word, kind_word, put_counted, put_mask, put_number};
-use ev_types::{Handle, Mask};
+use ev_base::{Handle, Mask};
 use log_handler::ServerNote;
-use reactor_journal::Entry;
+use reactor_model::Entry;
 use sink_buffer::TextOut;
 
 /// Puts the line `most N`, the first of a journal's text: how many handlers may be live at once.

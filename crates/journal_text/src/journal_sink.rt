@@ -7,15 +7,16 @@ ghost use Rattle.journal_text.specs.JournalSink.{next_text};
 
 use crate::entries::{put_entry_line, put_most_line};
 use ev_base::Sink;
+use ghost_log::Tally;
 use log_handler::ServerNote;
-use reactor_journal::Entry;
-use reactor_model::Watch;
+use reactor_model::{Entry, Watch};
 use sink_buffer::{SinkBuffer, TextOut};
-use tally::Tally;
 
-/// A watch that writes the text of a journal as its entries are appended: the line `most N` together with the first entry, and from then
-/// on a line for each entry. What is due for an entry is written in one call where it has at most 8,192 bytes
-/// and the sink takes all of it, and else in several. It holds nothing back between entries, takes no memory, and writes nothing more once a write failed.
+/// A watch that writes the text of a journal as its entries are appended: the line `most N`
+/// together with the first entry, and from then on a line for each entry. What is due for an entry
+/// is written in one call where it has at most 8,192 bytes and the sink takes all of it, and else
+/// in several. It holds nothing back between entries, takes no memory, and writes nothing more once
+/// a write failed.
 #[derive(Drop)]
 pub struct JournalSink<K> {
     output: SinkBuffer<K>,
@@ -28,10 +29,13 @@ pub struct JournalSink<K> {
 impl<K: Sink> JournalSink<K> {
     ghost use Rattle.journal_text.specs.JournalSink.{PutsJournal, is_broken, sink_of};
 
-    /// A watch that has seen nothing, over this sink, for a reactor in which at most `most` handlers may be live at once.
+    /// A watch that has seen nothing, over this sink, for a reactor in which at most `most`
+    /// handlers may be live at once.
     pub fn new(most: u64, output: K) -> JournalSink<K>
-        ensures stands { (t : Terms) → t.most ≡ most → ((text : List ℕ) → t.opening ≡ Some text → (K.facts output).text ≡ Some text)
-            → ((n : ℕ) → t.output_faults ≡ Some n → (K.facts output).faults ≡ n) → PutsJournal K.facts t result [] }
+        ensures stands { (t : Terms) → t.most ≡ most → ((text : List ℕ) → t.opening ≡ Some text
+            → (K.facts output).text ≡ Some text)
+            → ((n : ℕ) → t.output_faults ≡ Some n → (K.facts output).faults ≡ n)
+            → PutsJournal K.facts t result [] }
         ensures output { sink_of result ≡ output }
         ensures sound { is_broken result ≡ false }
     {
@@ -62,9 +66,10 @@ fn put_next<T: TextOut>(out: &mut T, most: u64, begun: bool, entry: &Entry<Serve
 }
 
 impl<K: Sink> Watch<ServerNote> for JournalSink<K> {
-    ghost use Rattle.reactor_journal.specs.declared.entry.Entry.{Entry};
+    ghost use Rattle.reactor_model.specs.reactor_journal.specs.declared.entry.Entry.{Entry};
     ghost use Rattle.log_handler.specs.declared.note.ServerNote.{ServerNote};
-    ghost use Rattle.journal_text.specs.JournalSink.{PutsJournal, journal_sink_faults, is_broken, sink_of, whole_of};
+    ghost use Rattle.journal_text.specs.JournalSink.{PutsJournal, journal_sink_faults, is_broken};
+    ghost use Rattle.journal_text.specs.JournalSink.{sink_of, whole_of};
     ghost use Rattle.journal_text.specs.Faults.{breaks_above};
 
     ghost stands = { PutsJournal K.facts };
@@ -76,10 +81,14 @@ impl<K: Sink> Watch<ServerNote> for JournalSink<K> {
     ghost whole = { whole_of };
 
     fn saw(&mut self, entry: &Entry<ServerNote>)
-        ensures stands { (t : Terms) (h : List (Entry ServerNote)) → PutsJournal K.facts t self.old h → PutsJournal K.facts t self.new (h ++ entry.now ∷ []) }
-        ensures later { journal_sink_faults K.facts self.old ≤ journal_sink_faults K.facts self.new }
+        ensures stands { (t : Terms) (h : List (Entry ServerNote))
+            → PutsJournal K.facts t self.old h
+            → PutsJournal K.facts t self.new (h ++ entry.now ∷ []) }
+        ensures later { journal_sink_faults K.facts self.old
+            ≤ journal_sink_faults K.facts self.new }
         ensures stays { is_broken self.old ≡ true → is_broken self.new ≡ true }
-        ensures breaks { is_broken self.old ≡ false → is_broken self.new ≡ true → Rose (journal_sink_faults K.facts self.old) (journal_sink_faults K.facts self.new) }
+        ensures breaks { is_broken self.old ≡ false → is_broken self.new ≡ true
+            → Rose (journal_sink_faults K.facts self.old) (journal_sink_faults K.facts self.new) }
         ensures whole { whole_of self.old ≤ whole_of self.new }
         ensures quiet { is_broken self.old ≡ true → sink_of self.new ≡ sink_of self.old }
     {
@@ -98,5 +107,6 @@ impl<K: Sink> Watch<ServerNote> for JournalSink<K> {
         self.output.is_broken()
     }
 
-    ghost broke = { λ t watch h before stands broken started. breaks_above K.facts t watch h before stands broken started };
+    ghost broke = { λ t watch h before stands broken started.
+        breaks_above K.facts t watch h before stands broken started };
 }

@@ -1,27 +1,30 @@
 //! The tables of names.
 ghost use Rattle.std.specs.Prelude.{◌≡◌, ℕ, pos, Some, decimal, unwrap_or};
 ghost use Rattle.log_lines.specs.Texts.{type_text};
-ghost use Rattle.reactor_journal.specs.declared.entry.Entry.{Entry};
+ghost use Rattle.reactor_model.specs.reactor_journal.specs.declared.entry.Entry.{Entry};
 ghost use Rattle.log_handler.specs.declared.note.ServerNote.{ServerNote};
-ghost use Rattle.code_table.specs.Rows.{name_in};
-ghost use Rattle.code_table.specs.Tables.{names_in};
+ghost use Rattle.journal_text.specs.Rows.{name_in};
+ghost use Rattle.journal_text.specs.Tables.{names_in};
 ghost use Rattle.journal_text.specs.Texts.{entry_text};
 ghost use Rattle.journal_text.specs.Names.{kind_names, kind_number, first_word, priority_names};
 
-use code_table::{CodeTable, Row};
+use crate::code_table::{CodeTable, Row};
 
 /// The kinds of entries, each with a number of its own and the word with which its line begins.
 pub fn entry_kinds() -> CodeTable<17>
     ensures names { names_in result ≡ kind_names }
-    ensures lines { (e : Entry ServerNote) → name_in (names_in result) (kind_number e) ≡ Some (first_word (entry_text e)) }
+    ensures lines { (e : Entry ServerNote) → name_in (names_in result) (kind_number e)
+        ≡ Some (first_word (entry_text e)) }
 {
     CodeTable::new(&KINDS)
 }
 
-/// The priorities of records, each with the type that stands for it and its name in the lines of a log.
+/// The priorities of records, each with the type that stands for it and its name in the lines of a
+/// log.
 pub fn priorities() -> CodeTable<11>
     ensures names { names_in result ≡ priority_names }
-    ensures lines { (kind : ℕ) → type_text (pos kind) ≡ unwrap_or (name_in (names_in result) kind) (decimal kind) }
+    ensures lines { (kind : ℕ) → type_text (pos kind) ≡ unwrap_or (name_in (names_in result) kind)
+        (decimal kind) }
 {
     CodeTable::new(&PRIORITIES)
 }

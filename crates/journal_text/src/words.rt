@@ -4,7 +4,7 @@ ghost use Rattle.hex.specs.Hex.{encode_lower};
 ghost use Rattle.sink_buffer.specs.Texts.{Puts};
 ghost use Rattle.journal_text.specs.Texts.{mask_text, kind_text, answer_text, fault_text, end_text};
 
-use ev_types::{Answer, Kind, Mask};
+use ev_base::{Answer, Kind, Mask};
 use hex::encode_to_slice;
 use log_lines::{EndKind, put_unsigned};
 use sink_buffer::TextOut;

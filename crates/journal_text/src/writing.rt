@@ -5,11 +5,10 @@ ghost use Rattle.sink_buffer.specs.Written.{TakesAll, BreaksOff};
 ghost use Rattle.journal_text.specs.Texts.{entry_lines, journal_text};
 
 use crate::entries::{put_entry_line, put_most_line};
+use crate::lent::{PutText, write_text};
 use ev_base::Sink;
-use lent_sink::{PutText, write_text};
 use log_handler::ServerNote;
-use reactor_journal::Entry;
-use reactor_model::Journal;
+use reactor_model::{Entry, Journal};
 use sink_buffer::TextOut;
 use std::error::Error;
 use std::fmt;
@@ -51,17 +50,21 @@ fn put_lines<T: TextOut>(out: &mut T, entries: &[Entry<ServerNote>])
     }
 }
 
-/// Writes the text of a journal: the line `most N` and a line for each entry, whatever their numbers and messages are. What is beyond a
-/// limit of the text is written by the same rules, and `read_journal` refuses its line. It takes no memory.
+/// Writes the text of a journal: the line `most N` and a line for each entry, whatever their
+/// numbers and messages are. What is beyond a limit of the text is written by the same rules, and
+/// `read_journal` refuses its line. It takes no memory.
 ///
-/// `WriteFailed` comes only where a write of the sink failed; then the sink has taken a front of the text.
+/// `WriteFailed` comes only where a write of the sink failed; then the sink has taken a front of
+/// the text.
 pub fn write_journal<K: Sink>(
     most: u64,
     journal: &Journal<ServerNote>,
     sink: &mut K,
 ) -> Result<(), WriteFailed>
-    ensures whole { OnOk result (TakesAll (K.facts sink.old) (journal_text most journal.now.entries) (K.facts sink.new)) }
-    ensures front { OnErr result (BreaksOff (K.facts sink.old) (journal_text most journal.now.entries) (K.facts sink.new)) }
+    ensures whole { OnOk result (TakesAll (K.facts sink.old) (journal_text most journal.now.entries)
+        (K.facts sink.new)) }
+    ensures front { OnErr result (BreaksOff (K.facts sink.old)
+        (journal_text most journal.now.entries) (K.facts sink.new)) }
 {
     let whole = WholeJournal {
         most,

@@ -9,9 +9,14 @@ use Rattle.journal_picture.specs.declared.picture.Drawn.TheVariants.{Whole, Writ
 use Rattle.journal_picture.specs.Pictures.{picture, Draws}
 use Rattle.journal_viewer.specs.Views.{IsVerdict, ViewsText, ended_by}
 
-pub views_drawn : (text : List ℕ) (most : ℕ) (journal : List (Entry ServerNote)) (bad : Option ℕ) (drawn : Drawn) (o p : SinkFacts)
-    → IsJournalText text most journal → IsVerdict journal most bad → Draws o (picture journal bad) p drawn → ViewsText text o p (ended_by bad drawn)
-views_drawn text most journal None Whole o p spells verdict written = (journal, record { most = most; spells = spells; verdict = verdict }, written)
-views_drawn text most journal (Some at) Whole o p spells verdict written = (journal, record { most = most; spells = spells; verdict = verdict }, written)
-views_drawn text most journal bad WriteFault o p spells verdict written = (journal, bad, record { most = most; spells = spells; verdict = verdict }, written)
+pub views_drawn : (text : List ℕ) (most : ℕ) (journal : List (Entry ServerNote)) (bad : Option ℕ)
+    (drawn : Drawn) (o p : SinkFacts)
+    → IsJournalText text most journal → IsVerdict journal most bad
+    → Draws o (picture journal bad) p drawn → ViewsText text o p (ended_by bad drawn)
+views_drawn text most journal None Whole o p spells verdict written =
+    (journal, record { most = most; spells = spells; verdict = verdict }, written)
+views_drawn text most journal (Some at) Whole o p spells verdict written =
+    (journal, record { most = most; spells = spells; verdict = verdict }, written)
+views_drawn text most journal bad WriteFault o p spells verdict written =
+    (journal, bad, record { most = most; spells = spells; verdict = verdict }, written)
 views_drawn text most journal bad NoMemory o p spells verdict written = written

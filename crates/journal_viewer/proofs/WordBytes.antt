@@ -1,10 +1,11 @@
 -- The lines of entries have the bytes of words alone.
-use Rattle.std.proofs.Common.{◌≡◌, ◌∙◌, ℕ, true, ◌&&◌, List, [], ◌∷◌, ◌++◌, codes, refl, ap, subst, sym, arith}
+use Rattle.std.proofs.Common.{◌≡◌, ◌∙◌, ℕ, true, ◌&&◌, List, [], ◌∷◌, ◌++◌, codes, refl, ap, subst}
+use Rattle.std.proofs.Common.{sym, arith}
 use Rattle.std.specs.List.{list_all, join_with_byte}
 use Rattle.std.proofs.lemmas.Bool.{and_parts}
 use Rattle.std.proofs.lemmas.Bool.Decides.{nat_tests}
 use Rattle.std.proofs.lemmas.List.Folds.{list_all-append}
-use Rattle.journal_text.specs.Texts.{entry_text, entry_line}
+use Rattle.journal_reader.specs.journal_text.specs.Texts.{entry_text, entry_line}
 use Rattle.journal_reader.proofs.Joins.{is_plain, Plain, AllPlain}
 use Rattle.journal_reader.proofs.EntryWords.{entry_words, entry_joined, entry_plain}
 use Rattle.journal_viewer.specs.Laws.{is_word_byte, LinesAreWords}
@@ -28,8 +29,11 @@ plain_words (b ∷ part) plain =
 joined_words : (ps : List (List ℕ)) → AllPlain ps → Words (join_with_byte 32 ps)
 joined_words [] plain = refl
 joined_words (part ∷ []) plain = plain_words part plain.0
-joined_words (part ∷ next ∷ ps) plain = both part (32 ∷ join_with_byte 32 (next ∷ ps)) (plain_words part plain.0) (joined_words (next ∷ ps) plain.1)
+joined_words (part ∷ next ∷ ps) plain =
+    both part (32 ∷ join_with_byte 32 (next ∷ ps)) (plain_words part plain.0)
+    (joined_words (next ∷ ps) plain.1)
 
 pub lines_are_words : LinesAreWords
 unfolding entry_line
-lines_are_words = λ e w. both (entry_text e) (codes "\n") (subst Words (sym (entry_joined e)) (joined_words (entry_words e) (entry_plain e w))) refl
+lines_are_words = λ e w. both (entry_text e) (codes "\n")
+    (subst Words (sym (entry_joined e)) (joined_words (entry_words e) (entry_plain e w))) refl

@@ -1,7 +1,9 @@
 -- The status of each ending, and the line that tells it (this project's own).
 use Rattle.std.specs.Prelude.{ℕ, List, [], ◌∷◌, ◌++◌, codes, decimal}
 use Rattle.journal_viewer.specs.declared.ending.ViewEnd.{ViewEnd}
-use Rattle.journal_viewer.specs.declared.ending.ViewEnd.TheVariants.{Drawn, BadText, ReadFault, WriteFault, NoMemory, Illegal, TooLong}
+use Rattle.journal_viewer.specs.declared.ending.ViewEnd.TheVariants.{Drawn, BadText, ReadFault}
+use Rattle.journal_viewer.specs.declared.ending.ViewEnd.TheVariants.{WriteFault, NoMemory, Illegal}
+use Rattle.journal_viewer.specs.declared.ending.ViewEnd.TheVariants.{TooLong}
 
 abbrev pub status_of : ViewEnd → ℕ
 status_of Drawn = 0

@@ -4,7 +4,8 @@ ghost use Rattle.journal_viewer.specs.Endings.{status_of};
 
 use std::fmt;
 
-/// How viewing a journal ended. Its `Display` is the line that tells it, with a line feed; where the whole journal was drawn there is none.
+/// How viewing a journal ended. Its `Display` is the line that tells it, with a line feed; where
+/// the whole journal was drawn there is none.
 #[derive(Clone, Copy, PartialEq, Eq, Debug)]
 pub enum ViewEnd {
     /// The journal is legal, and its picture was written.
@@ -20,7 +21,8 @@ pub enum ViewEnd {
     WriteFault,
     /// There was no memory.
     NoMemory,
-    /// The entry of this number, from 0, is the first that may not follow those before it; the picture up to it was written.
+    /// The entry of this number, from 0, is the first that may not follow those before it; the
+    /// picture up to it was written.
     Illegal {
         /// The number of the entry.
         at: u64,

@@ -4,8 +4,7 @@ ghost use Rattle.journal_viewer.specs.Views.{Views, ViewsText, IsVerdict, ended_
 
 use crate::ending::ViewEnd;
 use bounded_input::{Ending, Whole, read_whole};
-use ev_base::{Sink, Source};
-use ev_types::NoMemory;
+use ev_base::{NoMemory, Sink, Source};
 use journal_check::{CheckRefused, check};
 use journal_picture::{Drawn, draw};
 use journal_reader::{JournalRefused, read_journal};
@@ -24,10 +23,12 @@ pub struct Viewed<S, K> {
     pub output: K,
 }
 
-/// Reads the text of a journal to its end, of which `limit` bytes may be read, and writes the picture of the journal: of a legal one whole, and of
-/// another up to the first entry that may not follow those before it.
+/// Reads the text of a journal to its end, of which `limit` bytes may be read, and writes the
+/// picture of the journal: of a legal one whole, and of another up to the first entry that may not
+/// follow those before it.
 pub fn view<S: Source, K: Sink>(alloc: Global, input: S, output: K, limit: u64) -> Viewed<S, K>
-    ensures { Views limit (S.facts input) (K.facts output) (S.facts result.input) (K.facts result.output) result.end }
+    ensures { Views limit (S.facts input) (K.facts output) (S.facts result.input)
+        (K.facts result.output) result.end }
 {
     let Whole {
         bytes,

@@ -7,23 +7,27 @@ use Rattle.leader_token.specs.Rule.{Claimed, OwnEventsDiffer, Released, RuleHold
 use Rattle.leader_token.specs.declared.kept.View.{View}
 
 -- A box stands for what its value stands for.
-abbrev pub boxed : {E Q T : Type 0} → (Q → ℕ → T → List E → Type 0) → Q → ℕ → Box T → List E → Type 0
+abbrev pub boxed : {E Q T : Type 0} → (Q → ℕ → T → List E → Type 0) → Q → ℕ → Box T → List E
+    → Type 0
 boxed stands terms first box list = stands terms first box.value list
 
 -- The marks of a box are those of its value.
 abbrev pub boxed_marks : {T : Type 0} → (T → List ℕ) → Box T → List ℕ
 boxed_marks marks box = marks box.value
 
--- What is said of a value, said of a box with a value: the rule, what a claim and a release tell, what a pass gets, may put and puts, and
--- that the own events differ.
-module _ {E Q T : Type 0} (stands : Q → ℕ → T → List E → Type 0) (opens : List E → List ℕ) (marks : T → List ℕ) where
+-- What is said of a value, said of a box with a value: the rule, what a claim and a release tell,
+-- what a pass gets, may put and puts, and that the own events differ.
+module _ {E Q T : Type 0} (stands : Q → ℕ → T → List E → Type 0) (opens : List E → List ℕ)
+    (marks : T → List ℕ) where
   abbrev pub RuleHoldsBoxed : Q → State (Option (Box T)) (View E Q) → Type 0
   RuleHoldsBoxed terms state = RuleHolds (boxed stands) opens (boxed_marks marks) terms state
 
-  abbrev pub ClaimedBoxed : Me (Option (Box T)) (View E Q) → ℕ → Me (Option (Box T)) (View E Q) → Type 0
+  abbrev pub ClaimedBoxed : Me (Option (Box T)) (View E Q) → ℕ → Me (Option (Box T)) (View E Q)
+      → Type 0
   ClaimedBoxed m found n = Claimed (boxed stands) opens (boxed_marks marks) m found n
 
-  abbrev pub ReleasedBoxed : Me (Option (Box T)) (View E Q) → Me (Option (Box T)) (View E Q) → Type 0
+  abbrev pub ReleasedBoxed : Me (Option (Box T)) (View E Q) → Me (Option (Box T)) (View E Q)
+      → Type 0
   ReleasedBoxed m n = Released (boxed stands) opens (boxed_marks marks) m n
 
   abbrev pub IsGotBoxed : View E Q → Box T → View E Q → Type 0

@@ -3,3 +3,4 @@ pub mod Lists
 pub mod Passes
 pub mod Rule
 pub mod Words
+pub use Rattle.list_lemmas

@@ -1,10 +1,6 @@
 -- Lists of entries, of events and of marks.
-use Rattle.std.specs.Prelude.{◌≡◌, ℕ, ◌+◌, ◌≤◌, List, [], ◌∷◌, ◌++◌, length, max, slice_index, cond, ◌==◌, nat_lt, Option, Some, None}
-
--- How often a number stands in a list.
-abbrev pub times : ℕ → List ℕ → ℕ
-times e [] = 0
-times e (x ∷ xs) = cond (e == x) 1 0 + times e xs
+use Rattle.std.specs.Prelude.{◌≡◌, ℕ, ◌+◌, ◌≤◌, List, [], ◌∷◌, ◌++◌, length, max, slice_index, cond}
+use Rattle.std.specs.Prelude.{◌==◌, nat_lt, Option, Some, None}
 
 -- The second list is the first with more behind it, or the same.
 abbrev pub Begins : {E : Type 0} → List E → List E → Type 0

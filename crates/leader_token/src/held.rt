@@ -21,7 +21,8 @@ impl<T> Held<T> {
     /// The value, lent for reading and writing.
     pub fn value(&mut self) -> &mut T
         ensures value { result.now ≡ value_of self.old }
-        ensures* writes_back { sem 𝓛 (Lends (the_row T.row) T.row self.entry result (λ w. held_with self.old w)) }
+        ensures* writes_back { sem 𝓛 (Lends (the_row T.row) T.row self.entry result
+            (λ w. held_with self.old w)) }
     {
         self.value.as_mut()
     }

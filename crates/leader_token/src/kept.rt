@@ -1,11 +1,11 @@
 // What a token keeps, and what a pass knows of it.
 ghost use Rattle.std.specs.Prelude.{◌≡◌, ◌≤◌, ℕ, List, length};
-ghost use Rattle.leader_token.specs.Lists.{times};
+ghost use Rattle.list_lemmas.specs.Times.{times};
 
 use std::collections::LinkedList;
 
-/// A value that stands for a list of entries, of which each may open or close events. The members are
-/// for contracts alone.
+/// A value that stands for a list of entries, of which each may open or close events. The members
+/// are for contracts alone.
 pub trait Kept {
     /// One entry of the list.
     type Entry;
@@ -13,7 +13,8 @@ pub trait Kept {
     /// What the value started with and never changes. All passes of a token carry the same terms.
     type Terms;
 
-    // Under these terms the value stands for the list, of which it itself no longer holds so many entries at the front.
+    // Under these terms the value stands for the list, of which it itself no longer holds so many
+    // entries at the front.
     ghost stands: { Self.Terms → ℕ → Self → List Self.Entry → Type 0 };
 
     // The events that a list leaves open.
@@ -26,7 +27,8 @@ pub trait Kept {
     ghost blank: { Self.Terms };
 
     // A list that a value stands for leaves no event open twice.
-    ghost once: { (terms : Self.Terms) (first : ℕ) (value : Self) (list : List Self.Entry) → stands terms first value list → (event : ℕ) → times event (opens list) ≤ 1 };
+    ghost once: { (terms : Self.Terms) (first : ℕ) (value : Self) (list : List Self.Entry)
+        → stands terms first value list → (event : ℕ) → times event (opens list) ≤ 1 };
 
     // Each value has as many marks.
     ghost equally_many: { (one other : Self) → length (marks one) ≡ length (marks other) };
@@ -41,7 +43,8 @@ pub struct Found<E> {
 /// What a pass knows. Contracts alone speak of it.
 pub struct View<E, Q> {
     pub terms: Q,
-    /// The list that the value stood for when this pass last put it back, or when the pass was made.
+    /// The list that the value stood for when this pass last put it back, or when the pass was
+    /// made.
     pub seen: LinkedList<E>,
     /// The shorter of the two lists at a join, until the join compared them; otherwise empty.
     pub uncompared: LinkedList<E>,

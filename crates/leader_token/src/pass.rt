@@ -9,12 +9,12 @@ use atomic_table::{Seat, Table};
 use std::alloc::Global;
 use std::sync::atomic::AtomicU64;
 
-/// A token for one value: whoever got the value has it alone until it is put back. The value lies on the heap, so
-/// that a hold moves a pointer, however large the value is.
+/// A token for one value: whoever got the value has it alone until it is put back. The value lies
+/// on the heap, so that a hold moves a pointer, however large the value is.
 pub struct Token<T: Kept> {
     pub(crate) table: Table<Option<Box<T>>, View<T::Entry, T::Terms>, Key<T>, TokenRule<T>, Global>,
-    // How many threads sleep on the word or are about to. It is a hint that spares `put` a call of the kernel,
-    // and no contract speaks of it.
+    // How many threads sleep on the word or are about to. It is a hint that spares `put` a call of
+    // the kernel, and no contract speaks of it.
     pub(crate) sleepers: AtomicU64,
     ghost sized: { (table.shared.table_id.words ≡ 1) × (table.shared.table_id.slots ≡ 1) },
 }
@@ -50,7 +50,8 @@ pub struct Pass<T: Kept> {
 
 impl<T: Kept> Pass<T> {
     pub(crate) fn into_seat(self) -> Seat<Option<Box<T>>, View<T::Entry, T::Terms>>
-        ensures { (result.table_id ≡ self.seat.table_id) × (result.id ≡ self.seat.id) × (result.me ≡ self.seat.me) }
+        ensures { (result.table_id ≡ self.seat.table_id) × (result.id ≡ self.seat.id)
+            × (result.me ≡ self.seat.me) }
     {
         let Self { seat } = self;
         seat

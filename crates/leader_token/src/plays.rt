@@ -6,8 +6,8 @@ use crate::start::Key;
 use atomic_table::{Join, Play, Split, TableRule};
 use std::marker::PhantomData;
 
-/// Between any two steps: who holds the token, where the value is, what each pass has seen, and whose
-/// the open events are.
+/// Between any two steps: who holds the token, where the value is, what each pass has seen, and
+/// whose the open events are.
 pub struct TokenRule<T> {
     marker: PhantomData<T>,
 }

@@ -1,2 +1,3 @@
-//! Definitions and lemmas on lists that several crates use: sums over a list that changes at one place.
+//! Definitions and lemmas on lists that several crates use: sums over a list that changes at one
+//! place, and how often a number stands in a list.
 #![tactic(auto)]

@@ -1,7 +1,9 @@
--- What a connection of the logging server means by its turns: which turns it has had, and what it leaves.
-use Rattle.std.specs.Prelude.{◌≡◌, ◌≤◌, ℕ, Bool, true, false, List, [], length, Option, Some, None, option_and_then}
-use Rattle.ev_types.specs.declared.upcall.Why.{Why}
-use Rattle.ev_types.specs.declared.upcall.Why.TheVariants as why
+-- What a connection of the logging server means by its turns: which turns it has had, and what it
+-- leaves.
+use Rattle.std.specs.Prelude.{◌≡◌, ◌≤◌, ℕ, Bool, true, false, List, [], length, Option, Some, None}
+use Rattle.std.specs.Prelude.{option_and_then}
+use Rattle.cdr_record.specs.ev_types.specs.declared.upcall.Why.{Why}
+use Rattle.cdr_record.specs.ev_types.specs.declared.upcall.Why.TheVariants as why
 use Rattle.ev_base.specs.Counts.{Counts}
 use Rattle.ev_base.specs.Bytes.{HasGiven}
 use Rattle.ev_base.specs.Story.{Part, Telling, OfParts}
@@ -11,34 +13,40 @@ use Rattle.ev_base.specs.declared.end.PeerEnd.{Ghosts}
 use Rattle.cdr_record.specs.Decoding.{DecoderState, StandsFor}
 use Rattle.log_lines.specs.declared.end_kind.EndKind.{EndKind}
 use Rattle.log_lines.specs.declared.end_kind.EndKind.TheVariants as end
-use Rattle.reactor_journal.specs.Event.{Item, Origin}
+use Rattle.reactor_model.specs.reactor_journal.specs.Event.{Item, Origin}
 use Rattle.reactor_model.specs.Handling.{Handling}
 use Rattle.log_handler.specs.declared.note.ServerNote.{ServerNote}
 use Rattle.log_handler.specs.declared.note.ServerNote.TheVariants as note
 use Rattle.log_handler.specs.declared.connection.LogConnection.{LogConnection}
 use Rattle.log_handler.specs.Connection.{Progress, at_start, Course}
 
--- What an origin says of the serial number of a handler's end: where the terms have the listener's story, it is that of the connection
--- accepted in it, and an end that was not accepted has none.
+-- What an origin says of the serial number of a handler's end: where the terms have the listener's
+-- story, it is that of the connection accepted in it, and an end that was not accepted has none.
 abbrev pub accepted_in : ServerNote → Option ℕ
 accepted_in (note.Accepted conn) = Some conn
 accepted_in _ = None
 
 abbrev pub serial_named : Terms → Option (Origin ServerNote) → Option (Option ℕ)
-serial_named t origin = elim t.offers [ None ↦ None | Some offers ↦ Some (option_and_then (λ o. accepted_in o.note) origin) ]
+serial_named t origin = elim t.offers
+    [ None ↦ None | Some offers ↦ Some (option_and_then (λ o. accepted_in o.note) origin) ]
 
--- A connection of this number, made at this moment, may have this origin under the terms, its end this serial number, and it this
--- idle time: where the terms have the listener's story, it was offered by the turn that accepted the connection of its number; and
--- where its end has a serial number, that is its own.
-pub record MayComeFrom (t : Terms) (origin : Option (Origin ServerNote)) (conn : ℕ) (idle : Option ℕ) (moment : ℕ) (serial : Option ℕ) : Type 0 where
-  pub offered : (offers : List _) → t.offers ≡ Some offers → (origin ≡ Some (record { note = note.Accepted conn; moment = moment })) × (serial ≡ Some conn)
+-- A connection of this number, made at this moment, may have this origin under the terms, its end
+-- this serial number, and it this idle time: where the terms have the listener's story, it was
+-- offered by the turn that accepted the connection of its number; and where its end has a serial
+-- number, that is its own.
+pub record MayComeFrom (t : Terms) (origin : Option (Origin ServerNote)) (conn : ℕ)
+    (idle : Option ℕ) (moment : ℕ) (serial : Option ℕ) : Type 0 where
+  pub offered : (offers : List _) → t.offers ≡ Some offers
+      → (origin ≡ Some (record { note = note.Accepted conn; moment = moment }))
+      × (serial ≡ Some conn)
   pub waits : (time : Option ℕ) → t.idle ≡ Some time → idle ≡ time
   pub numbered : (number : ℕ) → serial ≡ Some number → number ≡ conn
 
 -- at the start the whole story of its end was left, where the terms have it in parts
 abbrev pub BeginsStory : Terms → ℕ → Option ℕ → Option Telling → Type 0
 BeginsStory t conn serial telling =
-    (parts : List Part) → story_of t conn ≡ Some (OfParts parts) → serial ≡ Some conn → telling ≡ Some (record { given = []; at = 0; left = parts })
+    (parts : List Part) → story_of t conn ≡ Some (OfParts parts) → serial ≡ Some conn
+    → telling ≡ Some (record { given = []; at = 0; left = parts })
 
 -- whether the last read found the end of the input
 abbrev pub found_end : Option Try → Bool
@@ -62,7 +70,8 @@ pub record HasServed (p : Progress) (e : EndFacts) : Type 0 where
   pub faults : HasFaults p.kept e.faults
 
 -- A connection of this number and idle time had these turns, and its end tells this.
-pub record Served (t : Terms) (origin : Option (Origin ServerNote)) (conn : ℕ) (idle : Option ℕ) (had : List (Item ServerNote)) (e : EndFacts) : Type 0 where
+pub record Served (t : Terms) (origin : Option (Origin ServerNote)) (conn : ℕ) (idle : Option ℕ)
+    (had : List (Item ServerNote)) (e : EndFacts) : Type 0 where
   pub moment : ℕ
   pub telling : Option Telling
   pub now : Progress
@@ -87,16 +96,19 @@ abbrev pub idle_of_connection : {E : Type 0} {G : Ghosts E} → LogConnection E 
 idle_of_connection handler = handler.idle
 
 -- it has come so far
-pub record IsAt {E : Type 0} {G : Ghosts E} (tells : E → EndFacts) (handler : LogConnection E G) (p : Progress) : Type 0 where
+pub record IsAt {E : Type 0} {G : Ghosts E} (tells : E → EndFacts) (handler : LogConnection E G)
+    (p : Progress) : Type 0 where
   pub end : HasServed p (tells (end_of_connection handler))
   pub last : handler.last ≡ p.last
   pub kept : handler.kept ≡ p.kept
   pub decoder : HasDecoder p handler.decoder
 
 -- the connection has had these turns
-pub record ConnectionFits {E : Type 0} {G : Ghosts E} (tells : E → EndFacts) (keeps : Terms → E → Type 0) (t : Terms) (origin : Option (Origin ServerNote))
+pub record ConnectionFits {E : Type 0} {G : Ghosts E} (tells : E → EndFacts)
+    (keeps : Terms → E → Type 0) (t : Terms) (origin : Option (Origin ServerNote))
     (handler : LogConnection E G) (had : List (Item ServerNote)) : Type 0 where
-  pub served : Served t origin (number_of_connection handler) (idle_of_connection handler) had (tells (end_of_connection handler))
+  pub served : Served t origin (number_of_connection handler) (idle_of_connection handler) had
+      (tells (end_of_connection handler))
   pub last : handler.last ≡ served.now.last
   pub kept : handler.kept ≡ served.now.kept
   pub decoder : HasDecoder served.now handler.decoder
@@ -110,7 +122,8 @@ IsClosing why.Removed kept word = word ≡ end.Stopped
 IsClosing why.Refused kept word = word ≡ end.Refused
 
 -- what a connection leaves that had these turns: its end, and the note that it finished
-pub record ConnectionGone {E : Type 0} (tells : E → EndFacts) (keeps : Terms → E → Type 0) (t : Terms) (origin : Option (Origin ServerNote))
+pub record ConnectionGone {E : Type 0} (tells : E → EndFacts) (keeps : Terms → E → Type 0)
+    (t : Terms) (origin : Option (Origin ServerNote))
     (end : E) (had : List (Item ServerNote)) (reason : Why) (said : ServerNote) : Type 0 where
   pub conn : ℕ
   pub idle : Option ℕ
@@ -121,7 +134,8 @@ pub record ConnectionGone {E : Type 0} (tells : E → EndFacts) (keeps : Terms �
   pub kept_end : keeps t end
 
 -- What connections mean by their turns. No turn carries an act.
-abbrev pub connections : {E : Type 0} {G : Ghosts E} → (E → EndFacts) → (Terms → E → Type 0) → Handling (LogConnection E G) E ServerNote
+abbrev pub connections : {E : Type 0} {G : Ghosts E} → (E → EndFacts) → (Terms → E → Type 0)
+    → Handling (LogConnection E G) E ServerNote
 connections tells keeps = record {
   fits = ConnectionFits tells keeps;
   gone = ConnectionGone tells keeps;

@@ -1,17 +1,18 @@
 -- What the turns of a connection come to, all in all.
-use Rattle.std.specs.Prelude.{◌≡◌, ◌≢◌, ◌≤◌, ℕ, Bool, true, false, List, [], ◌∷◌, ◌++◌, length, flat_map, Option, Some, None}
+use Rattle.std.specs.Prelude.{◌≡◌, ◌≢◌, ◌≤◌, ℕ, Bool, true, false, List, [], ◌∷◌, ◌++◌, length}
+use Rattle.std.specs.Prelude.{flat_map, Option, Some, None}
 use Rattle.std.specs.List.{sum_by, count_by, AllByRecursion}
-use Rattle.ev_types.specs.declared.upcall.Answer.{Answer}
-use Rattle.ev_types.specs.declared.upcall.Answer.TheVariants.{Again}
-use Rattle.ev_types.specs.declared.upcall.Upcall.{Upcall}
-use Rattle.ev_types.specs.declared.upcall.Upcall.TheVariants.{Input}
+use Rattle.cdr_record.specs.ev_types.specs.declared.upcall.Answer.{Answer}
+use Rattle.cdr_record.specs.ev_types.specs.declared.upcall.Answer.TheVariants.{Again}
+use Rattle.cdr_record.specs.ev_types.specs.declared.upcall.Upcall.{Upcall}
+use Rattle.cdr_record.specs.ev_types.specs.declared.upcall.Upcall.TheVariants.{Input}
 use Rattle.ev_base.specs.Story.{Telling}
 use Rattle.ev_base.specs.End.{Moved, WasOver, Faulted}
 use Rattle.cdr_record.specs.declared.record.LogRecord.{LogRecord}
 use Rattle.cdr_record.specs.Decoding.{Clean, Partial, Malformed, decode}
 use Rattle.log_lines.specs.declared.end_kind.EndKind.{EndKind}
 use Rattle.log_lines.specs.declared.end_kind.EndKind.TheVariants as end
-use Rattle.reactor_journal.specs.Event.{Item}
+use Rattle.reactor_model.specs.reactor_journal.specs.Event.{Item}
 use Rattle.log_handler.specs.declared.note.ServerNote.{ServerNote}
 use Rattle.log_handler.specs.declared.note.ServerNote.TheVariants as note
 use Rattle.log_handler.specs.Connection.{Progress, Course, at_start, is_idle, piece_room}
@@ -33,7 +34,8 @@ records_in item = records_of_note item.note
 
 -- a turn of this connection
 abbrev pub IsPieceOf : ℕ → Item ServerNote → Type 0
-IsPieceOf conn item = (took : ℕ) × (records : List LogRecord) × (item.note ≡ note.Piece conn took records)
+IsPieceOf conn item = (took : ℕ) × (records : List LogRecord)
+    × (item.note ≡ note.Piece conn took records)
 
 -- whether a turn is one of input, and whether it was answered Again
 abbrev pub is_input : Upcall → Bool
@@ -68,8 +70,8 @@ pub record OfFront (records : List LogRecord) (count : ℕ) (taken : List ℕ) :
   pub counts : length lost ≡ count
   pub decoded : records ≡ (decode front).records
 
--- These are the records of what was taken. Where the connection ended for want of memory, they are those of what was taken before
--- the last piece, which has so many bytes.
+-- These are the records of what was taken. Where the connection ended for want of memory, they are
+-- those of what was taken before the last piece, which has so many bytes.
 abbrev pub HasRecords : List LogRecord → ℕ → List ℕ → Option EndKind → Type 0
 HasRecords records count taken (Some end.NoMemory) = OfFront records count taken
 HasRecords records count taken _ = records ≡ (decode taken).records
@@ -79,22 +81,26 @@ abbrev pub WasIdle : Option ℕ → ℕ → Option (Item ServerNote) → Type 0
 WasIdle idle last None = ⊥
 WasIdle idle last (Some item) = is_idle idle last item.moment ≡ true
 
--- What stands behind how a connection ended itself: `End` and `Partial` only where a read found the end of the input, and reading
--- what was taken stops so; `Malformed` only where reading stops there; `Failed` only where the last read failed; `NoMemory` only
--- where it gave bytes; `Idle` only where it was quiet for too long. While it goes on, reading stops at no bad record.
+-- What stands behind how a connection ended itself: `End` and `Partial` only where a read found the
+-- end of the input, and reading what was taken stops so; `Malformed` only where reading stops
+-- there; `Failed` only where the last read failed; `NoMemory` only where it gave bytes; `Idle` only
+-- where it was quiet for too long. While it goes on, reading stops at no bad record.
 abbrev pub EndedSo : Option ℕ → Option (Item ServerNote) → Progress → Option EndKind → Type 0
 EndedSo idle last p None = (at : ℕ) → (decode p.taken).stop ≢ Malformed at
 EndedSo idle last p (Some end.End) = (p.last_read ≡ Some WasOver) × ((decode p.taken).stop ≡ Clean)
-EndedSo idle last p (Some (end.Partial n)) = (p.last_read ≡ Some WasOver) × ((decode p.taken).stop ≡ Partial n)
+EndedSo idle last p (Some (end.Partial n)) =
+    (p.last_read ≡ Some WasOver) × ((decode p.taken).stop ≡ Partial n)
 EndedSo idle last p (Some (end.Malformed at)) = (decode p.taken).stop ≡ Malformed at
 EndedSo idle last p (Some end.Failed) = p.last_read ≡ Some Faulted
-EndedSo idle last p (Some end.NoMemory) = (n : ℕ) × (1 ≤ n) × (n ≤ piece_room) × (p.last_read ≡ Some (Moved n))
+EndedSo idle last p (Some end.NoMemory) =
+    (n : ℕ) × (1 ≤ n) × (n ≤ piece_room) × (p.last_read ≡ Some (Moved n))
 EndedSo idle last p (Some end.Idle) = WasIdle idle p.last last
 EndedSo idle last p (Some end.Stopped) = ⊥
 EndedSo idle last p (Some end.Refused) = ⊥
 
 -- what the turns of a connection come to that has had them from its start on
-pub record Accounts (conn : ℕ) (idle : Option ℕ) (had : List (Item ServerNote)) (p : Progress) : Type 0 where
+pub record Accounts (conn : ℕ) (idle : Option ℕ) (had : List (Item ServerNote))
+    (p : Progress) : Type 0 where
   -- all notes are of this connection
   pub notes : AllByRecursion (IsPieceOf conn) had
   -- it took as many bytes as the notes tell
@@ -109,5 +115,6 @@ pub record Accounts (conn : ℕ) (idle : Option ℕ) (had : List (Item ServerNot
   pub ended : EndedSo idle (last_turn had) p p.kept
 
 abbrev pub CoursesAccount : Type 0
-CoursesAccount = (conn : ℕ) (idle : Option ℕ) (moment : ℕ) (telling : Option Telling) (had : List (Item ServerNote)) (p : Progress)
+CoursesAccount = (conn : ℕ) (idle : Option ℕ) (moment : ℕ) (telling : Option Telling)
+    (had : List (Item ServerNote)) (p : Progress)
     → Course conn idle (at_start moment telling) had p → Accounts conn idle had p

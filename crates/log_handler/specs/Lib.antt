@@ -6,3 +6,11 @@ pub mod Connections
 pub mod Faults
 pub mod Steps
 pub mod Laws
+pub use Rattle.log_lines
+pub use Rattle.sink_buffer
+pub use Rattle.cdr_record
+pub use Rattle.reactor_model.specs.reactor_journal
+pub use Rattle.ev_base
+pub use Rattle.cdr_record.specs.ev_types
+pub use Rattle.reactor_model.specs.reactor_summary
+pub use Rattle.reactor_model

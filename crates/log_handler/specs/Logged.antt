@@ -1,11 +1,10 @@
 -- The text of the lines of a piece's records.
-use Rattle.std.specs.Prelude.{◌≡◌, ℕ, List, [], ◌∷◌, ◌++◌, ⊤, false, Option, None, Some, IfSome}
+use Rattle.std.specs.Prelude.{◌≡◌, ℕ, List, [], ◌∷◌, ⊤, Option, None, Some, IfSome}
 use Rattle.std.specs.Global.{Box}
 use Rattle.cdr_record.specs.declared.record.LogRecord.{LogRecord}
 use Rattle.log_lines.specs.Texts.{record_lines}
 use Rattle.log_handler.specs.declared.logged.Content.{Content}
 use Rattle.log_handler.specs.declared.logged.Content.TheVariants.{One, Many}
-use Rattle.log_handler.specs.declared.logged.GrowingText.{GrowingText}
 
 -- a text beside the number of a connection is that of the lines of these records for it
 abbrev pub IsTextOf : Option ℕ → List ℕ → List LogRecord → Type 0
@@ -25,7 +24,3 @@ HasItsText (Many records number text) = IsTextOf number text.items records
 abbrev pub records_in : Option (Box Content) → List LogRecord
 records_in None = []
 records_in (Some content) = records_of content.value
-
--- since it was these bytes, this was put behind them, unless it broke
-abbrev pub Grows : List ℕ → GrowingText → List ℕ → Type 0
-Grows first text put = text.broken ≡ false → text.bytes.items ≡ first ++ put

@@ -1,17 +1,22 @@
 //! The event handler of one connection.
-ghost use Rattle.std.specs.Prelude.{◌≡◌, ◌≢◌, ◌<◌, ◌≤◌, ◌↔◌, ℕ, List, [], true, false, Some, None, IsSome, Option, length};
-ghost use Rattle.ev_types.specs.declared.upcall.Answer.TheVariants.{Keep, Again, Close};
-ghost use Rattle.ev_types.specs.declared.upcall.Upcall.TheVariants.{Input, Timeout};
-ghost use Rattle.ev_types.specs.declared.upcall.Why.TheVariants.{Own};
+ghost use Rattle.std.specs.Prelude.{◌≡◌, ◌≢◌, ◌<◌, ◌≤◌, ◌↔◌, ℕ, List, [], true, false, Some, None};
+ghost use Rattle.std.specs.Prelude.{IsSome, Option, length};
+ghost use Rattle.cdr_record.specs.ev_types.specs.declared.upcall.Answer.TheVariants.{Keep, Again};
+ghost use Rattle.cdr_record.specs.ev_types.specs.declared.upcall.Answer.TheVariants.{Close};
+ghost use Rattle.cdr_record.specs.ev_types.specs.declared.upcall.Upcall.TheVariants.{Input};
+ghost use Rattle.cdr_record.specs.ev_types.specs.declared.upcall.Upcall.TheVariants.{Timeout};
+ghost use Rattle.cdr_record.specs.ev_types.specs.declared.upcall.Why.TheVariants.{Own};
 ghost use Rattle.ev_base.specs.Terms.{Terms};
 ghost use Rattle.ev_base.specs.End.{IsFresh, Paused};
 ghost use Rattle.cdr_record.specs.Decoding.{StandsFor, decode};
-ghost use Rattle.reactor_journal.specs.Event.{Item, Origin};
+ghost use Rattle.reactor_model.specs.reactor_journal.specs.Event.{Item, Origin};
 ghost use Rattle.reactor_model.specs.Handling.{NoClose, EndsInClose, Names};
 ghost use Rattle.reactor_model.specs.Turns.{TakesTurn, KeepsPromises};
 ghost use Rattle.log_handler.specs.Connection.{Progress, end_of};
 ghost use Rattle.log_lines.specs.declared.end_kind.EndKind.TheVariants.{NoMemory};
-ghost use Rattle.log_handler.specs.Connections.{MayComeFrom, ConnectionFits, ConnectionGone, HasDecoder, IsClosing, connections, end_of_connection, serial_named};
+ghost use Rattle.log_handler.specs.Connections.{MayComeFrom, ConnectionFits, ConnectionGone};
+ghost use Rattle.log_handler.specs.Connections.{HasDecoder, IsClosing, connections};
+ghost use Rattle.log_handler.specs.Connections.{end_of_connection, serial_named};
 ghost use Rattle.log_handler.specs.Steps.{IsTurn, IsSame, Serves, TellsPiece, item_of};
 ghost use Rattle.log_handler.specs.Notes.{is_piece};
 
@@ -19,8 +24,7 @@ use crate::peer::Peer;
 use crate::{LoggedRecords, ServerNote};
 use cdr_record::Decoder;
 use cdr_record::laws::tells_stop;
-use ev_base::{Got, Net, PeerEnd};
-use ev_types::{Answer, Handle, Mask, NetFailed, Upcall, Why};
+use ev_base::{Answer, Got, Handle, Mask, Net, NetFailed, PeerEnd, Upcall, Why};
 use log_lines::EndKind;
 use packed_records::GatheredRecords;
 use reactor_model::{EventHandler, Turn};
@@ -32,8 +36,8 @@ const PIECE: usize = 4096;
 /// How many bytes a record is taken to have at least: shorter ones make a list grow.
 const USUAL_RECORD: usize = 64;
 
-/// The event handler of one connection (C++NPv2 chapter 4, `Logging_Event_Handler`): it decodes log records from what its end gives,
-/// one read for each upcall, and notes them.
+/// The event handler of one connection (C++NPv2 chapter 4, `Logging_Event_Handler`): it decodes log
+/// records from what its end gives, one read for each upcall, and notes them.
 pub struct LogConnection<E: PeerEnd> {
     conn: u64,
     peer: Peer<E>,
@@ -45,13 +49,15 @@ pub struct LogConnection<E: PeerEnd> {
 }
 
 impl<E: PeerEnd> LogConnection<E> {
-    /// The handler of connection number `conn`, accepted at the moment `now` in milliseconds. Where `idle` is given, it is closed at
-    /// a timeout once so many milliseconds brought no bytes. It takes no memory.
+    /// The handler of connection number `conn`, accepted at the moment `now` in milliseconds. Where
+    /// `idle` is given, it is closed at a timeout once so many milliseconds brought no bytes. It
+    /// takes no memory.
     pub fn new(alloc: Global, conn: u64, end: E, idle: Option<u64>, now: u64) -> LogConnection<E>
         requires no_listener { (E.tells end).listener ≡ false }
         requires fresh { IsFresh (E.tells end) }
         ensures end { end_of_connection result ≡ end }
-        ensures fits { (t : Terms) (origin : Option (Origin ServerNote)) → E.keeps t end → MayComeFrom t origin conn idle now (E.tells end).serial
+        ensures fits { (t : Terms) (origin : Option (Origin ServerNote)) → E.keeps t end
+            → MayComeFrom t origin conn idle now (E.tells end).serial
             → ConnectionFits E.tells E.keeps t origin result [] }
     {
         LogConnection {
@@ -69,7 +75,8 @@ impl<E: PeerEnd> LogConnection<E> {
     fn read_piece(&mut self, now: u64) -> Turn<LogConnection<E>>
         ensures same { IsSame E.tells E.keeps self.old self.new }
         ensures serves { Serves E.tells Input now self.old self.new result }
-        ensures pauses { (result.answer ≡ Keep) ↔ ((E.tells (end_of_connection self.new)).last_read ≡ Some Paused) }
+        ensures pauses { (result.answer ≡ Keep) ↔ ((E.tells (end_of_connection self.new)).last_read
+            ≡ Some Paused) }
         ensures noted { is_piece result.note ≡ true }
         ensures quiet { result.act ≡ None }
     {
@@ -87,8 +94,10 @@ impl<E: PeerEnd> LogConnection<E> {
 
     /// Decodes a piece that was read.
     fn take_piece(&mut self, piece: &[u8], now: u64) -> Turn<LogConnection<E>>
-        ensures told { (before : Progress) → before.kept ≡ None → self.old.kept ≡ None → HasDecoder before self.old.decoder
-            → TellsPiece self.old.conn before piece.now (item_of Input now result) self.new.kept self.new.decoder }
+        ensures told { (before : Progress) → before.kept ≡ None → self.old.kept ≡ None
+            → HasDecoder before self.old.decoder
+            → TellsPiece self.old.conn before piece.now (item_of Input now result) self.new.kept
+            self.new.decoder }
         ensures last { self.new.last ≡ now }
         ensures conn { self.new.conn ≡ self.old.conn }
         ensures idle { self.new.idle ≡ self.old.idle }
@@ -139,7 +148,8 @@ impl<E: PeerEnd> LogConnection<E> {
 
     /// How the connection ends whose input is read to its end.
     fn end_of_input(&self) -> EndKind
-        ensures { (t : List ℕ) → StandsFor self.now.decoder t → self.now.decoder.bad ≡ None → result ≡ end_of (decode t).stop }
+        ensures { (t : List ℕ) → StandsFor self.now.decoder t → self.now.decoder.bad ≡ None
+            → result ≡ end_of (decode t).stop }
     {
         match self.decoder.rest_len() {
             0 => EndKind::End,
@@ -191,7 +201,8 @@ impl<E: PeerEnd> LogConnection<E> {
     }
 }
 
-/// No records, to be given room for those of a piece of so many bytes, where they are of usual size.
+/// No records, to be given room for those of a piece of so many bytes, where they are of usual
+/// size.
 fn room_for(alloc: Global, bytes: usize) -> GatheredRecords
     ensures { result ≡ [] }
 {
@@ -218,8 +229,10 @@ impl<E: PeerEnd> EventHandler for LogConnection<E> {
     ghost means = { connections E.tells E.keeps };
 
     fn upcall(&mut self, up: Upcall, now: u64) -> Turn<LogConnection<E>>
-        ensures turn { (t : Terms) (origin : Option (Origin ServerNote)) (had : List (Item ServerNote)) → NoClose had
-            → ConnectionFits E.tells E.keeps t origin self.old had → TakesTurn (connections E.tells E.keeps) t origin up now had self.new result }
+        ensures turn { (t : Terms) (origin : Option (Origin ServerNote))
+            (had : List (Item ServerNote)) → NoClose had
+            → ConnectionFits E.tells E.keeps t origin self.old had
+            → TakesTurn (connections E.tells E.keeps) t origin up now had self.new result }
         ensures promises { KeepsPromises (connections E.tells E.keeps) up result }
 
         // No turn carries an act, and each notes what it took.
@@ -227,7 +240,8 @@ impl<E: PeerEnd> EventHandler for LogConnection<E> {
         ensures noted { is_piece result.note ≡ true }
 
         // Input is answered Keep exactly where its one read paused.
-        ensures pauses { up ≡ Input → (result.answer ≡ Keep) ↔ ((E.tells (end_of_connection self.new)).last_read ≡ Some Paused) }
+        ensures pauses { up ≡ Input → (result.answer ≡ Keep)
+            ↔ ((E.tells (end_of_connection self.new)).last_read ≡ Some Paused) }
     {
         match up {
             Upcall::Input => self.read_piece(now),
@@ -246,12 +260,16 @@ impl<E: PeerEnd> EventHandler for LogConnection<E> {
     }
 
     fn handle_close(self, why: Why) -> (E, ServerNote)
-        ensures gone { (t : Terms) (origin : Option (Origin ServerNote)) (had : List (Item ServerNote)) → (why ≡ Own → EndsInClose had)
-            → ConnectionFits E.tells E.keeps t origin self had → ConnectionGone E.tells E.keeps t origin result.0 had why result.1 }
-        ensures serial { (t : Terms) (origin : Option (Origin ServerNote)) (had : List (Item ServerNote))
-            → ConnectionFits E.tells E.keeps t origin self had → Names (serial_named t origin) (E.tells result.0).serial }
-        ensures kept { (t : Terms) (origin : Option (Origin ServerNote)) (had : List (Item ServerNote))
-            → ConnectionFits E.tells E.keeps t origin self had → E.keeps t result.0 }
+        ensures gone { (t : Terms) (origin : Option (Origin ServerNote))
+            (had : List (Item ServerNote)) → (why ≡ Own → EndsInClose had)
+            → ConnectionFits E.tells E.keeps t origin self had
+            → ConnectionGone E.tells E.keeps t origin result.0 had why result.1 }
+        ensures serial { (t : Terms) (origin : Option (Origin ServerNote))
+            (had : List (Item ServerNote)) → ConnectionFits E.tells E.keeps t origin self had
+            → Names (serial_named t origin) (E.tells result.0).serial }
+        ensures kept { (t : Terms) (origin : Option (Origin ServerNote))
+            (had : List (Item ServerNote)) → ConnectionFits E.tells E.keeps t origin self had
+            → E.keeps t result.0 }
 
         // The end that it gives is its own.
         ensures end { result.0 ≡ end_of_connection self }

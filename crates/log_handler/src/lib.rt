@@ -1,5 +1,5 @@
-//! The event handler of one connection of the logging server, and the watch that writes its lines (C++NPv2 chapter 4,
-//! `Logging_Event_Handler`).
+//! The event handler of one connection of the logging server, and the watch that writes its lines
+//! (C++NPv2 chapter 4, `Logging_Event_Handler`).
 #![tactic(auto)]
 
 mod connection;

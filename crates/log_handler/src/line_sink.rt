@@ -1,5 +1,6 @@
 //! The watch that writes the lines of a journal's notes.
-ghost use Rattle.std.specs.Prelude.{◌≡◌, ◌≤◌, ◌++◌, ◌∷◌, ℕ, List, [], Some, MatchOption, true, false};
+ghost use Rattle.std.specs.Prelude.{◌≡◌, ◌≤◌, ◌++◌, ◌∷◌, ℕ, List, [], Some, MatchOption, true};
+ghost use Rattle.std.specs.Prelude.{false};
 ghost use Rattle.ev_base.specs.Counts.{Rose};
 ghost use Rattle.ev_base.specs.Terms.{Terms};
 ghost use Rattle.cdr_record.specs.Borrowed.{owned};
@@ -10,16 +11,16 @@ ghost use Rattle.log_handler.specs.Notes.{note_lines, entry_lines};
 use crate::{LoggedRecords, ServerNote};
 use cdr_record::RecordRef;
 use ev_base::Sink;
+use ghost_log::Tally;
 use log_lines::{EndKind, put_borrowed_line, put_closing_line};
 use packed_records::Unpacked;
-use reactor_journal::Entry;
-use reactor_model::Watch;
+use reactor_model::{Entry, Watch};
 use sink_buffer::{DirectSink, ShortText, TextOut};
-use tally::Tally;
 
-/// A watch that writes the lines of the notes of a journal as its entries are appended. The text of a piece's lines is written in one
-/// call where its note has it, and a closing line in one too. Lines without a text are made here, a record at a time. It holds nothing
-/// back, takes no memory, and writes nothing more once a write failed.
+/// A watch that writes the lines of the notes of a journal as its entries are appended. The text of
+/// a piece's lines is written in one call where its note has it, and a closing line in one too.
+/// Lines without a text are made here, a record at a time. It holds nothing back, takes no memory,
+/// and writes nothing more once a write failed.
 #[derive(Drop)]
 pub struct LineSink<K> {
     output: DirectSink<K>,
@@ -32,8 +33,10 @@ impl<K: Sink> LineSink<K> {
 
     /// A watch that has seen nothing, over this sink.
     pub fn new(output: K) -> LineSink<K>
-        ensures stands { (t : Terms) → ((text : List ℕ) → t.opening ≡ Some text → (K.facts output).text ≡ Some text)
-            → ((n : ℕ) → t.output_faults ≡ Some n → (K.facts output).faults ≡ n) → PutsLines K.facts t result [] }
+        ensures stands { (t : Terms) → ((text : List ℕ) → t.opening ≡ Some text
+            → (K.facts output).text ≡ Some text)
+            → ((n : ℕ) → t.output_faults ≡ Some n → (K.facts output).faults ≡ n)
+            → PutsLines K.facts t result [] }
         ensures output { sink_of result ≡ output }
         ensures sound { is_broken result ≡ false }
     {
@@ -53,7 +56,8 @@ impl<K: Sink> LineSink<K> {
 
 /// The note of an entry whose note has lines.
 fn note_of(entry: &Entry<ServerNote>) -> Option<&ServerNote>
-    ensures { MatchOption result (entry_lines entry.now ≡ []) (λ note. entry_lines entry.now ≡ note_lines note.now) }
+    ensures { MatchOption result (entry_lines entry.now ≡ [])
+        (λ note. entry_lines entry.now ≡ note_lines note.now) }
 {
     match entry {
         Entry::Returned { note, .. } | Entry::Refused { note, .. } | Entry::Closed { note, .. } =>
@@ -62,8 +66,8 @@ fn note_of(entry: &Entry<ServerNote>) -> Option<&ServerNote>
     }
 }
 
-/// Puts the lines of an entry's note into what takes texts: those of a piece's records, or the closing line of a connection. Other
-/// entries have none.
+/// Puts the lines of an entry's note into what takes texts: those of a piece's records, or the
+/// closing line of a connection. Other entries have none.
 pub fn put_entry_lines<T: TextOut>(out: &mut T, entry: &Entry<ServerNote>)
     ensures { Puts T.stands out.old (entry_lines entry.now) out.new }
 {
@@ -83,7 +87,8 @@ fn put_note<T: TextOut>(out: &mut T, note: &ServerNote)
     }
 }
 
-/// Puts the lines of a piece's records: their text at once, where it is there, and else a line at a time.
+/// Puts the lines of a piece's records: their text at once, where it is there, and else a line at a
+/// time.
 fn put_piece<T: TextOut>(out: &mut T, conn: u64, records: &LoggedRecords)
     ensures { Puts T.stands out.old (record_lines conn records.now) out.new }
 {
@@ -127,9 +132,10 @@ fn put_closing<T: TextOut>(out: &mut T, conn: u64, end: EndKind)
 }
 
 impl<K: Sink> Watch<ServerNote> for LineSink<K> {
-    ghost use Rattle.reactor_journal.specs.declared.entry.Entry.{Entry};
+    ghost use Rattle.reactor_model.specs.reactor_journal.specs.declared.entry.Entry.{Entry};
     ghost use Rattle.log_handler.specs.declared.note.ServerNote.{ServerNote};
-    ghost use Rattle.log_handler.specs.LineSink.{PutsLines, line_sink_faults, is_broken, sink_of, whole_of};
+    ghost use Rattle.log_handler.specs.LineSink.{PutsLines, line_sink_faults, is_broken, sink_of};
+    ghost use Rattle.log_handler.specs.LineSink.{whole_of};
     ghost use Rattle.log_handler.specs.Faults.{breaks_above};
 
     ghost stands = { PutsLines K.facts };
@@ -141,10 +147,12 @@ impl<K: Sink> Watch<ServerNote> for LineSink<K> {
     ghost whole = { whole_of };
 
     fn saw(&mut self, entry: &Entry<ServerNote>)
-        ensures stands { (t : Terms) (h : List (Entry ServerNote)) → PutsLines K.facts t self.old h → PutsLines K.facts t self.new (h ++ entry.now ∷ []) }
+        ensures stands { (t : Terms) (h : List (Entry ServerNote)) → PutsLines K.facts t self.old h
+            → PutsLines K.facts t self.new (h ++ entry.now ∷ []) }
         ensures later { line_sink_faults K.facts self.old ≤ line_sink_faults K.facts self.new }
         ensures stays { is_broken self.old ≡ true → is_broken self.new ≡ true }
-        ensures breaks { is_broken self.old ≡ false → is_broken self.new ≡ true → Rose (line_sink_faults K.facts self.old) (line_sink_faults K.facts self.new) }
+        ensures breaks { is_broken self.old ≡ false → is_broken self.new ≡ true
+            → Rose (line_sink_faults K.facts self.old) (line_sink_faults K.facts self.new) }
         ensures whole { whole_of self.old ≤ whole_of self.new }
         ensures quiet { is_broken self.old ≡ true → sink_of self.new ≡ sink_of self.old }
     {
@@ -162,5 +170,6 @@ impl<K: Sink> Watch<ServerNote> for LineSink<K> {
         self.output.is_broken()
     }
 
-    ghost broke = { λ t watch h before stands broken started. breaks_above K.facts t watch h before stands broken started };
+    ghost broke = { λ t watch h before stands broken started.
+        breaks_above K.facts t watch h before stands broken started };
 }

@@ -1,17 +1,18 @@
 //! The records of a piece, with the text of their lines.
-ghost use Rattle.std.specs.Prelude.{◌≡◌, [], ℕ, IfOk, IfSome, MatchOption, List, length};
+ghost use Rattle.std.specs.Prelude.{◌≡◌, [], IfOk, IfSome, MatchOption, List, length};
 ghost use Rattle.log_lines.specs.Texts.{record_lines};
 ghost use Rattle.log_handler.specs.Logged.{HasItsText, records_of};
 
 use cdr_record::Records;
-use ev_types::NoMemory;
+use ev_base::NoMemory;
 use log_lines::put_record_lines;
 use packed_records::{Gathered, GatheredRecords, PackedRecords, ShortRecord, Unpacked};
-use sink_buffer::TextOut;
+use sink_buffer::GrowingText;
 use std::alloc::Global;
 use std::marker::Model;
 
-/// How many bytes a line is taken to have beside its message: so many, and more than usual numbers need.
+/// How many bytes a line is taken to have beside its message: so many, and more than usual numbers
+/// need.
 const BESIDE_MESSAGE: usize = 64;
 
 /// What is kept of a piece's records.
@@ -27,9 +28,10 @@ enum Content {
     },
 }
 
-/// The records of a piece, in order, and where it was made the text of their lines, so that a watch writes it as it is. A contract
-/// sees the list of the records. However many they are, they take at most four allocations. One alone whose message has at most 104
-/// bytes takes one, and no records take none.
+/// The records of a piece, in order, and where it was made the text of their lines, so that a watch
+/// writes it as it is. A contract sees the list of the records. However many they are, they take at
+/// most four allocations. One alone whose message has at most 104 bytes takes one, and no records
+/// take none.
 #[derive(Debug, Drop)]
 pub struct LoggedRecords {
     content: Option<Box<Content>>,
@@ -44,7 +46,8 @@ impl Model for LoggedRecords {
 
     ghost view = { λ r. records_in r.content };
 
-    // A text that is there is that of the lines of these records, for the connection's number that stands beside it.
+    // A text that is there is that of the lines of these records, for the connection's number that
+    // stands beside it.
     ghost invariant = { λ r. IfSome r.content (λ c. HasItsText c.value) };
 }
 
@@ -72,8 +75,8 @@ impl LoggedRecords {
         LoggedRecords::keeping(alloc, content)
     }
 
-    /// These records, with the text of their lines for this connection's number where they are packed. On `NoMemory` they are
-    /// dropped.
+    /// These records, with the text of their lines for this connection's number where they are
+    /// packed. On `NoMemory` they are dropped.
     pub fn with_lines(
         alloc: Global,
         conn: u64,
@@ -111,7 +114,8 @@ impl LoggedRecords {
 
     /// What is kept, where there is a record.
     fn content(&self) -> Option<&Content>
-        ensures { MatchOption result (self.now ≡ []) (λ content. (self.now ≡ records_of content.now) × HasItsText content.now) }
+        ensures { MatchOption result (self.now ≡ [])
+            (λ content. (self.now ≡ records_of content.now) × HasItsText content.now) }
     {
         self.content.as_deref()
     }
@@ -151,27 +155,6 @@ impl LoggedRecords {
     }
 }
 
-/// A text that grows as it is put. It is broken where there was no memory for it.
-#[derive(Drop)]
-struct GrowingText {
-    bytes: Vec<u8>,
-    broken: bool,
-}
-
-impl TextOut for GrowingText {
-    ghost use Rattle.log_handler.specs.Logged.{Grows};
-
-    ghost Since = { List ℕ };
-
-    ghost stands = { Grows };
-
-    fn put(&mut self, bytes: &[u8]) {
-        if !self.broken {
-            self.broken = self.bytes.extend_from_slice(bytes).is_err();
-        }
-    }
-}
-
 /// How much room the text of the lines is given first.
 fn room_for_lines(records: &PackedRecords) -> usize {
     records
@@ -185,13 +168,7 @@ fn text_of_lines(alloc: Global, conn: u64, records: &PackedRecords) -> Result<Ve
     ensures { IfOk result (λ text. text.items ≡ record_lines conn records.now) }
 {
     let bytes = Vec::with_capacity(alloc, room_for_lines(records))?;
-    let mut text = GrowingText {
-        bytes,
-        broken: false,
-    };
+    let mut text = GrowingText::new(bytes, usize::MAX);
     put_record_lines(&mut text, conn, records.iter());
-    if text.broken {
-        return Err(NoMemory);
-    }
-    Ok(text.bytes)
+    text.into_bytes()
 }

@@ -3,7 +3,8 @@
 use crate::LoggedRecords;
 use log_lines::EndKind;
 
-/// What a handler of the logging server notes of a turn. Connections are numbered from 0, in the order in which they were accepted.
+/// What a handler of the logging server notes of a turn. Connections are numbered from 0, in the
+/// order in which they were accepted.
 #[derive(Debug, Drop)]
 pub enum ServerNote {
     /// A connection was accepted.

@@ -1,5 +1,7 @@
 -- How long the texts of records are.
-use Rattle.std.proofs.Common.{◌≡◌, ◌≤◌, ◌<◌, ℕ, ◌+◌, ◌*◌, ◌^◌, ◌==◌, Bool, true, false, if◌then◌else◌, List, [], ◌∷◌, ◌++◌, length, flat_map, refl, arith, length-append, ℤ, pos, negsuc}
+use Rattle.std.proofs.Common.{◌≡◌, ◌≤◌, ◌<◌, ℕ, ◌+◌, ◌*◌, ◌^◌, ◌==◌, Bool, true, false}
+use Rattle.std.proofs.Common.{if◌then◌else◌, List, [], ◌∷◌, ◌++◌, length, flat_map, refl, arith}
+use Rattle.std.proofs.Common.{length-append, ℤ, pos, negsuc}
 use Rattle.std.specs.Prelude.{codes, decimal, take_while, not}
 use Rattle.std.specs.Int.{w32, w64}
 use Rattle.std.specs.Int.Signed.{mag}
@@ -10,19 +12,27 @@ use Rattle.std.proofs.lemmas.List.{length-take}
 use Rattle.std.proofs.lemmas.Fmt.{length-decimal-le, length_signed_le}
 use Rattle.cdr_record.specs.declared.record.LogRecord.{LogRecord}
 use Rattle.cdr_record.specs.Laws.{HasNumbersOf32Bits}
-use Rattle.log_lines.specs.Texts.{is_plain, byte_text, message_text, name_or_number, type_text, record_text}
+use Rattle.log_lines.specs.Texts.{is_plain, byte_text, message_text, name_or_number, type_text}
+use Rattle.log_lines.specs.Texts.{record_text}
 
 -- one of two texts
-either_short : (c : Bool) (xs ys : List ℕ) (n : ℕ) → length xs ≤ n → length ys ≤ n → length (if c then xs else ys) ≤ n
+either_short : (c : Bool) (xs ys : List ℕ) (n : ℕ) → length xs ≤ n → length ys ≤ n
+    → length (if c then xs else ys) ≤ n
 either_short true xs ys n first second = first
 either_short false xs ys n first second = second
 
 byte_short : (byte : ℕ) → length (byte_text byte) ≤ 4
-byte_short byte = either_short (is_plain byte) (byte ∷ []) _ 4 (omega arith) (either_short (byte == 92) (92 ∷ 92 ∷ []) _ 4 (omega arith) (omega arith))
+byte_short byte = either_short (is_plain byte) (byte ∷ []) _ 4 (omega arith)
+    (either_short (byte == 92) (92 ∷ 92 ∷ []) _ 4 (omega arith) (omega arith))
 
 escaped_short : (bytes : List ℕ) → length (flat_map byte_text bytes) ≤ 4 * length bytes
 escaped_short [] = omega arith
-escaped_short (byte ∷ bytes) = omega (arith, length-append (byte_text byte) (flat_map byte_text bytes), byte_short byte, escaped_short bytes)
+escaped_short (byte ∷ bytes) = omega (
+  arith,
+  length-append (byte_text byte) (flat_map byte_text bytes),
+  byte_short byte,
+  escaped_short bytes,
+)
 
 front_short : (p : ℕ → Bool) (bytes : List ℕ) → length (take_while p bytes) ≤ length bytes
 front_short p bytes = omega (arith, length-take (prefix_len p bytes) bytes)
@@ -35,11 +45,13 @@ message_short message =
 
 -- a number of 32 bits
 word_short : (z : ℤ) → FitsSigned w32 z → length (signed_decimal z) ≤ 11
-word_short z h = let small : mag z < 2 ^ 31 = h.sfits in length_signed_le 10 z (omega (arith, small)) (omega (arith, small))
+word_short z h = let small : mag z < 2 ^ 31 = h.sfits in
+    length_signed_le 10 z (omega (arith, small)) (omega (arith, small))
 
 -- a number of 64 bits
 seconds_short : (z : ℤ) → FitsSigned w64 z → length (signed_decimal z) ≤ 20
-seconds_short z h = let small : mag z < 2 ^ 63 = h.sfits in length_signed_le 19 z (omega (arith, small)) small
+seconds_short z h = let small : mag z < 2 ^ 63 = h.sfits in
+    length_signed_le 19 z (omega (arith, small)) small
 
 -- the name of a priority, or a number
 name_short : (kind : ℕ) → length (decimal kind) ≤ 12 → length (name_or_number kind) ≤ 12
@@ -61,15 +73,27 @@ unfolding type_text
 type_short (negsuc n) h = omega (arith, word_short (negsuc n) h)
 type_short (pos n) h =
     let small : n < 2 ^ 31 = h.sfits in
-    let digits = length-decimal-le 10 n (omega arith) (omega (arith, small)) (omega (arith, small)) in
+    let digits = length-decimal-le 10 n (omega arith) (omega (arith, small)) (omega (arith, small))
+    in
     name_short n (omega (arith, digits))
 
 joined_length : (a b c d e f g h i : List ℕ) → length (a ++ b ++ c ++ d ++ e ++ f ++ g ++ h ++ i)
-    ≡ length a + length b + length c + length d + length e + length f + length g + length h + length i
+    ≡ length a + length b + length c + length d + length e + length f + length g + length h
+    + length i
 joined_length a b c d e f g h i = simp length-append refl
 
-pub texts_short : (r : LogRecord) → HasNumbersOf32Bits r → FitsSigned w64 r.sec → length (record_text r) ≤ 59 + 4 * length r.text
+pub texts_short : (r : LogRecord) → HasNumbersOf32Bits r → FitsSigned w64 r.sec
+    → length (record_text r) ≤ 59 + 4 * length r.text
 unfolding record_text
 texts_short r h sec =
-    let all = joined_length (signed_decimal r.sec) (codes ",") (signed_decimal r.usec) (codes " ") (signed_decimal r.pid) (codes " ") (type_text r.kind) (codes ": ") (message_text r.text) in
-    omega (arith, all, seconds_short r.sec sec, word_short r.usec h.usec, word_short r.pid h.pid, type_short r.kind h.kind, message_short r.text)
+    let all = joined_length (signed_decimal r.sec) (codes ",") (signed_decimal r.usec) (codes " ")
+    (signed_decimal r.pid) (codes " ") (type_text r.kind) (codes ": ") (message_text r.text) in
+    omega (
+      arith,
+      all,
+      seconds_short r.sec sec,
+      word_short r.usec h.usec,
+      word_short r.pid h.pid,
+      type_short r.kind h.kind,
+      message_short r.text,
+    )

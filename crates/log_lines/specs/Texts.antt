@@ -1,10 +1,13 @@
--- The texts of the logging server: of a record, of a record's line and of a closing line (C++NPv2 chapter 4: the records
--- that the logging server prints). Escapes and closing words are this project's own.
-use Rattle.std.specs.Prelude.{ℕ, ◌+◌, ◌/◌, ◌%◌, ◌==◌, nat_lt, Bool, not, ◌&&◌, if◌then◌else◌, List, [], ◌∷◌, ◌++◌, ℤ, pos, negsuc, codes, decimal, flat_map, take_while}
+-- The texts of the logging server: of a record, of a record's line and of a closing line (C++NPv2
+-- chapter 4: the records that the logging server prints). Escapes and closing words are this
+-- project's own.
+use Rattle.std.specs.Prelude.{ℕ, ◌+◌, ◌/◌, ◌%◌, ◌==◌, nat_lt, Bool, not, ◌&&◌, if◌then◌else◌, List}
+use Rattle.std.specs.Prelude.{[], ◌∷◌, ◌++◌, ℤ, pos, negsuc, codes, decimal, flat_map, take_while}
 use Rattle.std.specs.Fmt.{signed_decimal}
 use Rattle.cdr_record.specs.declared.record.LogRecord.{LogRecord}
 use Rattle.log_lines.specs.declared.end_kind.EndKind.{EndKind}
-use Rattle.log_lines.specs.declared.end_kind.EndKind.TheVariants.{End, Partial, Malformed, Failed, NoMemory, Idle, Stopped, Refused}
+use Rattle.log_lines.specs.declared.end_kind.EndKind.TheVariants.{End, Partial, Malformed, Failed}
+use Rattle.log_lines.specs.declared.end_kind.EndKind.TheVariants.{NoMemory, Idle, Stopped, Refused}
 
 -- the name of a priority, or the number of a type that is none
 abbrev pub name_or_number : ℕ → List ℕ
@@ -30,8 +33,8 @@ type_text (negsuc kind) = signed_decimal (negsuc kind)
 abbrev pub hex_digit : ℕ → ℕ
 hex_digit digit = if nat_lt digit 10 then 48 + digit else 87 + digit
 
--- A byte from the space to the tilde is printed as itself, but a backslash as two; any other byte as a backslash, an x and two
--- hexadecimal digits.
+-- A byte from the space to the tilde is printed as itself, but a backslash as two; any other byte
+-- as a backslash, an x and two hexadecimal digits.
 abbrev pub is_plain : ℕ → Bool
 is_plain byte = nat_lt 31 byte && nat_lt byte 127 && not (byte == 92)
 
@@ -48,7 +51,8 @@ message_text message = flat_map byte_text (take_while (λ byte. not (byte == 0))
 -- a record's text: `SEC,USEC PID NAME: MESSAGE`
 unfoldable pub record_text : LogRecord → List ℕ
 record_text r =
-    signed_decimal r.sec ++ codes "," ++ signed_decimal r.usec ++ codes " " ++ signed_decimal r.pid ++ codes " "
+    signed_decimal r.sec ++ codes "," ++ signed_decimal r.usec ++ codes " " ++ signed_decimal r.pid
+    ++ codes " "
     ++ type_text r.kind ++ codes ": " ++ message_text r.text
 
 -- a record's line: the number of its connection, and its text

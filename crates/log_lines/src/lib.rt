@@ -1,5 +1,5 @@
-//! The lines of the logging server: a record's text, a record's line, and the closing line of a connection,
-//! put into any text output.
+//! The lines of the logging server: a record's text, a record's line, and the closing line of a
+//! connection, put into any text output.
 #![tactic(auto)]
 
 mod end_kind;

@@ -3,7 +3,8 @@ ghost use Rattle.std.specs.Prelude.{◌≡◌, ℕ, ◌++◌, MatchOption, decim
 ghost use Rattle.std.specs.Fmt.{signed_decimal};
 ghost use Rattle.cdr_record.specs.Borrowed.{owned};
 ghost use Rattle.sink_buffer.specs.Texts.{Puts};
-ghost use Rattle.log_lines.specs.Texts.{type_text, record_text, record_line, record_lines, end_word, closing_line};
+ghost use Rattle.log_lines.specs.Texts.{type_text, record_text, record_line, record_lines};
+ghost use Rattle.log_lines.specs.Texts.{end_word, closing_line};
 
 use crate::EndKind;
 use crate::message::put_message;
@@ -91,7 +92,8 @@ fn put_type<T: TextOut>(out: &mut T, kind: i32)
 
 /// The name of a priority, or None for a type that is none.
 fn name_of(kind: i32) -> Option<&'static str>
-    ensures { MatchOption result (type_text kind ≡ signed_decimal kind) (λ name. type_text kind ≡ name.now) }
+    ensures { MatchOption result (type_text kind ≡ signed_decimal kind)
+        (λ name. type_text kind ≡ name.now) }
 {
     match kind {
         1 => Some("LM_SHUTDOWN"),

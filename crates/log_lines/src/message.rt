@@ -1,13 +1,14 @@
 //! A message's text: bytes that cannot be printed are escaped.
-ghost use Rattle.std.specs.Prelude.{◌≡◌, ◌≤◌, ◌<◌, ◌+◌, ℕ, Bool, true, length, take, drop, not, ◌==◌, take_while, flat_map};
+ghost use Rattle.std.specs.Prelude.{◌≡◌, ◌≤◌, ◌<◌, ◌+◌, ℕ, Bool, true, length, take, drop, not};
+ghost use Rattle.std.specs.Prelude.{◌==◌, take_while, flat_map};
 ghost use Rattle.std.specs.List.{prefix_len, list_all};
 ghost use Rattle.log_lines.specs.Texts.{is_plain, hex_digit, byte_text, message_text};
 ghost use Rattle.sink_buffer.specs.Texts.{Puts};
 
 use sink_buffer::TextOut;
 
-/// Puts the text of a message: its bytes before the first zero byte, or all of them, with escapes. Most messages need none, and are put as
-/// they are behind one look at their bytes.
+/// Puts the text of a message: its bytes before the first zero byte, or all of them, with escapes.
+/// Most messages need none, and are put as they are behind one look at their bytes.
 pub fn put_message<T: TextOut>(out: &mut T, message: &[u8])
     ensures { Puts T.stands out.old (message_text message.now) out.new }
 {
@@ -21,8 +22,8 @@ pub fn put_message<T: TextOut>(out: &mut T, message: &[u8])
 /// How many bytes are looked at together: so many fit one machine instruction.
 const CHUNK: usize = 16;
 
-/// Whether all bytes are printed as themselves. It looks at all of them, without an end before that, so that a compiler can
-/// test many by one instruction.
+/// Whether all bytes are printed as themselves. It looks at all of them, without an end before
+/// that, so that a compiler can test many by one instruction.
 fn are_plain(bytes: &[u8]) -> bool
     ensures { result ≡ list_all is_plain bytes.now }
 {
@@ -44,7 +45,8 @@ fn are_nonzero(bytes: &[u8]) -> bool
     nonzero
 }
 
-/// How many bytes stand before the first zero byte: found some at a time, and the last ones one by one.
+/// How many bytes stand before the first zero byte: found some at a time, and the last ones one by
+/// one.
 fn length_before_zero(message: &[u8]) -> usize
     ensures { result ≡ prefix_len (λ byte. not (byte == 0)) message.now }
 {
@@ -63,7 +65,8 @@ fn run_before_zero(message: &[u8]) -> usize
     message.iter().take_while(|byte| **byte != 0).count()
 }
 
-/// How many bytes at the front are printed as themselves: found some at a time, and the last ones one by one.
+/// How many bytes at the front are printed as themselves: found some at a time, and the last ones
+/// one by one.
 fn length_of_plain(bytes: &[u8]) -> usize
     ensures length { result ≡ prefix_len is_plain bytes.now }
     ensures within { result ≤ length bytes.now }

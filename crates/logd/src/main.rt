@@ -1,9 +1,9 @@
 //! `logd`, the networked logging server: the top call over standard input and output, and sockets.
 #![tactic(auto)]
 
-use command_words::Command;
+use cmd_line::Command;
 use demux_mio::MioHost;
-use ev_base::{Sink, Source, StdSink, StdSource};
+use ev_base::{StdSink, StdSource};
 use logging_server::{Served, fault_line, logd_main};
 use reactor_model::DropVolumes;
 use std::alloc::{AllocError, Global};
@@ -13,13 +13,9 @@ use std::sync::Wait;
 use std::thread::Threads;
 use std::time::Clock;
 use std::{env, io};
-use write_behind::WriteBehind;
 
 /// The status of words that are none of the program's.
 const USAGE: u8 = 1;
-
-/// The status of a failed write.
-const WRITE_FAILED: u8 = 4;
 
 /// The status of want of memory.
 const OUT_OF_MEMORY: u8 = 6;
@@ -33,67 +29,30 @@ fn main(rt: HostRuntime) -> ExitCode {
         Ok(words) => words,
         Err(status) => return end_with(&rt, status, 0),
     };
+    let mut host = host_for(rt, rt.alloc(), &words);
     let input = StdSource::new(rt.stdin());
-    let several = has_several_workers(rt.alloc(), &words);
-    let (status, at) = if several
-        && let Ok(output) = WriteBehind::start(rt, rt.alloc(), StdSink::new(rt.stdout()))
-    {
-        run_behind(rt, rt.alloc(), &words, input, output)
-    } else {
-        let mut host = host_for(rt, rt.alloc(), several);
-        let output = StdSink::new(io::writer(&rt));
-        let (status, at, _) = run(&rt, rt.alloc(), &words, &mut host, input, output);
-        (status, at)
-    };
+    let output = StdSink::new(rt.stdout());
+    let Served { status, at, .. } = logd_main(
+        &rt,
+        rt.alloc(),
+        &words,
+        &mut host,
+        input,
+        output,
+        DropVolumes,
+    );
     end_with(&rt, status, at)
 }
 
-/// Does what the words want, and gives the status, its number and the output.
-fn run<
-    R: Net + Clock + Threads + Wait + Copy + Send + Sync + 'static,
-    S: Source + Drop,
-    K: Sink + Send,
->(
-    rt: &R,
-    alloc: Global,
-    words: &[String],
-    host: &mut MioHost<R>,
-    input: S,
-    output: K,
-) -> (u8, u64, K) {
-    let Served {
-        status,
-        at,
-        output,
-        ..
-    } = logd_main(rt, alloc, words, host, input, output, DropVolumes);
-    (status, at, output)
-}
-
-/// Serves by several workers, of whom one has the token while lines are written: so a thread writes them, and another closes connections. Where all went
-/// well but a write of the thread's behind the last line failed, the status is that of a failed write.
-fn run_behind<
-    R: Net + Clock + Threads + Wait + Copy + Send + Sync + 'static,
-    S: Source + Drop,
-    K: Sink + Send + Drop + 'static,
->(rt: R, alloc: Global, words: &[String], input: S, output: WriteBehind<R, K>) -> (u8, u64) {
-    let mut host = host_for(rt, alloc, true);
-    let (status, at, output) = run(&rt, alloc, words, &mut host, input, output);
-    let written = output.finish();
-    if status == 0 && !written {
-        return (WRITE_FAILED, at);
-    }
-    (status, at)
-}
-
-/// Takes a large block and lets it go. From then on the C library's allocator keeps up to twice as much freed memory for what is taken next. Else it
-/// gives back to the system what each volume of a journal took, and asks for it anew.
+/// Takes a large block and lets it go. From then on the C library's allocator keeps up to twice as
+/// much freed memory for what is taken next. Else it gives back to the system what each volume of a
+/// journal took, and asks for it anew.
 fn keep_freed_memory(rt: &HostRuntime) {
     let _ = Vec::<u8>::with_capacity(rt.alloc(), LARGE_BLOCK);
 }
 
-/// The words after the program's name, or the status with which to end where there are none to be had: a word that is
-/// not UTF-8 is a faulty command line.
+/// The words after the program's name, or the status with which to end where there are none to be
+/// had: a word that is not UTF-8 is a faulty command line.
 fn command_words(rt: &HostRuntime) -> Result<Vec<String>, u8> {
     let args = env::args(rt).map_err(|error| match error.kind() {
         io::ErrorKind::OutOfMemory => OUT_OF_MEMORY,
@@ -115,9 +74,9 @@ fn has_several_workers(alloc: Global, words: &[String]) -> bool {
 fn host_for<R: Net + Clock + Threads + Wait + Copy + Send + 'static>(
     rt: R,
     alloc: Global,
-    several: bool,
+    words: &[String],
 ) -> MioHost<R> {
-    if several {
+    if has_several_workers(alloc, words) {
         MioHost::with_closer(rt, alloc)
     } else {
         MioHost::new(rt)

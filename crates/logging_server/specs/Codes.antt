@@ -1,15 +1,16 @@
--- The statuses of the commands' endings, and the numbers that go with them (this project's own table).
+-- The statuses of the commands' endings, and the numbers that go with them (this project's own
+-- table).
 use Rattle.std.specs.Prelude.{ℕ}
-use Rattle.record_display.specs.declared.showing.DisplayEnd.{DisplayEnd}
-use Rattle.record_display.specs.declared.showing.DisplayEnd.TheVariants as shown
-use Rattle.journal_audit.specs.declared.auditing.AuditEnd.{AuditEnd}
-use Rattle.journal_audit.specs.declared.auditing.AuditEnd.TheVariants as audited
-use Rattle.script_replay.specs.declared.ends.ReplayEnd.{ReplayEnd}
-use Rattle.script_replay.specs.declared.ends.ReplayEnd.TheVariants as replayed
-use Rattle.host_run.specs.declared.ending.HostEnd.{HostEnd}
-use Rattle.host_run.specs.declared.ending.HostEnd.TheVariants as served
-use Rattle.generator_run.specs.declared.ends.GenerateEnd.{GenerateEnd}
-use Rattle.generator_run.specs.declared.ends.GenerateEnd.TheVariants as generated
+use Rattle.cmd_display.specs.declared.showing.DisplayEnd.{DisplayEnd}
+use Rattle.cmd_display.specs.declared.showing.DisplayEnd.TheVariants as shown
+use Rattle.cmd_audit.specs.declared.auditing.AuditEnd.{AuditEnd}
+use Rattle.cmd_audit.specs.declared.auditing.AuditEnd.TheVariants as audited
+use Rattle.cmd_gen.specs.cmd_replay.specs.declared.ends.ReplayEnd.{ReplayEnd}
+use Rattle.cmd_gen.specs.cmd_replay.specs.declared.ends.ReplayEnd.TheVariants as replayed
+use Rattle.cmd_serve.specs.declared.ending.HostEnd.{HostEnd}
+use Rattle.cmd_serve.specs.declared.ending.HostEnd.TheVariants as served
+use Rattle.cmd_gen.specs.declared.ends.GenerateEnd.{GenerateEnd}
+use Rattle.cmd_gen.specs.declared.ends.GenerateEnd.TheVariants as generated
 
 -- the limits of the inputs in bytes: 2^40 of records, and 2^28 of the text of a script or a journal
 abbrev pub display_limit : ℕ

@@ -1,5 +1,6 @@
--- What each command of the program leaves. The input, the output and the volumes are those that were handed in.
-use Rattle.std.specs.Prelude.{◌≡◌, ◌^◌, ℕ, [], Option, Some, None}
+-- What each command of the program leaves. The input, the output and the volumes are those that
+-- were handed in.
+use Rattle.std.specs.Prelude.{◌≡◌, ◌^◌, ◌++◌, ◌∷◌, ℕ, List, [], Option, Some, None}
 use Rattle.ev_base.specs.Source.{SourceFacts}
 use Rattle.ev_base.specs.Sink.{SinkFacts}
 use Rattle.ev_base.specs.declared.end.PeerEnd.{Ghosts}
@@ -8,28 +9,36 @@ use Rattle.reactor_core.specs.Stands.{Meaning}
 use Rattle.reactor_model.specs.Volumes.{VolumesFacts}
 use Rattle.log_handler.specs.declared.note.ServerNote.{ServerNote}
 use Rattle.script_net.specs.declared.end.ScriptEnd.{ScriptEnd}
-use Rattle.command_words.specs.declared.command.Command.{Command}
-use Rattle.command_words.specs.declared.command.Command.TheVariants.{One, Replay, Serve, Display, Audit, Generate}
-use Rattle.command_words.specs.declared.options.Options.{Options}
-use Rattle.one_command.specs.Ran.{RunsOne}
-use Rattle.one_command.specs.Statuses.{code_of, number_of}
-use Rattle.one_command.specs.declared.connection.Ran.{Ran}
-use Rattle.record_display.specs.declared.showing.DisplayEnd.{DisplayEnd}
-use Rattle.record_display.specs.Displays.{Displays}
-use Rattle.journal_audit.specs.declared.auditing.AuditEnd.{AuditEnd}
-use Rattle.journal_audit.specs.Audits.{Audits}
-use Rattle.script_replay.specs.Replaying.{Replays}
-use Rattle.script_replay.specs.declared.ends.Played.{Played}
-use Rattle.script_runs.specs.Connections.{HadMemory}
-use Rattle.generator_run.specs.Generating.{Generates}
-use Rattle.generator_run.specs.Summing.{Writes, full_lines, summary_lines}
-use Rattle.generator_run.specs.declared.ends.Generated.{Generated}
-use Rattle.host_run.specs.Leaving.{IsUntouched as IsUnserved, LeavesHost, ListensSo}
-use Rattle.host_run.specs.Starting.{terms_of}
-use Rattle.host_run.specs.declared.ending.HostEnd.TheVariants.{VolumeFault}
-use Rattle.host_run.specs.declared.ending.HostServed.{HostServed}
-use Rattle.logging_server.specs.Codes.{audit_code, audit_number, display_code, display_limit, display_number, generate_code, replay_code, replay_number, serve_code, text_limit}
+use Rattle.cmd_line.specs.declared.command.Command.{Command}
+use Rattle.cmd_line.specs.declared.command.Command.TheVariants.{One, Replay, Serve, Display, Audit}
+use Rattle.cmd_line.specs.declared.command.Command.TheVariants.{Generate}
+use Rattle.cmd_line.specs.declared.options.Options.{Options}
+use Rattle.cmd_one.specs.Ran.{RunsOne}
+use Rattle.cmd_one.specs.Statuses.{code_of, number_of}
+use Rattle.cmd_one.specs.declared.connection.Ran.{Ran}
+use Rattle.cmd_display.specs.declared.showing.DisplayEnd.{DisplayEnd}
+use Rattle.cmd_display.specs.Displays.{Displays}
+use Rattle.cmd_audit.specs.declared.auditing.AuditEnd.{AuditEnd}
+use Rattle.cmd_audit.specs.Audits.{Audits}
+use Rattle.cmd_gen.specs.cmd_replay.specs.Replaying.{Replays}
+use Rattle.cmd_gen.specs.cmd_replay.specs.declared.ends.Played.{Played}
+use Rattle.cmd_gen.specs.laws_script_runs.specs.Connections.{HadMemory}
+use Rattle.cmd_gen.specs.Generating.{Generates}
+use Rattle.cmd_gen.specs.Summing.{Writes, full_lines, summary_lines}
+use Rattle.cmd_gen.specs.declared.ends.Generated.{Generated}
+use Rattle.cmd_serve.specs.Leaving.{IsUntouched as IsUnserved, LeavesHost, ListensSo}
+use Rattle.cmd_serve.specs.Starting.{asked_by, terms_of}
+use Rattle.cmd_serve.specs.declared.ending.HostEnd.TheVariants.{VolumeFault}
+use Rattle.cmd_serve.specs.declared.ending.HostServed.{HostServed}
+use Rattle.logging_server.specs.Codes.{audit_code, audit_number, display_code, display_limit}
+use Rattle.logging_server.specs.Codes.{display_number, generate_code, replay_code, replay_number}
+use Rattle.logging_server.specs.Codes.{serve_code, text_limit}
 use Rattle.logging_server.specs.declared.served.Served.{Served}
+
+-- What a host tells: how often a listen failed, and the ports on which it was asked to listen.
+pub record HostFacts : Type 0 where
+  pub faults : ℕ
+  pub ports : List ℕ
 
 -- there was no reactor and no net: nothing was handed over, and no entry is held
 pub record HasNoReactor {S K V M : Type 0} (volumes : V) (served : Served K S M V) : Type 0 where
@@ -39,13 +48,15 @@ pub record HasNoReactor {S K V M : Type 0} (volumes : V) (served : Served K S M 
   pub no_net : served.net ≡ None
 
 -- nothing was done: nothing was read or written
-pub record IsUntouched {S K V M : Type 0} (input : S) (output : K) (volumes : V) (served : Served K S M V) : Type 0 where
+pub record IsUntouched {S K V M : Type 0} (input : S) (output : K) (volumes : V)
+    (served : Served K S M V) : Type 0 where
   pub without : HasNoReactor volumes served
   pub input_same : served.input ≡ input
   pub output_same : served.output ≡ output
   pub at : served.at ≡ 0
 
-module _ {S K V M : Type 0} (source : S → SourceFacts) (sink : K → SinkFacts) (facts : V → VolumesFacts ServerNote) (input : S) (output : K) (volumes : V) where
+module _ {S K V M : Type 0} (source : S → SourceFacts) (sink : K → SinkFacts)
+    (facts : V → VolumesFacts ServerNote) (input : S) (output : K) (volumes : V) where
   -- One connection was served, whose bytes the input has, and so it ended.
   pub record HasRun (served : Served K S M V) : Type 0 where
     pub ran : Ran S K V
@@ -66,7 +77,8 @@ module _ {S K V M : Type 0} (source : S → SourceFacts) (sink : K → SinkFacts
     pub end : DisplayEnd
     pub status : served.status ≡ display_code end
     pub at : served.at ≡ display_number end
-    pub displays : Displays display_limit (source input) (sink output) (source served.input) (sink served.output) end
+    pub displays : Displays display_limit (source input) (sink output) (source served.input)
+        (sink served.output) end
     pub without : HasNoReactor volumes served
 
   -- The journal whose text the input is was audited, and it ended so.
@@ -74,13 +86,16 @@ module _ {S K V M : Type 0} (source : S → SourceFacts) (sink : K → SinkFacts
     pub end : AuditEnd
     pub status : served.status ≡ audit_code end
     pub at : served.at ≡ audit_number end
-    pub audits : Audits text_limit (source input) (sink output) (source served.input) (sink served.output) end
+    pub audits : Audits text_limit (source input) (sink output) (source served.input)
+        (sink served.output) end
     pub without : HasNoReactor volumes served
 
   -- The server was run over the script whose text the input is, and it ended so.
-  pub record HasReplayed (G : Ghosts ScriptEnd) (options : Options) (served : Served K S M V) : Type 0 where
+  pub record HasReplayed (G : Ghosts ScriptEnd) (options : Options) (served : Served K S M V) : Type
+      0 where
     pub played : Played K V
-    pub replays : Replays G sink facts options text_limit (source input) output volumes (source served.input) played played.end
+    pub replays : Replays G sink facts options text_limit (source input) output volumes
+        (source served.input) played played.end
     pub is : served ≡ record {
       status = replay_code played.end;
       journal = played.journal;
@@ -92,13 +107,17 @@ module _ {S K V M : Type 0} (source : S → SourceFacts) (sink : K → SinkFacts
       at = replay_number played.end;
     }
 
-  -- The server was run over the script of so many connections that is generated from a seed, and so it ended. The lines of the summary were
-  -- written; where no connection was closed for want of memory, they are those of all that the script has. The input is as it was.
-  pub record HasGenerated (G : Ghosts ScriptEnd) (connections seed : ℕ) (served : Served K S M V) : Type 0 where
+  -- The server was run over the script of so many connections that is generated from a seed, and so
+  -- it ended. The lines of the summary were written; where no connection was closed for want of
+  -- memory, they are those of all that the script has. The input is as it was.
+  pub record HasGenerated (G : Ghosts ScriptEnd) (connections seed : ℕ)
+      (served : Served K S M V) : Type 0 where
     pub generated : Generated K V
     pub run : Generates G facts connections seed output volumes generated generated.end
-    pub written : Writes generated.end (sink output) (summary_lines generated.journal.entries) (sink generated.output)
-    pub known : HadMemory generated.journal.entries → Writes generated.end (sink output) (full_lines connections seed) (sink generated.output)
+    pub written : Writes generated.end (sink output) (summary_lines generated.journal.entries)
+        (sink generated.output)
+    pub known : HadMemory generated.journal.entries
+        → Writes generated.end (sink output) (full_lines connections seed) (sink generated.output)
     pub is : served ≡ record {
       status = generate_code generated.end;
       journal = generated.journal;
@@ -110,13 +129,18 @@ module _ {S K V M : Type 0} (source : S → SourceFacts) (sink : K → SinkFacts
       at = 0;
     }
 
-  -- The server was run over the host, whose count of faults was this before and is this now, and so it ended. The input is as it was.
-  pub record HasServed {H Q W E : Type 0} (m : Meaning H M Q W V ServerNote E) (options : Options) (before now : ℕ) (served : Served K S M V) : Type 0 where
+  -- The server was run over the host, which was asked for this port and for no other, and so it
+  -- ended. The host told these facts before, and tells those now. The input is as it was.
+  pub record HasServed {H Q W E : Type 0} (m : Meaning H M Q W V ServerNote E) (port : ℕ)
+      (options : Options) (before now : HostFacts) (served : Served K S M V) : Type 0 where
     pub host : HostServed M K V
-    pub leaves : LeavesHost m sink (terms_of options (sink output) (facts volumes)) options.until (sink output) host
-    pub listens : ListensSo host.end host.net before now
+    pub leaves : LeavesHost m sink (terms_of options (sink output) (facts volumes))
+        (asked_by options (facts volumes).size) (sink output) host
+    pub listens : ListensSo host.end host.net before.faults now.faults
+    pub asked : now.ports ≡ before.ports ++ port ∷ []
     pub refused : host.net ≡ None → IsUnserved output volumes host
-    pub volumes_fault : host.end ≡ VolumeFault → Rose (facts volumes).faults (facts host.volumes).faults
+    pub volumes_fault : host.end ≡ VolumeFault
+        → Rose (facts volumes).faults (facts host.volumes).faults
     pub is : served ≡ record {
       status = serve_code host.end;
       journal = host.journal;
@@ -129,14 +153,17 @@ module _ {S K V M : Type 0} (source : S → SourceFacts) (sink : K → SinkFacts
     }
 
   -- What the command did, or that the words are none: then the status is 1, and nothing was done.
-  abbrev pub HasDone : {H Q W E : Type 0} → Ghosts ScriptEnd → Meaning H M Q W V ServerNote E → Option Command → ℕ → ℕ → Served K S M V → Type 0
+  abbrev pub HasDone : {H Q W E : Type 0} → Ghosts ScriptEnd → Meaning H M Q W V ServerNote E
+      → Option Command → HostFacts → HostFacts → Served K S M V → Type 0
   HasDone G m None before now served = (served.status ≡ 1) × IsUntouched input output volumes served
   HasDone G m (Some One) before now served = HasRun served
   HasDone G m (Some Display) before now served = HasDisplayed served
   HasDone G m (Some Audit) before now served = HasAudited served
   HasDone G m (Some (Replay options)) before now served = HasReplayed G options served
-  HasDone G m (Some (Generate connections seed)) before now served = HasGenerated G connections seed served
-  HasDone G m (Some (Serve port options)) before now served = HasServed m options before now served
+  HasDone G m (Some (Generate connections seed)) before now served =
+      HasGenerated G connections seed served
+  HasDone G m (Some (Serve port options)) before now served =
+      HasServed m port options before now served
 
 -- whether it is the command that asks the host
 abbrev pub IsServe : Option Command → Type 0

@@ -1,4 +1,5 @@
--- What is said of a status on standard error: one line, by the table of statuses (this project's own).
+-- What is said of a status on standard error: one line, by the table of statuses (this project's
+-- own).
 use Rattle.std.specs.Prelude.{ℕ, List, [], ◌∷◌, ◌++◌, ◌==◌, if◌then◌else◌, codes, decimal}
 use Rattle.logging_server.specs.declared.fault.FaultLine.{FaultLine}
 

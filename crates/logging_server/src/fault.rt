@@ -4,15 +4,16 @@ ghost use Rattle.logging_server.specs.FaultLines.{line_status, line_at};
 
 use std::fmt;
 
-/// The line of a status that is not 0. Its `Display` prints it with a line feed, and nothing for status 0 or for a number that is no
-/// status.
+/// The line of a status that is not 0. Its `Display` prints it with a line feed, and nothing for
+/// status 0 or for a number that is no status.
 #[derive(Clone, Copy, PartialEq, Eq, Debug)]
 pub struct FaultLine {
     status: u8,
     at: u64,
 }
 
-/// The line of a status and its number, as `logd: read failed` for 3 and `logd: input over 9` for 11 at 9.
+/// The line of a status and its number, as `logd: read failed` for 3 and `logd: input over 9` for
+/// 11 at 9.
 pub fn fault_line(status: u8, at: u64) -> FaultLine
     ensures status { line_status result ≡ status }
     ensures at { line_at result ≡ at }

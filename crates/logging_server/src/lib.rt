@@ -8,7 +8,7 @@ mod statuses;
 mod texts;
 mod top;
 
-pub use command_words::{Command, Form, Options, Timers};
+pub use cmd_line::{Command, Form, Options, Timers};
 pub use fault::{FaultLine, fault_line};
 pub use one_net::OneEnd;
 pub use served::Served;

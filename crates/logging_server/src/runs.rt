@@ -1,25 +1,25 @@
 //! The commands that run a reactor: `one`, `replay`, `gen` and `serve`.
-ghost use Rattle.command_words.specs.Ranges.{AreInRange, IsInRange};
-ghost use Rattle.command_words.specs.declared.command.Command.TheVariants.{Generate};
+ghost use Rattle.cmd_line.specs.Ranges.{AreInRange, IsInRange};
+ghost use Rattle.cmd_line.specs.declared.command.Command.TheVariants.{Generate};
 ghost use Rattle.logging_server.specs.Commands.{HasGenerated, HasReplayed, HasRun, HasServed};
 
 use crate::Served;
 use crate::statuses::{
     TEXT_LIMIT, code_of_generate, code_of_replay, code_of_serve, number_of_replay,
 };
-use command_words::Options;
+use cmd_gen::{Generated, Played, Replayed, generate, replay};
+use cmd_line::Options;
+use cmd_one::{Ran, one};
+use cmd_serve::{HostCore, HostServed, serve_host};
 use ev_base::{Host, PeerEnd, Sink, Source};
-use generator_run::{Generated, generate};
-use host_run::{HostCore, HostServed, serve_host};
 use log_handler::ServerNote;
-use one_command::{Ran, one};
 use reactor_core::Means;
 use reactor_model::Volumes;
 use script_net::ScriptEnd;
-use script_replay::{Played, Replayed, replay};
 use std::alloc::Global;
 use std::sync::Wait;
 use std::thread::Threads;
+use std::time::Clock;
 
 /// Serves one connection on the input.
 pub(crate) fn run_one<M, S: Source, K: Sink, V: Volumes<ServerNote>>(
@@ -59,7 +59,8 @@ pub(crate) fn run_replay<
     V: Volumes<ServerNote> + Send,
 >(rt: &R, alloc: Global, options: Options, input: S, output: K, volumes: V) -> Served<K, S, M, V>
     requires { AreInRange options }
-    ensures { HasReplayed S.facts K.facts V.facts input output volumes ⟦<ScriptEnd as PeerEnd>⟧ options result }
+    ensures { HasReplayed S.facts K.facts V.facts input output volumes ⟦<ScriptEnd as PeerEnd>⟧
+        options result }
 {
     let Replayed { input, played } = replay(rt, alloc, options, input, output, volumes, TEXT_LIMIT);
     let Played {
@@ -98,7 +99,8 @@ pub(crate) fn run_generated<
     volumes: V,
 ) -> Served<K, S, M, V>
     requires { IsInRange (Generate connections seed) }
-    ensures { HasGenerated S.facts K.facts V.facts input output volumes ⟦<ScriptEnd as PeerEnd>⟧ connections seed result }
+    ensures { HasGenerated S.facts K.facts V.facts input output volumes ⟦<ScriptEnd as PeerEnd>⟧
+        connections seed result }
 {
     let Generated {
         end,
@@ -121,10 +123,10 @@ pub(crate) fn run_generated<
 
 /// Runs the server over the host.
 pub(crate) fn run_host<
-    R: Threads + Wait + Sync,
+    R: Clock + Threads + Wait + Copy + Send + Sync + 'static,
     H: Host,
     S: Source,
-    K: Sink + Send,
+    K: Sink + Send + Drop + 'static,
     V: Volumes<ServerNote> + Send,
 >(
     rt: &R,
@@ -141,7 +143,10 @@ where
     H::Net: Send,
     H::Waker: Drop + Sync,
     requires { AreInRange options }
-    ensures { HasServed S.facts K.facts V.facts input output volumes ⟦<HostCore<H::End, H::Net, K, V> as Means>⟧.m options (H.faults host.old) (H.faults host.new) result }
+    ensures { HasServed S.facts K.facts V.facts input output volumes
+        ⟦<HostCore<H::End, H::Net, K, V> as Means>⟧.m port options
+        (record { faults = H.faults host.old; ports = H.ports host.old })
+        (record { faults = H.faults host.new; ports = H.ports host.new }) result }
 {
     let HostServed {
         end,

@@ -9,11 +9,12 @@ use std::alloc::Global;
 /// What a run of the program leaves.
 #[derive(Drop)]
 pub struct Served<K, S, M, V> {
-    /// How it ended: 0 done, 1 usage, 2 bad text, 3 read failed, 4 write failed, 5 wait failed, 6 out of memory, 7 listen failed, 8 bad record,
-    /// 10 illegal entry, 11 too much input, 12 volume failed.
+    /// How it ended: 0 done, 1 usage, 2 bad text, 3 read failed, 4 write failed, 5 wait failed, 6
+    /// out of memory, 7 listen failed, 8 bad record, 10 illegal entry, 11 too much input, 12 volume
+    /// failed.
     pub status: u8,
-    /// The entries of the reactor's journal that were not handed over to the volumes, from number `first` on. Where no reactor was
-    /// made there are none.
+    /// The entries of the reactor's journal that were not handed over to the volumes, from number
+    /// `first` on. Where no reactor was made there are none.
     pub journal: Journal<ServerNote>,
     /// How many entries were handed over.
     pub first: u64,
@@ -21,12 +22,13 @@ pub struct Served<K, S, M, V> {
     pub input: S,
     /// The sink that was handed in.
     pub output: K,
-    /// The net that the host gave in this call, as it stands behind the run: none where `listen` was not called, or was refused.
+    /// The net that the host gave in this call, as it stands behind the run: none where `listen`
+    /// was not called, or was refused.
     pub net: Option<M>,
     /// The keeper of volumes that was handed in.
     pub volumes: V,
-    /// The number of the status: at 2 the line, from 1, at 8 the offset of the record in bytes, at 10 the number of the entry, at 11 how
-    /// many bytes were read, else 0.
+    /// The number of the status: at 2 the line, from 1, at 8 the offset of the record in bytes, at
+    /// 10 the number of the entry, at 11 how many bytes were read, else 0.
     pub at: u64,
 }
 

@@ -1,12 +1,13 @@
 //! The status of each command's ending, and the number that goes with it.
 ghost use Rattle.std.specs.Prelude.{◌≡◌};
-ghost use Rattle.logging_server.specs.Codes.{audit_code, audit_number, display_code, display_number, generate_code, replay_code, replay_number, serve_code};
+ghost use Rattle.logging_server.specs.Codes.{audit_code, audit_number, display_code};
+ghost use Rattle.logging_server.specs.Codes.{display_number, generate_code, replay_code};
+ghost use Rattle.logging_server.specs.Codes.{replay_number, serve_code};
 
-use generator_run::GenerateEnd;
-use host_run::HostEnd;
-use journal_audit::AuditEnd;
-use record_display::DisplayEnd;
-use script_replay::ReplayEnd;
+use cmd_audit::AuditEnd;
+use cmd_display::DisplayEnd;
+use cmd_gen::{GenerateEnd, ReplayEnd};
+use cmd_serve::HostEnd;
 
 /// How many bytes `display` reads at most: 2^40.
 pub(crate) const DISPLAY_LIMIT: u64 = 1_099_511_627_776;

@@ -5,11 +5,11 @@ use crate::Served;
 use crate::statuses::{
     DISPLAY_LIMIT, TEXT_LIMIT, code_of_audit, code_of_display, number_of_audit, number_of_display,
 };
+use cmd_audit::{Audited, audit};
+use cmd_display::{Displayed, display};
 use ev_base::{Sink, Source};
-use journal_audit::{Audited, audit};
 use log_handler::ServerNote;
 use reactor_model::{Journal, Volumes};
-use record_display::{Displayed, display};
 use std::alloc::Global;
 use std::sync::Wait;
 use std::thread::Threads;

@@ -1,17 +1,17 @@
 //! The top call.
 ghost use Rattle.std.specs.Prelude.{◌≡◌, ◌⊎◌, map, Some, None};
 ghost use Rattle.std.specs.String.{string_bytes};
-ghost use Rattle.command_words.specs.Lines.{command_of};
-ghost use Rattle.command_words.specs.Ranges.{IsInRange};
+ghost use Rattle.cmd_line.specs.Lines.{command_of};
+ghost use Rattle.cmd_line.specs.Ranges.{IsInRange};
 ghost use Rattle.logging_server.specs.Commands.{HasDone, IsServe, IsUntouched};
 
 use crate::Served;
 use crate::runs::{run_generated, run_host, run_one, run_replay};
 use crate::statuses::{OUT_OF_MEMORY, USAGE};
 use crate::texts::{audit_journal, display_records};
-use command_words::Command;
+use cmd_line::Command;
+use cmd_serve::HostCore;
 use ev_base::{Host, PeerEnd, Sink, Source};
-use host_run::HostCore;
 use log_handler::ServerNote;
 use reactor_core::Means;
 use reactor_model::Volumes;
@@ -19,21 +19,26 @@ use script_net::ScriptEnd;
 use std::alloc::Global;
 use std::sync::Wait;
 use std::thread::Threads;
+use std::time::Clock;
 
-/// Does what the words of the command line say, those after the program's name (C++NPv2 chapter 4: the networked logging server).
+/// Does what the words of the command line say, those after the program's name (C++NPv2 chapter 4:
+/// the networked logging server).
 ///
-/// `one` serves one connection, number 0, whose bytes are the input; `replay` serves the connections of the script whose text the input is;
-/// `serve` those that come to a port of the host; `gen` those of a generated script, and writes the summary of its run. The output has the
-/// lines of the journal's notes, or what the options of `replay` ask for, and the journal is handed over to `volumes` in volumes of the size
-/// that these say. `display` writes the text of each record of the input and a line feed. `audit` writes `legal N` where the input is
-/// the text of a legal journal of N entries.
+/// `one` serves one connection, number 0, whose bytes are the input; `replay` serves the
+/// connections of the script whose text the input is; `serve` those that come to a port of the
+/// host; `gen` those of a generated script, and writes the summary of its run. The output has the
+/// lines of the journal's notes, or what the options of `replay` ask for, and the journal is handed
+/// over to `volumes` in volumes of the size that these say. `display` writes the text of each
+/// record of the input and a line feed. `audit` writes `legal N` where the input is the text of a
+/// legal journal of N entries.
 ///
-/// Status 1 comes exactly where the words are no command; then, and where there is no memory to read them, nothing was done.
+/// Status 1 comes exactly where the words are no command; then, and where there is no memory to
+/// read them, nothing was done.
 pub fn logd_main<
-    R: Threads + Wait + Copy + Send + Sync + 'static,
+    R: Clock + Threads + Wait + Copy + Send + Sync + 'static,
     H: Host,
     S: Source,
-    K: Sink + Send,
+    K: Sink + Send + Drop + 'static,
     V: Volumes<ServerNote> + Send,
 >(
     rt: &R,
@@ -48,10 +53,14 @@ where
     H::End: Drop + Send,
     H::Net: Send,
     H::Waker: Drop + Sync,
-    // What the command did that the words are: its statuses with their causes, and the number beside the status. For want of memory for the
-    // words nothing was done.
-    ensures does { HasDone S.facts K.facts V.facts input output volumes ⟦<ScriptEnd as PeerEnd>⟧ ⟦<HostCore<H::End, H::Net, K, V> as Means>⟧.m (command_of (map string_bytes words.now)) (H.faults host.old) (H.faults host.new) result
-        ⊎ ((result.status ≡ 6) × IsUntouched input output volumes result) }
+    // What the command did that the words are: its statuses with their causes, and the number
+    // beside the status. For want of memory for the words nothing was done, and the host is as it
+    // was.
+    ensures does { HasDone S.facts K.facts V.facts input output volumes ⟦<ScriptEnd as PeerEnd>⟧
+        ⟦<HostCore<H::End, H::Net, K, V> as Means>⟧.m (command_of (map string_bytes words.now))
+        (record { faults = H.faults host.old; ports = H.ports host.old })
+        (record { faults = H.faults host.new; ports = H.ports host.new }) result
+        ⊎ ((result.status ≡ 6) × IsUntouched input output volumes result × (host.new ≡ host.old)) }
     // Status 1 comes where the words are no command, and nowhere else.
     ensures usage { result.status ≡ 1 → command_of (map string_bytes words.now) ≡ None }
     // The host is not asked but by `serve`.
@@ -66,10 +75,10 @@ where
 
 /// Runs a command.
 fn run<
-    R: Threads + Wait + Copy + Send + Sync + 'static,
+    R: Clock + Threads + Wait + Copy + Send + Sync + 'static,
     H: Host,
     S: Source,
-    K: Sink + Send,
+    K: Sink + Send + Drop + 'static,
     V: Volumes<ServerNote> + Send,
 >(
     rt: &R,
@@ -85,7 +94,10 @@ where
     H::Net: Send,
     H::Waker: Drop + Sync,
     requires { IsInRange command }
-    ensures does { HasDone S.facts K.facts V.facts input output volumes ⟦<ScriptEnd as PeerEnd>⟧ ⟦<HostCore<H::End, H::Net, K, V> as Means>⟧.m (Some command) (H.faults host.old) (H.faults host.new) result }
+    ensures does { HasDone S.facts K.facts V.facts input output volumes ⟦<ScriptEnd as PeerEnd>⟧
+        ⟦<HostCore<H::End, H::Net, K, V> as Means>⟧.m (Some command)
+        (record { faults = H.faults host.old; ports = H.ports host.old })
+        (record { faults = H.faults host.new; ports = H.ports host.new }) result }
     ensures host { (IsServe (Some command) → ⊥) → host.new ≡ host.old }
 {
     match command {

@@ -12,11 +12,13 @@ pub record TakesMessages (queue : QueueState) : Type 0 where
   pub active : queue.active ≡ true
   pub below : held_bytes queue < queue.high
 
--- A queue that is not active refuses a message, and so does one that holds as many bytes as its high mark or more, which
--- tells how many. Only one that would take the message can lack the memory for it.
+-- A queue that is not active refuses a message, and so does one that holds as many bytes as its
+-- high mark or more, which tells how many. Only one that would take the message can lack the memory
+-- for it.
 abbrev pub RefusesMessage : QueueState → EnqueueRefused → Type 0
 RefusesMessage queue enqueue.Inactive = queue.active ≡ false
-RefusesMessage queue (enqueue.Full bytes) = (queue.active ≡ true) × (queue.high ≤ bytes) × (bytes ≡ held_bytes queue)
+RefusesMessage queue (enqueue.Full bytes) =
+    (queue.active ≡ true) × (queue.high ≤ bytes) × (bytes ≡ held_bytes queue)
 RefusesMessage queue enqueue.NoMemory = TakesMessages queue
 
 -- the bytes were above the low mark and are no more

@@ -1,5 +1,7 @@
--- Blocks, messages and queues as contracts see them (C++NPv2 chapter 6: `ACE_Message_Block`, `ACE_Message_Queue`).
-use Rattle.std.specs.Prelude.{ℕ, nat_lt, Bool, if◌then◌else◌, List, [], ◌∷◌, length, ◌+◌, fold, flat_map}
+-- Blocks, messages and queues as contracts see them (C++NPv2 chapter 6: `ACE_Message_Block`,
+-- `ACE_Message_Queue`).
+use Rattle.std.specs.Prelude.{ℕ, nat_lt, Bool, if◌then◌else◌, List, [], ◌∷◌, length, ◌+◌, fold}
+use Rattle.std.specs.Prelude.{flat_map}
 use Rattle.std.specs.List.{list_all}
 
 -- a block: the bytes between its read place and its write place, and for how many more it has space
@@ -43,8 +45,8 @@ held_bytes queue = held_in queue.messages
 abbrev pub is_below : ℕ → MessageState → Bool
 is_below priority message = nat_lt message.priority priority
 
--- A message put by its priority stands directly behind the last one of equal or higher priority, and at the head where
--- all that are there are of lower priority.
+-- A message put by its priority stands directly behind the last one of equal or higher priority,
+-- and at the head where all that are there are of lower priority.
 abbrev pub put_by_priority : MessageState → List MessageState → List MessageState
 put_by_priority message [] = message ∷ []
 put_by_priority message (first ∷ rest) =
@@ -53,4 +55,5 @@ put_by_priority message (first ∷ rest) =
 
 -- what a queue holds after these messages were put by priority, in this order
 abbrev pub filled_by_priority : List MessageState → List MessageState
-filled_by_priority arrivals = fold (λ messages message. put_by_priority message messages) [] arrivals
+filled_by_priority arrivals = fold (λ messages message. put_by_priority message messages) []
+    arrivals

@@ -1,12 +1,14 @@
 //! Blocks of bytes.
-ghost use Rattle.std.specs.Prelude.{◌≡◌, ◌≤◌, ◌<◌, ◌+◌, ◌-◌, [], ◌++◌, length, drop, OnOk, OnErr, IfOk, IfErr};
+ghost use Rattle.std.specs.Prelude.{◌≡◌, ◌≤◌, ◌<◌, ◌+◌, ◌-◌, [], ◌++◌, length, drop, OnOk, OnErr};
+ghost use Rattle.std.specs.Prelude.{IfOk, IfErr};
 
 use ev_types::NoMemory;
 use std::alloc::Global;
 use std::marker::Model;
 
-/// A block of so many bytes, with a read place and a write place (ACE's `ACE_Message_Block`). What was written and not
-/// yet read stands between the two places; what is left of the block behind the write place is its space.
+/// A block of so many bytes, with a read place and a write place (ACE's `ACE_Message_Block`). What
+/// was written and not yet read stands between the two places; what is left of the block behind the
+/// write place is its space.
 #[derive(Drop)]
 pub struct Block {
     written: Vec<u8>,
@@ -20,9 +22,13 @@ impl Model for Block {
 
     ghost Value = { BlockState };
 
-    ghost view = { λ b. record { bytes = drop b.read b.written.items; space = b.size - vec_len b.written } };
+    ghost view = { λ b. record {
+      bytes = drop b.read b.written.items;
+      space = b.size - vec_len b.written;
+    } };
 
-    ghost invariant = { λ b. (b.read ≤ vec_len b.written) × (vec_len b.written ≤ b.size) × (b.size ≤ vec_capacity b.written) × (b.size ≤ 1048576) };
+    ghost invariant = { λ b. (b.read ≤ vec_len b.written) × (vec_len b.written ≤ b.size)
+        × (b.size ≤ vec_capacity b.written) × (b.size ≤ 1048576) };
 }
 
 /// A block has less space than the bytes that were to be written.
@@ -68,12 +74,16 @@ impl Block {
         memory
     }
 
-    /// Writes bytes at the write place. `NoSpace` comes exactly where they are more than the space; it tells the space,
-    /// and the block is as before.
+    /// Writes bytes at the write place. `NoSpace` comes exactly where they are more than the space;
+    /// it tells the space, and the block is as before.
     pub fn write(&mut self, bytes: &[u8]) -> Result<(), NoSpace>
         ensures fits { OnOk result (length bytes.now ≤ self.old.space) }
-        ensures written { OnOk result (self.new ≡ record { bytes = self.old.bytes ++ bytes.now; space = self.old.space - length bytes.now }) }
-        ensures too_many { IfErr result (λ refusal. (self.old.space < length bytes.now) × (refusal.space ≡ self.old.space)) }
+        ensures written { OnOk result (self.new ≡ record {
+          bytes = self.old.bytes ++ bytes.now;
+          space = self.old.space - length bytes.now;
+        }) }
+        ensures too_many { IfErr result (λ refusal. (self.old.space < length bytes.now)
+            × (refusal.space ≡ self.old.space)) }
         ensures unchanged { OnErr result (self.new ≡ self.old) }
     {
         let space = self.size - self.written.len();

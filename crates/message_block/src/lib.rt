@@ -1,5 +1,5 @@
-//! Messages of blocks of bytes, and queues of messages with a high and a low mark (C++NPv2 chapter 6,
-//! `ACE_Message_Block` and `ACE_Message_Queue`).
+//! Messages of blocks of bytes, and queues of messages with a high and a low mark (C++NPv2 chapter
+//! 6, `ACE_Message_Block` and `ACE_Message_Queue`).
 #![tactic(auto)]
 
 mod block;

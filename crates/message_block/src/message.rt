@@ -1,5 +1,6 @@
 //! Messages of blocks.
-ghost use Rattle.std.specs.Prelude.{◌≡◌, ◌≤◌, ◌<◌, ◌^◌, [], ◌∷◌, ◌++◌, length, vec_len, OnOk, OnErr, IfOk, IfErr};
+ghost use Rattle.std.specs.Prelude.{◌≡◌, ◌≤◌, ◌<◌, ◌^◌, [], ◌∷◌, ◌++◌, length, vec_len, OnOk};
+ghost use Rattle.std.specs.Prelude.{OnErr, IfOk, IfErr};
 ghost use Rattle.message_block.specs.Messages.{block_of, bytes_of};
 
 use crate::block::Block;
@@ -11,8 +12,8 @@ use std::mem;
 /// For how many blocks a new message has places: its own, and one that is added.
 const USUAL_BLOCKS: usize = 2;
 
-/// A message: a priority, and one to 1,024 blocks in order (ACE's chain of `ACE_Message_Block`s by `cont`). Its bytes are
-/// those of its blocks, joined.
+/// A message: a priority, and one to 1,024 blocks in order (ACE's chain of `ACE_Message_Block`s by
+/// `cont`). Its bytes are those of its blocks, joined.
 #[derive(Drop)]
 pub struct Message {
     // In a box, so that a message that is passed on moves as a pointer.
@@ -49,16 +50,24 @@ impl Model for Message {
 
     ghost Value = { MessageState };
 
-    ghost view = { λ m. record { priority = m.content.value.priority; blocks = m.content.value.blocks.items } };
+    ghost view = { λ m. record {
+      priority = m.content.value.priority;
+      blocks = m.content.value.blocks.items;
+    } };
 
-    ghost invariant = { λ m. (m.content.value.total ≡ length (bytes_in m.content.value.blocks.items))
-        × (m.content.value.total ≤ 1048576 * vec_len m.content.value.blocks) × (1 ≤ vec_len m.content.value.blocks) × (vec_len m.content.value.blocks ≤ 1024) };
+    ghost invariant = { λ m. (m.content.value.total ≡ length
+        (bytes_in m.content.value.blocks.items))
+        × (m.content.value.total ≤ 1048576 * vec_len m.content.value.blocks)
+        × (1 ≤ vec_len m.content.value.blocks) × (vec_len m.content.value.blocks ≤ 1024) };
 }
 
 impl Message {
     /// A message of one block. `NoMemory` gives the block back.
     pub fn new(alloc: Global, first: Block, priority: u32) -> Result<Message, (Block, NoMemory)>
-        ensures made { IfOk result (λ message. message ≡ record { priority = priority; blocks = first ∷ [] }) }
+        ensures made { IfOk result (λ message. message ≡ record {
+          priority = priority;
+          blocks = first ∷ [];
+        }) }
         ensures refused { IfErr result (λ refusal. refusal.0 ≡ first) }
     {
         let total = first.length() as u64;
@@ -82,11 +91,13 @@ impl Message {
         }
     }
 
-    /// Puts a block behind the others, of which there are fewer than 1,024. `NoMemory` gives it back, and the message is as
-    /// before.
+    /// Puts a block behind the others, of which there are fewer than 1,024. `NoMemory` gives it
+    /// back, and the message is as before.
     pub fn cont(&mut self, b: Block) -> Result<(), (Block, NoMemory)>
         requires { length self.old.blocks < 1024 }
-        ensures continued { OnOk result (self.new ≡ record self.old { blocks = self.old.blocks ++ b ∷ [] }) }
+        ensures continued { OnOk result (self.new ≡ record self.old {
+          blocks = self.old.blocks ++ b ∷ [];
+        }) }
         ensures refused { IfErr result (λ refusal. (refusal.0 ≡ b) × (self.new ≡ self.old)) }
     {
         let length = b.length() as u64;
@@ -99,12 +110,14 @@ impl Message {
         }
     }
 
-    /// Puts a block of these bytes, at most 1,048,576, without space behind the others, of which there are fewer than 1,024. After
-    /// `NoMemory` the message is as before.
+    /// Puts a block of these bytes, at most 1,048,576, without space behind the others, of which
+    /// there are fewer than 1,024. After `NoMemory` the message is as before.
     pub fn cont_bytes(&mut self, alloc: Global, bytes: &[u8]) -> Result<(), NoMemory>
         requires blocks { length self.old.blocks < 1024 }
         requires bytes { length bytes.now ≤ 1048576 }
-        ensures continued { OnOk result (self.new ≡ record self.old { blocks = self.old.blocks ++ block_of bytes.now ∷ [] }) }
+        ensures continued { OnOk result (self.new ≡ record self.old {
+          blocks = self.old.blocks ++ block_of bytes.now ∷ [];
+        }) }
         ensures unchanged { OnErr result (self.new ≡ self.old) }
     {
         let mut memory = self.spare_memory(alloc);
@@ -126,7 +139,8 @@ impl Message {
         }
     }
 
-    /// Puts a block in the place of all, and gives the memory of the first that was there, without its bytes.
+    /// Puts a block in the place of all, and gives the memory of the first that was there, without
+    /// its bytes.
     pub fn put_alone(&mut self, b: Block) -> Vec<u8>
         ensures alone { self.new ≡ record self.old { blocks = b ∷ [] } }
         ensures memory { result.items ≡ [] }
@@ -136,11 +150,15 @@ impl Message {
         mem::replace(&mut self.content.blocks[0], b).into_memory()
     }
 
-    /// Makes it a message of this priority and of one block of these bytes, at most 1,048,576, without space. The memory that it has is
-    /// used again. After `NoMemory` it has one block without bytes.
+    /// Makes it a message of this priority and of one block of these bytes, at most 1,048,576,
+    /// without space. The memory that it has is used again. After `NoMemory` it has one block
+    /// without bytes.
     pub fn rewrite(&mut self, bytes: &[u8], priority: u32) -> Result<(), NoMemory>
         requires { length bytes.now ≤ 1048576 }
-        ensures rewritten { OnOk result (self.new ≡ record { priority = priority; blocks = block_of bytes.now ∷ [] }) }
+        ensures rewritten { OnOk result (self.new ≡ record {
+          priority = priority;
+          blocks = block_of bytes.now ∷ [];
+        }) }
     {
         let none = Vec::new(*self.content.blocks.allocator());
         let mut memory = self.put_alone(Block::from_vec(none));

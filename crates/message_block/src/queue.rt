@@ -1,5 +1,6 @@
 //! Queues of messages.
-ghost use Rattle.std.specs.Prelude.{◌≡◌, ◌≤◌, ◌^◌, ℕ, suc, true, false, [], ◌∷◌, ◌++◌, drop, OnOk, IfOk, IfErr, MatchOption};
+ghost use Rattle.std.specs.Prelude.{◌≡◌, ◌≤◌, ◌^◌, ℕ, suc, true, false, [], ◌∷◌, ◌++◌, drop, OnOk};
+ghost use Rattle.std.specs.Prelude.{IfOk, IfErr, MatchOption};
 ghost use Rattle.std.specs.VecDeque.{deque_len};
 ghost use Rattle.std.specs.List.{list_all};
 ghost use Rattle.message_block.specs.Messages.{is_below, put_by_priority, held_bytes};
@@ -15,8 +16,9 @@ pub const HIGH: u64 = 16_384;
 /// The low mark that a queue has by default, in bytes (ACE's `DEFAULT_LWM`).
 pub const LOW: u64 = 16_384;
 
-/// A queue of messages that counts their bytes (ACE's `ACE_Message_Queue`). It takes no message while it holds as many bytes
-/// as its high mark or more, and while it is not active, and it tells when it falls to its low mark.
+/// A queue of messages that counts their bytes (ACE's `ACE_Message_Queue`). It takes no message
+/// while it holds as many bytes as its high mark or more, and while it is not active, and it tells
+/// when it falls to its low mark.
 #[derive(Drop)]
 pub struct MessageQueue {
     messages: VecDeque<Message>,
@@ -32,9 +34,15 @@ impl Model for MessageQueue {
 
     ghost Value = { QueueState };
 
-    ghost view = { λ q. record { messages = q.messages.items; high = q.high; low = q.low; active = q.active } };
+    ghost view = { λ q. record {
+      messages = q.messages.items;
+      high = q.high;
+      low = q.low;
+      active = q.active;
+    } };
 
-    ghost invariant = { λ q. (q.bytes ≡ held_in q.messages.items) × (q.low ≤ q.high) × (q.high ≤ 2 ^ 40) × (q.bytes ≤ q.high + 2 ^ 30) };
+    ghost invariant = { λ q. (q.bytes ≡ held_in q.messages.items) × (q.low ≤ q.high)
+        × (q.high ≤ 2 ^ 40) × (q.bytes ≤ q.high + 2 ^ 30) };
 }
 
 /// Why a queue takes no message.
@@ -70,9 +78,11 @@ pub enum DequeueRefused {
 }
 
 impl MessageQueue {
-    ghost use Rattle.message_block.specs.Answers.{TakesMessages, RefusesMessage, TakesFirst, GivesNone};
+    ghost use Rattle.message_block.specs.Answers.{TakesMessages, RefusesMessage, TakesFirst};
+    ghost use Rattle.message_block.specs.Answers.{GivesNone};
 
-    /// An active queue without messages. The marks are bytes, the low one at most the high one, and that at most 2^40.
+    /// An active queue without messages. The marks are bytes, the low one at most the high one, and
+    /// that at most 2^40.
     pub fn new(alloc: Global, high: u64, low: u64) -> MessageQueue
         requires order { low ≤ high }
         requires within { high ≤ 2 ^ 40 }
@@ -87,11 +97,14 @@ impl MessageQueue {
         }
     }
 
-    /// Puts a message behind all others. A refusal gives it back, and the queue is as before: `Inactive` comes exactly while the
-    /// queue is not active, `Full` exactly where it is active and holds as many bytes as its high mark or more.
+    /// Puts a message behind all others. A refusal gives it back, and the queue is as before:
+    /// `Inactive` comes exactly while the queue is not active, `Full` exactly where it is active
+    /// and holds as many bytes as its high mark or more.
     pub fn enqueue_tail(&mut self, m: Message) -> Result<(), (Message, EnqueueRefused)>
         ensures accepts { OnOk result (TakesMessages self.old) }
-        ensures queued { OnOk result (self.new ≡ record self.old { messages = self.old.messages ++ m ∷ [] }) }
+        ensures queued { OnOk result (self.new ≡ record self.old {
+          messages = self.old.messages ++ m ∷ [];
+        }) }
         ensures refused { IfErr result (λ refusal. RefusesMessage self.old refusal.1) }
         ensures unchanged { IfErr result (λ refusal. (refusal.0 ≡ m) × (self.new ≡ self.old)) }
     {
@@ -111,7 +124,9 @@ impl MessageQueue {
     /// Puts a message before all others. Refusals are those of `enqueue_tail`.
     pub fn enqueue_head(&mut self, m: Message) -> Result<(), (Message, EnqueueRefused)>
         ensures accepts { OnOk result (TakesMessages self.old) }
-        ensures queued { OnOk result (self.new ≡ record self.old { messages = m ∷ self.old.messages }) }
+        ensures queued { OnOk result (self.new ≡ record self.old {
+          messages = m ∷ self.old.messages;
+        }) }
         ensures refused { IfErr result (λ refusal. RefusesMessage self.old refusal.1) }
         ensures unchanged { IfErr result (λ refusal. (refusal.0 ≡ m) × (self.new ≡ self.old)) }
     {
@@ -128,11 +143,13 @@ impl MessageQueue {
         }
     }
 
-    /// Puts a message directly behind the last one of equal or higher priority, and at the head where there is none. Refusals
-    /// are those of `enqueue_tail`.
+    /// Puts a message directly behind the last one of equal or higher priority, and at the head
+    /// where there is none. Refusals are those of `enqueue_tail`.
     pub fn enqueue_prio(&mut self, m: Message) -> Result<(), (Message, EnqueueRefused)>
         ensures accepts { OnOk result (TakesMessages self.old) }
-        ensures queued { OnOk result (self.new ≡ record self.old { messages = put_by_priority m self.old.messages }) }
+        ensures queued { OnOk result (self.new ≡ record self.old {
+          messages = put_by_priority m self.old.messages;
+        }) }
         ensures refused { IfErr result (λ refusal. RefusesMessage self.old refusal.1) }
         ensures unchanged { IfErr result (λ refusal. (refusal.0 ≡ m) × (self.new ≡ self.old)) }
     {
@@ -150,8 +167,8 @@ impl MessageQueue {
         }
     }
 
-    /// Takes the first message. `Inactive` comes exactly while the queue is not active, `Empty` exactly where it is active and
-    /// has no message; the queue is then as before.
+    /// Takes the first message. `Inactive` comes exactly while the queue is not active, `Empty`
+    /// exactly where it is active and has no message; the queue is then as before.
     pub fn dequeue_head(&mut self) -> Result<Dequeued, DequeueRefused>
         ensures taken { IfOk result (λ taken. TakesFirst self.old taken self.new) }
         ensures refused { IfErr result (λ why. GivesNone self.old why × (self.new ≡ self.old)) }
@@ -205,12 +222,13 @@ impl MessageQueue {
     }
 }
 
-/// The place directly behind the last message of this priority or a higher one: the least from which on all are of lower
-/// priority.
+/// The place directly behind the last message of this priority or a higher one: the least from
+/// which on all are of lower priority.
 fn place_by_priority(messages: &VecDeque<Message>, priority: u32) -> usize
     ensures within { result ≤ deque_len messages.now }
     ensures lower { list_all (is_below priority) (drop result messages.now.items) ≡ true }
-    ensures least { (before : ℕ) → result ≡ suc before → list_all (is_below priority) (drop before messages.now.items) ≡ false }
+    ensures least { (before : ℕ) → result ≡ suc before
+        → list_all (is_below priority) (drop before messages.now.items) ≡ false }
 {
     let mut place = messages.len();
     while place > 0 {

@@ -1,5 +1,6 @@
 //! What came back.
-ghost use Rattle.std.specs.Prelude.{◌≡◌, ◌<◌, [], ◌∷◌, ◌++◌, List, true, false, vec_len, vec_capacity, OnOk};
+ghost use Rattle.std.specs.Prelude.{◌≡◌, ◌<◌, [], ◌∷◌, ◌++◌, List, true, false, vec_len};
+ghost use Rattle.std.specs.Prelude.{vec_capacity, OnOk};
 ghost use Rattle.message_block.specs.Messages.{MessageState};
 ghost use Rattle.message_lines.specs.declared.line.Item.{Item};
 ghost use Rattle.message_lines.specs.Boxes.{IsIn, HasRoom, each_of, ones};
@@ -35,8 +36,8 @@ impl Inbox {
         }
     }
 
-    /// Makes room for whatever comes next. Where nothing is held that is a place for one message, since many come in a list of their own, which
-    /// is taken over.
+    /// Makes room for whatever comes next. Where nothing is held that is a place for one message,
+    /// since many come in a list of their own, which is taken over.
     pub(crate) fn make_room(&mut self) -> Result<(), NoMemory>
         ensures room { OnOk result (HasRoom self.new) }
         ensures messages { self.new.messages.items ≡ self.old.messages.items }
@@ -55,7 +56,8 @@ impl Inbox {
     /// Accepts what came. Where there is no memory for a message it is lost, and all behind it.
     pub(crate) fn accept(&mut self, item: Item)
         requires { self.old.over ≡ false }
-        ensures accepted { (got : List Item) (base : List MessageState) → IsIn got base self.old → IsIn (got ++ each_of item) base self.new }
+        ensures accepted { (got : List Item) (base : List MessageState) → IsIn got base self.old
+            → IsIn (got ++ each_of item) base self.new }
         ensures kept { HasRoom self.old → self.new.lost ≡ self.old.lost }
     {
         match item {
@@ -68,8 +70,10 @@ impl Inbox {
     /// Keeps a message behind the others.
     fn keep(&mut self, message: Message)
         requires { self.old.over ≡ false }
-        ensures accepted { (got : List Item) (base : List MessageState) → IsIn got base self.old → IsIn (got ++ Item.One message ∷ []) base self.new }
-        ensures kept { vec_len self.old.messages < vec_capacity self.old.messages → self.new.lost ≡ self.old.lost }
+        ensures accepted { (got : List Item) (base : List MessageState) → IsIn got base self.old
+            → IsIn (got ++ Item.One message ∷ []) base self.new }
+        ensures kept { vec_len self.old.messages < vec_capacity self.old.messages
+            → self.new.lost ≡ self.old.lost }
     {
         if self.lost {
             return;
@@ -83,7 +87,8 @@ impl Inbox {
     /// Keeps messages behind the others. Where there are none, their list is taken over.
     fn keep_all(&mut self, batch: Batch)
         requires { self.old.over ≡ false }
-        ensures accepted { (got : List Item) (base : List MessageState) → IsIn got base self.old → IsIn (got ++ ones batch.messages.items) base self.new }
+        ensures accepted { (got : List Item) (base : List MessageState) → IsIn got base self.old
+            → IsIn (got ++ ones batch.messages.items) base self.new }
         ensures kept { HasRoom self.old → self.new.lost ≡ self.old.lost }
     {
         if self.lost {
@@ -100,7 +105,8 @@ impl Inbox {
         }
     }
 
-    /// Gives the messages, and holds none from now on. Where there are none, the memory for the next is kept.
+    /// Gives the messages, and holds none from now on. Where there are none, the memory for the
+    /// next is kept.
     pub fn take(&mut self) -> Vec<Message>
         ensures given { result.items ≡ self.old.messages.items }
         ensures messages { self.new.messages.items ≡ [] }

@@ -1,4 +1,5 @@
-//! A line of items from one thread to another: a queue of at most 64 under the rule that what comes is what was sent, in order.
+//! A line of items from one thread to another: a queue of at most 64 under the rule that what comes
+//! is what was sent, in order.
 ghost use Rattle.std.specs.Prelude.{◌≡◌, [], ◌∷◌, ◌++◌, true, false, MatchOption};
 ghost use Rattle.crossbeam_queue.specs.Passes.{view, IsSamePass, IsPassOf};
 ghost use Rattle.message_lines.specs.Lines.{log};
@@ -99,7 +100,8 @@ pub fn send<R: Wait>(rt: &R, line: &Line, end: &mut End, waits: &Waits, item: It
     requires end { IsPassOf line.now end.old }
     requires puts { (view end.old).puts ≡ true }
     ensures same { IsSamePass end.old end.new }
-    ensures sent { view end.new ≡ log true (view end.old).takes ((view end.old).sent ++ item ∷ []) (view end.old).got }
+    ensures sent { view end.new ≡ log true (view end.old).takes ((view end.old).sent ++ item ∷ [])
+        (view end.old).got }
 {
     let mut item = item;
     let mut looks = Looks::new();
@@ -124,7 +126,8 @@ pub fn receive<R: Wait>(rt: &R, line: &Line, end: &mut End, waits: &Waits) -> It
     requires end { IsPassOf line.now end.old }
     requires takes { (view end.old).takes ≡ true }
     ensures same { IsSamePass end.old end.new }
-    ensures got { view end.new ≡ log (view end.old).puts true (view end.old).sent ((view end.old).got ++ result ∷ []) }
+    ensures got { view end.new ≡ log (view end.old).puts true (view end.old).sent
+        ((view end.old).got ++ result ∷ []) }
 {
     let mut looks = Looks::new();
     for _ in rt.forever() {

@@ -1,9 +1,10 @@
 //! The two lines between the caller and the thread.
-ghost use Rattle.std.specs.Prelude.{◌≡◌, [], ◌∷◌, ◌++◌, List, true, false, IfOk, OnOk, IfErr};
+ghost use Rattle.std.specs.Prelude.{◌≡◌, [], true, false, IfOk, OnOk, IfErr};
 ghost use Rattle.crossbeam_queue.specs.Passes.{view, IsPassOf};
 ghost use Rattle.message_lines.specs.Lines.{log};
 ghost use Rattle.message_lines.specs.Boxes.{HasRoom};
 
+use crate::exchange::{Exchanges, exchange};
 use crate::inbox::Inbox;
 use crate::line::{End, Ends, Got, Item, Line, Sent};
 use crate::wait::{Looks, Waits};
@@ -14,7 +15,8 @@ use std::sync::{Arc, Wait};
 /// How many items a line holds at most.
 const ROOM: usize = 64;
 
-/// The caller's side of the two lines: what it puts goes to the thread, and what comes back is kept in the inbox.
+/// The caller's side of the two lines: what it puts goes to the thread, and what comes back is kept
+/// in the inbox.
 #[derive(Drop)]
 pub struct Lines {
     pub feed: Arc<Line, Global>,
@@ -49,7 +51,8 @@ pub fn open(alloc: Global) -> Result<(Lines, Side), AllocError>
     ensures came { IfOk result (λ sides. sides.1.came.value ≡ sides.0.came.value) }
     ensures sent { IfOk result (λ sides. (view sides.0.puts).sent ≡ []) }
     ensures got { IfOk result (λ sides. (view sides.0.takes).got ≡ []) }
-    ensures inbox { IfOk result (λ sides. (sides.0.inbox.messages.items ≡ []) × (sides.0.inbox.lost ≡ false) × (sides.0.inbox.over ≡ false)) }
+    ensures inbox { IfOk result (λ sides. (sides.0.inbox.messages.items ≡ [])
+        × (sides.0.inbox.lost ≡ false) × (sides.0.inbox.over ≡ false)) }
 {
     let (feed, mut puts) = Line::ruled(alloc, ROOM)?;
     let their_takes = feed.another::<Ends>(&mut puts);
@@ -79,52 +82,22 @@ pub fn open(alloc: Global) -> Result<(Lines, Side), AllocError>
 impl Lines {
     ghost use Rattle.message_lines.specs.Caller.{KeepsWhatCame, HasSent, AreSame};
 
-    /// Puts an item, and takes in what comes while there is no room for it. `Err` gives it back: there was no memory for the
-    /// messages that may come. Nothing is lost.
+    /// Takes in what has come and puts an item, and takes in what comes while there is no room for
+    /// it. `Err` gives it back: there was no memory for the messages that may come. Nothing is
+    /// lost.
     pub fn put<R: Wait>(&mut self, rt: &R, item: Item) -> Result<(), Item>
         ensures put { OnOk result (HasSent self.old item self.new) }
-        ensures refused { IfErr result (λ back. (back ≡ item) × ((view self.new.puts).sent ≡ (view self.old.puts).sent)) }
+        ensures refused { IfErr result (λ back. (back ≡ item)
+            × ((view self.new.puts).sent ≡ (view self.old.puts).sent)) }
         ensures came { KeepsWhatCame self.old self.new }
         ensures lost { self.new.inbox.lost ≡ self.old.inbox.lost }
         ensures same { AreSame self.old self.new }
     {
-        let mut item = item;
-        let mut looks = Looks::new();
-        for _ in rt.forever() {
-            if self.take_all(rt).is_err() {
-                looks.end(&self.waits.caller);
-                return Err(item);
-            }
-            match self.feed.try_push_as::<Sent>(&mut self.puts, item) {
-                Ok(()) => {
-                    looks.end(&self.waits.caller);
-                    self.waits.worker.tell();
-                    return Ok(());
-                }
-                Err(back) => item = back,
-            }
-            looks.pause(rt, &self.waits.caller, &self.waits.worker);
-        }
-        unreachable!()
+        exchange(rt, self, item)
     }
 
-    /// Takes in what has come. It stops where there is no memory for the messages that may come. Nothing is lost.
-    fn take_all<R: Wait>(&mut self, rt: &R) -> Result<(), NoMemory>
-        ensures came { KeepsWhatCame self.old self.new }
-        ensures lost { self.new.inbox.lost ≡ self.old.inbox.lost }
-        ensures puts { self.new.puts ≡ self.old.puts }
-        ensures same { AreSame self.old self.new }
-    {
-        for _ in rt.forever() {
-            self.inbox.make_room()?;
-            if !self.take_one() {
-                return Ok(());
-            }
-        }
-        unreachable!()
-    }
-
-    /// Takes in one item, if one has come, and tells whether it did. Where there is no memory for a message it is lost.
+    /// Takes in one item, if one has come, and tells whether it did. Where there is no memory for a
+    /// message it is lost.
     fn take_one(&mut self) -> bool
         ensures came { KeepsWhatCame self.old self.new }
         ensures kept { HasRoom self.old.inbox → self.new.inbox.lost ≡ self.old.inbox.lost }
@@ -187,4 +160,33 @@ impl Lines {
         }
         unreachable!()
     }
+}
+
+impl Exchanges for Lines {
+    ghost use Rattle.std.specs.Prelude.{None};
+    ghost use Rattle.message_lines.specs.Caller.{Keeps, HasPut};
+    ghost use Rattle.message_lines.specs.Kept.{keeps_same, keeps_then};
+
+    ghost waiting = { λ lines. None };
+
+    ghost keeps = { Keeps };
+
+    ghost has_put = { HasPut };
+
+    fn take_next(&mut self) -> Result<bool, NoMemory> {
+        self.inbox.make_room()?;
+        Ok(self.take_one())
+    }
+
+    fn try_put(&mut self, item: Item) -> Result<(), Item> {
+        self.feed.try_push_as::<Sent>(&mut self.puts, item)
+    }
+
+    fn waits(&self) -> &Waits {
+        &self.waits
+    }
+
+    ghost keeps_same = { keeps_same };
+
+    ghost keeps_then = { keeps_then };
 }

@@ -6,16 +6,18 @@ use std::sync::atomic::{AtomicU64, Ordering};
 use std::thread::yield_now;
 use std::time::Duration;
 
-/// How often a thread only waits a moment before it looks again: where both run on processors of their own, the next items come
-/// within a microsecond.
+/// How often a thread only waits a moment before it looks again: where both run on processors of
+/// their own, the next items come within a microsecond.
 const SPINS: u32 = 2;
 
 /// How many turns the first of these moments has. The next is twice as long.
 const FIRST_SPINS: u32 = 4;
 
-/// How often it looks before it sleeps, from then on letting other threads run in between: where both share a processor, the other
-/// goes on then. All these looks take some 100 microseconds where nothing else runs. A sleep with its wake takes as long, and on a virtual
-/// machine whose processor stood still many times as long, in which the other thread runs ahead until it has to wait in its turn.
+/// How often it looks before it sleeps, from then on letting other threads run in between: where
+/// both share a processor, the other goes on then. All these looks take some 100 microseconds where
+/// nothing else runs. A sleep with its wake takes as long, and on a virtual machine whose processor
+/// stood still many times as long, in which the other thread runs ahead until it has to wait in its
+/// turn.
 const LOOKS: u32 = 256;
 
 /// How long a thread dozes at most, in microseconds. Then it sleeps until it is woken.
@@ -33,10 +35,12 @@ const DOZING: u64 = 1;
 /// It sleeps until it is woken, or is about to.
 const ASLEEP: u64 = 2;
 
-/// What a thread sleeps on until another wakes it. One thread sleeps at it, and one wakes it. No contract speaks of it.
+/// What a thread sleeps on until another wakes it. One thread sleeps at it, and one wakes it. No
+/// contract speaks of it.
 pub(crate) struct Parking {
     state: AtomicU64,
-    /// How many changes the thread was not woken for while it dozes. The one who wakes it counts them.
+    /// How many changes the thread was not woken for while it dozes. The one who wakes it counts
+    /// them.
     untold: AtomicU64,
 }
 
@@ -57,8 +61,9 @@ impl Parking {
         self.state.store(state, Ordering::SeqCst);
     }
 
-    /// Comes after a change that the thread may wait for, and wakes it where it sleeps, but where it dozes only for many changes. The thread
-    /// says that it is about to sleep before it looks for the last time, so no change is missed.
+    /// Comes after a change that the thread may wait for, and wakes it where it sleeps, but where
+    /// it dozes only for many changes. The thread says that it is about to sleep before it looks
+    /// for the last time, so no change is missed.
     pub(crate) fn tell(&self) {
         match self.state() {
             AWAKE => {}
@@ -126,9 +131,9 @@ impl Looks {
         Looks { made: 0 }
     }
 
-    /// Comes after a look in vain: it waits a moment at first, then it lets other threads run, then it dozes, and in the end it sleeps. Before
-    /// the last two the thread wakes the other one, for what that was not told of, and after it has said what it is about to do it looks once
-    /// more.
+    /// Comes after a look in vain: it waits a moment at first, then it lets other threads run, then
+    /// it dozes, and in the end it sleeps. Before the last two the thread wakes the other one, for
+    /// what that was not told of, and after it has said what it is about to do it looks once more.
     pub(crate) fn pause<R: Wait>(&mut self, rt: &R, at: &Parking, other: &Parking) {
         if self.made < SPINS {
             for _ in 0..FIRST_SPINS << self.made {

@@ -7,8 +7,10 @@ use Rattle.module_stream.specs.Tasks.{formatted, text_message}
 
 -- a message whose bytes spell a record becomes its text
 abbrev pub FormatsRecords : Type 0
-FormatsRecords = (message : MessageState) (entry : LogRecord) → Spells (bytes_of message) entry → formatted message ≡ text_message message.priority entry
+FormatsRecords = (message : MessageState) (entry : LogRecord) → Spells (bytes_of message) entry
+    → formatted message ≡ text_message message.priority entry
 
 -- any other message stays as it is
 abbrev pub LeavesOthers : Type 0
-LeavesOthers = (message : MessageState) → ((entry : LogRecord) → ¬ Spells (bytes_of message) entry) → formatted message ≡ message
+LeavesOthers = (message : MessageState) → ((entry : LogRecord) → ¬ Spells (bytes_of message) entry)
+    → formatted message ≡ message

@@ -2,9 +2,9 @@ pub mod Composition
 pub mod Flows
 pub mod Passing
 pub mod Tasks
-pub mod Growing
 pub mod Streams
 pub mod Laws
 pub mod Progress
 pub mod Works
 pub mod Active
+pub use Rattle.log_lines

@@ -1,6 +1,7 @@
--- What contracts see of a stream, and what its calls do (C++NPv2 chapter 9: `ACE_Stream`). The parameters X and F are those of a
--- boxed task.
-use Rattle.std.specs.Prelude.{◌≡◌, ◌<◌, ◌≤◌, ◌==◌, ℕ, Bool, true, false, List, [], ◌∷◌, ◌++◌, length}
+-- What contracts see of a stream, and what its calls do (C++NPv2 chapter 9: `ACE_Stream`). The
+-- parameters X and F are those of a boxed task.
+use Rattle.std.specs.Prelude.{◌≡◌, ◌<◌, ◌≤◌, ◌==◌, ℕ, Bool, true, false, List, [], ◌∷◌, ◌++◌}
+use Rattle.std.specs.Prelude.{length}
 use Rattle.std.specs.List.{list_any}
 use Rattle.std.specs.declared.alloc.Global.{Global}
 use Rattle.std.specs.declared.dyn_box.DynBox.{DynBox}
@@ -51,8 +52,10 @@ pub record IsUnchanged {X : Type 0} {F : X → Type 0} (old new : Stream X F) : 
   pub started : has_started new ≡ has_started old
   pub spent : is_spent new ≡ is_spent old
 
--- the second has one module more, just below the head: its writer comes first from the head, and its reader last from the tail
-pub record HasOneMore {X : Type 0} {F : X → Type 0} (less : Stream X F) (added : Module X F) (more : Stream X F) : Type 0 where
+-- the second has one module more, just below the head: its writer comes first from the head, and
+-- its reader last from the tail
+pub record HasOneMore {X : Type 0} {F : X → Type 0} (less : Stream X F) (added : Module X F)
+    (more : Stream X F) : Type 0 where
   pub names : names_of more ≡ names_of less ++ added.name ∷ []
   pub writers : writers_of more ≡ added.writer ∷ writers_of less
   pub readers : readers_of more ≡ readers_of less ++ added.reader ∷ []
@@ -68,13 +71,17 @@ pub record TakesModule {X : Type 0} {F : X → Type 0} (stream : Stream X F) (na
   pub other_name : has_name stream name ≡ false
   pub below : length (names_of stream) < 16
 
--- A module of the same name, and 16 modules, are why one is refused. Only where the stream takes the module can memory lack for it.
+-- A module of the same name, and 16 modules, are why one is refused. Only where the stream takes
+-- the module can memory lack for it.
 abbrev pub RefusesModule : {X : Type 0} {F : X → Type 0} → Stream X F → ℕ → PushRefused → Type 0
 RefusesModule stream name push.SameName = has_name stream name ≡ true
-RefusesModule stream name (push.Full modules) = (has_name stream name ≡ false) × (modules ≡ length (names_of stream)) × (16 ≤ modules)
+RefusesModule stream name (push.Full modules) =
+    (has_name stream name ≡ false) × (modules ≡ length (names_of stream)) × (16 ≤ modules)
 RefusesModule stream name push.NoMemory = TakesModule stream name
 
--- A spent stream refuses each message, and is as before. Want of memory leaves a stream spent that was not.
-abbrev pub RefusesMessage : {X : Type 0} {F : X → Type 0} → Stream X F → StreamRefused → Stream X F → Type 0
+-- A spent stream refuses each message, and is as before. Want of memory leaves a stream spent that
+-- was not.
+abbrev pub RefusesMessage : {X : Type 0} {F : X → Type 0} → Stream X F → StreamRefused → Stream X F
+    → Type 0
 RefusesMessage old refused.Spent new = (is_spent old ≡ true) × IsUnchanged old new
 RefusesMessage old refused.NoMemory new = (is_spent old ≡ false) × (is_spent new ≡ true)

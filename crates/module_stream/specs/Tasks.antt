@@ -13,7 +13,8 @@ text_block entry = block_of (record_text entry)
 abbrev pub text_message : ℕ → LogRecord → MessageState
 text_message priority entry = record { priority = priority; blocks = text_block entry ∷ [] }
 
--- the text of a record, with the priority of the message that it was; a message that is no record stays as it is
+-- the text of a record, with the priority of the message that it was; a message that is no record
+-- stays as it is
 abbrev pub text_or : MessageState → Option LogRecord → MessageState
 text_or message None = message
 text_or message (Some entry) = text_message message.priority entry
@@ -21,8 +22,11 @@ text_or message (Some entry) = text_message message.priority entry
 unfoldable pub formatted : MessageState → MessageState
 formatted message = text_or message (only_record (bytes_of message))
 
--- A message of fewer than 1,024 blocks gets one more, a line feed. One that has as many stays as it is.
+-- A message of fewer than 1,024 blocks gets one more, a line feed. One that has as many stays as it
+-- is.
 abbrev pub separated : MessageState → MessageState
 separated message =
-    if nat_lt (length message.blocks) 1024 then record message { blocks = message.blocks ++ block_of (10 ∷ []) ∷ [] }
+    if nat_lt (length message.blocks) 1024 then record message {
+      blocks = message.blocks ++ block_of (10 ∷ []) ∷ [];
+    }
     else message

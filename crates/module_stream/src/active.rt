@@ -1,5 +1,6 @@
 //! Active tasks.
-ghost use Rattle.std.specs.Prelude.{◌≡◌, ◌≤◌, [], ◌∷◌, ◌++◌, List, length, IfOk, OnOk, OnErr, IfErr, false};
+ghost use Rattle.std.specs.Prelude.{◌≡◌, ◌≤◌, [], ◌∷◌, ◌++◌, List, length, IfOk, OnOk, OnErr};
+ghost use Rattle.std.specs.Prelude.{IfErr, false};
 ghost use Rattle.crossbeam_queue.specs.Passes.{view, IsPassOf};
 ghost use Rattle.message_block.specs.Messages.{MessageState};
 ghost use Rattle.module_stream.specs.Progress.{Gives, Begins, Progress};
@@ -16,11 +17,11 @@ use std::snapshot::Snapshot;
 use std::sync::Wait;
 use std::thread::{self, PromisedHandle, Threads};
 
-/// A task that runs on a thread of its own. Messages go to it through a queue of 64 places, one by one or some together, and what comes
-/// out comes back through another.
-/// Whoever waits for the other looks a few times and then sleeps.
-/// Where no thread can be started, the caller runs the task inside `put` and `finish`. An active task is ended by `finish` and
-/// cannot be let go otherwise, so that no thread is left behind.
+/// A task that runs on a thread of its own. Messages go to it through a queue of 64 places, one by
+/// one or some together, and what comes out comes back through another. Whoever waits for the other
+/// looks a few times and then sleeps. Where no thread can be started, the caller runs the task
+/// inside `put` and `finish`. An active task is ended by `finish` and cannot be let go otherwise,
+/// so that no thread is left behind.
 pub struct ActiveTask<T: Task> {
     runner: Runner<T>,
 }
@@ -44,7 +45,8 @@ struct Beside<T: Task> {
 impl<T: Task + Send + 'static> ActiveTask<T> {
     ghost use Rattle.module_stream.specs.Active.{Runs, KeepsNone};
 
-    /// Starts a thread that runs a task. `NoMemory` gives the task back: there was no memory for the queues.
+    /// Starts a thread that runs a task. `NoMemory` gives the task back: there was no memory for
+    /// the queues.
     pub fn begin<R: Threads + Wait + Copy + Send + 'static>(
         rt: &R,
         alloc: Global,
@@ -84,15 +86,17 @@ impl<T: Task + Send + 'static> ActiveTask<T> {
         }
     }
 
-    /// Puts a message, and gives all that has come out and was not given yet. It waits until the queue to the thread has room.
-    /// `NoMemory` gives the message back, which was not put: there was no memory for what may have come out. The active task is as
-    /// before, and nothing is lost.
+    /// Puts a message, and gives all that has come out and was not given yet. It waits until the
+    /// queue to the thread has room. `NoMemory` gives the message back, which was not put: there
+    /// was no memory for what may have come out. The active task is as before, and nothing is lost.
     pub fn put<R: Wait>(&mut self, rt: &R, m: Message) -> Result<Messages, (Message, NoMemory)>
-        ensures given { (first : Gives) (put answered : List MessageState) → Runs T.gives first put answered self.old
+        ensures given { (first : Gives) (put answered : List MessageState)
+            → Runs T.gives first put answered self.old
             → IfOk result (λ out. Runs T.gives first (put ++ m ∷ []) (answered ++ out) self.new) }
         ensures none_kept { OnOk result (KeepsNone self.new) }
         ensures refused { IfErr result (λ refusal. refusal.0 ≡ m) }
-        ensures unchanged { (first : Gives) (put answered : List MessageState) → Runs T.gives first put answered self.old
+        ensures unchanged { (first : Gives) (put answered : List MessageState)
+            → Runs T.gives first put answered self.old
             → OnErr result (Runs T.gives first put answered self.new) }
     {
         match &mut self.runner {
@@ -108,11 +112,13 @@ impl<T: Task + Send + 'static> ActiveTask<T> {
         messages: Messages,
     ) -> Result<Messages, (Messages, NoMemory)>
         requires { length messages ≤ 256 }
-        ensures given { (first : Gives) (put answered : List MessageState) → Runs T.gives first put answered self.old
+        ensures given { (first : Gives) (put answered : List MessageState)
+            → Runs T.gives first put answered self.old
             → IfOk result (λ out. Runs T.gives first (put ++ messages) (answered ++ out) self.new) }
         ensures none_kept { OnOk result (KeepsNone self.new) }
         ensures refused { IfErr result (λ refusal. refusal.0 ≡ messages) }
-        ensures unchanged { (first : Gives) (put answered : List MessageState) → Runs T.gives first put answered self.old
+        ensures unchanged { (first : Gives) (put answered : List MessageState)
+            → Runs T.gives first put answered self.old
             → OnErr result (Runs T.gives first put answered self.new) }
     {
         match &mut self.runner {
@@ -121,13 +127,17 @@ impl<T: Task + Send + 'static> ActiveTask<T> {
         }
     }
 
-    /// Ends the list of messages, waits until the thread has ended, and gives all that was not given yet. With what `put` gave before,
-    /// that is what the task gives for all messages that were put. `NoMemory` comes where the task refused a message or its end, or
-    /// where there was no memory for what came out; the messages that it gives are those that came before the first that was lost.
+    /// Ends the list of messages, waits until the thread has ended, and gives all that was not
+    /// given yet. With what `put` gave before, that is what the task gives for all messages that
+    /// were put. `NoMemory` comes where the task refused a message or its end, or where there was
+    /// no memory for what came out; the messages that it gives are those that came before the first
+    /// that was lost.
     pub fn finish<R: Threads + Wait>(self, rt: &R) -> Result<Messages, (Messages, NoMemory)>
-        ensures whole { (first : Gives) (put answered : List MessageState) → Runs T.gives first put answered self
+        ensures whole { (first : Gives) (put answered : List MessageState)
+            → Runs T.gives first put answered self
             → IfOk result (λ out. answered ++ out ≡ first put) }
-        ensures front { (first : Gives) (put answered : List MessageState) → Runs T.gives first put answered self
+        ensures front { (first : Gives) (put answered : List MessageState)
+            → Runs T.gives first put answered self
             → IfErr result (λ refusal. Begins (answered ++ refusal.0) (first put)) }
     {
         let ActiveTask { runner } = self;
@@ -143,11 +153,14 @@ impl<T: Task> Beside<T> {
 
     /// Sends a message, and gives what has come back.
     fn put<R: Wait>(&mut self, rt: &R, m: Message) -> Result<Messages, (Message, NoMemory)>
-        ensures given { (first : Gives) (put answered : List MessageState) → RunsBeside T.gives first put answered self.old
-            → IfOk result (λ out. RunsBeside T.gives first (put ++ m ∷ []) (answered ++ out) self.new) }
+        ensures given { (first : Gives) (put answered : List MessageState)
+            → RunsBeside T.gives first put answered self.old
+            → IfOk result (λ out. RunsBeside T.gives first (put ++ m ∷ []) (answered ++ out)
+            self.new) }
         ensures none_kept { OnOk result (self.new.lines.inbox.messages.items ≡ []) }
         ensures refused { IfErr result (λ refusal. refusal.0 ≡ m) }
-        ensures unchanged { (first : Gives) (put answered : List MessageState) → RunsBeside T.gives first put answered self.old
+        ensures unchanged { (first : Gives) (put answered : List MessageState)
+            → RunsBeside T.gives first put answered self.old
             → OnErr result (RunsBeside T.gives first put answered self.new) }
     {
         match self.lines.put(rt, Item::One(m)) {
@@ -164,11 +177,14 @@ impl<T: Task> Beside<T> {
         messages: Messages,
     ) -> Result<Messages, (Messages, NoMemory)>
         requires { length messages ≤ 256 }
-        ensures given { (first : Gives) (put answered : List MessageState) → RunsBeside T.gives first put answered self.old
-            → IfOk result (λ out. RunsBeside T.gives first (put ++ messages) (answered ++ out) self.new) }
+        ensures given { (first : Gives) (put answered : List MessageState)
+            → RunsBeside T.gives first put answered self.old
+            → IfOk result (λ out. RunsBeside T.gives first (put ++ messages) (answered ++ out)
+            self.new) }
         ensures none_kept { OnOk result (self.new.lines.inbox.messages.items ≡ []) }
         ensures refused { IfErr result (λ refusal. refusal.0 ≡ messages) }
-        ensures unchanged { (first : Gives) (put answered : List MessageState) → RunsBeside T.gives first put answered self.old
+        ensures unchanged { (first : Gives) (put answered : List MessageState)
+            → RunsBeside T.gives first put answered self.old
             → OnErr result (RunsBeside T.gives first put answered self.new) }
     {
         let batch = Batch::new(messages.into_vec());
@@ -184,7 +200,8 @@ impl<T: Task> Beside<T> {
 
     /// Ends what is sent, and waits for the thread.
     fn end<R: Threads + Wait>(self, rt: &R) -> Here<T>
-        ensures { (first : Gives) (put answered : List MessageState) → RunsBeside T.gives first put answered self
+        ensures { (first : Gives) (put answered : List MessageState)
+            → RunsBeside T.gives first put answered self
             → Progress first put (answered ++ result.held.items) result.lost (T.gives result.task) }
     {
         let Beside { lines, child } = self;

@@ -15,8 +15,9 @@ use message_block::{Block, Message};
 use std::alloc::Global;
 use std::mem;
 
-/// A task that gives, for a message whose bytes spell a log record, the record's text (`SEC,USEC PID NAME: MESSAGE`) as one block
-/// without space and with the same priority, and any other message as it is.
+/// A task that gives, for a message whose bytes spell a log record, the record's text (`SEC,USEC
+/// PID NAME: MESSAGE`) as one block without space and with the same priority, and any other message
+/// as it is.
 #[derive(Drop)]
 pub struct FormatTask {
     alloc: Global,
@@ -63,7 +64,8 @@ impl FormatTask {
 
     /// The block of the text of the record that a message's bytes spell, if they do.
     fn text_of_message(&mut self, message: &Message) -> Result<Option<Block>, NoMemory>
-        ensures { IfOk result (λ text. text ≡ option_map text_block (D.only_record (bytes_of message.now))) }
+        ensures { IfOk result (λ text. text ≡ option_map text_block
+            (D.only_record (bytes_of message.now))) }
     {
         match message.blocks() {
             [only] => self.text_of(only.bytes()),
@@ -74,7 +76,8 @@ impl FormatTask {
         }
     }
 
-    /// The block of the text of the record that bytes spell, if they do. Nothing of the record is copied but into the text.
+    /// The block of the text of the record that bytes spell, if they do. Nothing of the record is
+    /// copied but into the text.
     fn text_of(&mut self, bytes: &[u8]) -> Result<Option<Block>, NoMemory>
         ensures { IfOk result (λ text. text ≡ option_map text_block (D.only_record bytes.now)) }
     {

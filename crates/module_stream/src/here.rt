@@ -30,8 +30,10 @@ pub(crate) fn settle<T: Task>(lines: Lines, worker: Worker<T>) -> Here<T>
     requires over { lines.inbox.over ≡ true }
     requires takes { IsPassOf lines.feed.value worker.takes × ((view worker.takes).takes ≡ true) }
     requires puts { IsPassOf lines.came.value worker.puts × ((view worker.puts).puts ≡ true) }
-    ensures { (task : _) (takes puts : Pass Item Log) (put answered : List MessageState) → HasWorked T.gives task takes puts worker → HasStopped put answered lines
-        → Progress (T.gives task) put (answered ++ result.held.items) result.lost (T.gives result.task) }
+    ensures { (task : _) (takes puts : Pass Item Log) (put answered : List MessageState)
+        → HasWorked T.gives task takes puts worker → HasStopped put answered lines
+        → Progress (T.gives task) put (answered ++ result.held.items) result.lost
+        (T.gives result.task) }
 {
     let Lines {
         feed,
@@ -62,8 +64,10 @@ pub(crate) fn settle<T: Task>(lines: Lines, worker: Worker<T>) -> Here<T>
 impl<T: Task> Here<T> {
     /// Puts a message into the task, and gives what has come out.
     pub(crate) fn put(&mut self, message: Message) -> Vec<Message>
-        ensures given { (first : Gives) (put answered : List MessageState) → Progress first put (answered ++ self.old.held.items) self.old.lost (T.gives self.old.task)
-            → Progress first (put ++ message ∷ []) (answered ++ result.items) self.new.lost (T.gives self.new.task) }
+        ensures given { (first : Gives) (put answered : List MessageState)
+            → Progress first put (answered ++ self.old.held.items) self.old.lost
+            (T.gives self.old.task) → Progress first (put ++ message ∷ [])
+            (answered ++ result.items) self.new.lost (T.gives self.new.task) }
         ensures held { self.new.held.items ≡ [] }
     {
         self.take(message);
@@ -73,8 +77,10 @@ impl<T: Task> Here<T> {
 
     /// Puts messages into the task in order, and gives what has come out.
     pub(crate) fn put_all(&mut self, messages: Vec<Message>) -> Vec<Message>
-        ensures given { (first : Gives) (put answered : List MessageState) → Progress first put (answered ++ self.old.held.items) self.old.lost (T.gives self.old.task)
-            → Progress first (put ++ messages.items) (answered ++ result.items) self.new.lost (T.gives self.new.task) }
+        ensures given { (first : Gives) (put answered : List MessageState)
+            → Progress first put (answered ++ self.old.held.items) self.old.lost
+            (T.gives self.old.task) → Progress first (put ++ messages.items)
+            (answered ++ result.items) self.new.lost (T.gives self.new.task) }
         ensures held { self.new.held.items ≡ [] }
     {
         for message in messages {
@@ -86,8 +92,10 @@ impl<T: Task> Here<T> {
 
     /// Puts a message into the task, and holds what comes out.
     fn take(&mut self, message: Message)
-        ensures { (first : Gives) (put answered : List MessageState) → Progress first put (answered ++ self.old.held.items) self.old.lost (T.gives self.old.task)
-            → Progress first (put ++ message ∷ []) (answered ++ self.new.held.items) self.new.lost (T.gives self.new.task) }
+        ensures { (first : Gives) (put answered : List MessageState)
+            → Progress first put (answered ++ self.old.held.items) self.old.lost
+            (T.gives self.old.task) → Progress first (put ++ message ∷ [])
+            (answered ++ self.new.held.items) self.new.lost (T.gives self.new.task) }
     {
         if self.lost {
             return;
@@ -105,9 +113,11 @@ impl<T: Task> Here<T> {
 
     /// Finishes the task, and gives what has come out and comes out now.
     pub(crate) fn finish(self) -> Result<Messages, (Messages, NoMemory)>
-        ensures whole { (first : Gives) (put answered : List MessageState) → Progress first put (answered ++ self.held.items) self.lost (T.gives self.task)
+        ensures whole { (first : Gives) (put answered : List MessageState)
+            → Progress first put (answered ++ self.held.items) self.lost (T.gives self.task)
             → IfOk result (λ out. answered ++ out ≡ first put) }
-        ensures front { (first : Gives) (put answered : List MessageState) → Progress first put (answered ++ self.held.items) self.lost (T.gives self.task)
+        ensures front { (first : Gives) (put answered : List MessageState)
+            → Progress first put (answered ++ self.held.items) self.lost (T.gives self.task)
             → IfErr result (λ refusal. Begins (answered ++ refusal.0) (first put)) }
     {
         let Here {

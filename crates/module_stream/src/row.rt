@@ -12,7 +12,8 @@ use message_block::Message;
 
 /// Puts a message into a task.
 fn pass_into(task: &mut Box<dyn Task>, message: Message) -> Result<Passed, NoMemory>
-    ensures { IfOk result (λ out. Comes (gives task.old) (message ∷ []) (passed_on out) (gives task.new)) }
+    ensures { IfOk result (λ out. Comes (gives task.old) (message ∷ []) (passed_on out)
+        (gives task.new)) }
 {
     task.pass(message)
 }
@@ -61,7 +62,8 @@ fn add(out: Vec<Message>, given: Passed) -> Result<Vec<Message>, NoMemory>
 // A call of its own, so that a single message goes through little code.
 #[inline(never)]
 fn put_all(task: &mut Box<dyn Task>, messages: Vec<Message>) -> Result<Vec<Message>, NoMemory>
-    ensures { IfOk result (λ out. Comes (gives task.old) messages.items out.items (gives task.new)) }
+    ensures { IfOk result (λ out. Comes (gives task.old) messages.items out.items
+        (gives task.new)) }
 {
     let mut out = Vec::new(*messages.allocator());
     for message in messages {
@@ -73,7 +75,8 @@ fn put_all(task: &mut Box<dyn Task>, messages: Vec<Message>) -> Result<Vec<Messa
 
 /// Puts what came out of the task before.
 fn put_on(task: &mut Box<dyn Task>, passed: Passed) -> Result<Passed, NoMemory>
-    ensures { IfOk result (λ out. Comes (gives task.old) (passed_on passed) (passed_on out) (gives task.new)) }
+    ensures { IfOk result (λ out. Comes (gives task.old) (passed_on passed) (passed_on out)
+        (gives task.new)) }
 {
     match passed {
         Passed::One(message) => pass_into(task, message),
@@ -93,7 +96,8 @@ fn finish_with(task: &mut Box<dyn Task>, messages: Vec<Message>) -> Result<Vec<M
     joined(out, held)
 }
 
-/// The place of the first task from a place on that may give other messages than it gets, or the number of tasks.
+/// The place of the first task from a place on that may give other messages than it gets, or the
+/// number of tasks.
 fn next_working(tasks: &[Box<dyn Task>], from: usize) -> usize
     requires { from ≤ length tasks.now }
     ensures within { result ≤ length tasks.now }
@@ -107,8 +111,9 @@ fn next_working(tasks: &[Box<dyn Task>], from: usize) -> usize
     tasks.len()
 }
 
-/// Puts a message into the task of a place, what comes out of it into the next, and so on, and gives what comes out of the last.
-/// The tasks before the place give what they get, and so do those that are passed by.
+/// Puts a message into the task of a place, what comes out of it into the next, and so on, and
+/// gives what comes out of the last. The tasks before the place give what they get, and so do those
+/// that are passed by.
 // Within its caller, as `pass_one` is.
 #[inline(always)]
 fn put_through(
@@ -118,8 +123,8 @@ fn put_through(
 ) -> Result<Passed, NoMemory>
     requires first { first ≤ length tasks.old }
     requires passed_by { ArePassedBy ⟦<dyn Task as Task>⟧ tasks.old 0 first }
-    ensures { IfOk result (λ out. Comes (flow ⟦<dyn Task as Task>⟧ tasks.old) (message ∷ []) (passed_on out)
-        (flow ⟦<dyn Task as Task>⟧ tasks.new)) }
+    ensures { IfOk result (λ out. Comes (flow ⟦<dyn Task as Task>⟧ tasks.old) (message ∷ [])
+        (passed_on out) (flow ⟦<dyn Task as Task>⟧ tasks.new)) }
 {
     let mut passed = Passed::One(message);
     let mut place = first;
@@ -130,7 +135,8 @@ fn put_through(
     Ok(passed)
 }
 
-/// Finishes the first task, then the next with what came out, and so on, and gives what comes out of the last.
+/// Finishes the first task, then the next with what came out, and so on, and gives what comes out
+/// of the last.
 pub(crate) fn finish_through(
     tasks: &mut [Box<dyn Task>],
     messages: Vec<Message>,
@@ -148,8 +154,8 @@ pub(crate) fn finish_through(
 // Within its callers, since a `Passed` that is returned goes through memory.
 #[inline(always)]
 pub(crate) fn pass_one(tasks: &mut Vec<Box<dyn Task>>, message: Message) -> Result<Passed, NoMemory>
-    ensures given { IfOk result (λ out. Comes (flow ⟦<dyn Task as Task>⟧ tasks.old.items) (message ∷ []) (passed_on out)
-        (flow ⟦<dyn Task as Task>⟧ tasks.new.items)) }
+    ensures given { IfOk result (λ out. Comes (flow ⟦<dyn Task as Task>⟧ tasks.old.items)
+        (message ∷ []) (passed_on out) (flow ⟦<dyn Task as Task>⟧ tasks.new.items)) }
     ensures count { vec_len tasks.new ≡ vec_len tasks.old }
 {
     let first = next_working(tasks, 0);

@@ -12,8 +12,8 @@ use std::alloc::Global;
 /// How many blocks a message has at most.
 const MOST_BLOCKS: usize = 1_024;
 
-/// A task that adds a block of one line feed, without space, to each message of fewer than 1,024 blocks, and gives a message of
-/// 1,024 blocks as it is.
+/// A task that adds a block of one line feed, without space, to each message of fewer than 1,024
+/// blocks, and gives a message of 1,024 blocks as it is.
 #[derive(Drop)]
 pub struct SeparateTask {
     alloc: Global,

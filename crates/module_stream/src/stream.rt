@@ -1,5 +1,6 @@
 //! Streams of modules.
-ghost use Rattle.std.specs.Prelude.{◌≡◌, ◌≤◌, ◌+◌, true, false, [], ◌∷◌, IfOk, OnOk, IfErr, IfSome, IfNone, vec_len, vec_capacity};
+ghost use Rattle.std.specs.Prelude.{◌≡◌, ◌≤◌, ◌+◌, true, false, [], ◌∷◌, IfOk, OnOk, IfErr, IfSome};
+ghost use Rattle.std.specs.Prelude.{IfNone, vec_len, vec_capacity};
 ghost use Rattle.module_stream.specs.Composition.{Comes};
 ghost use Rattle.module_stream.specs.Flows.{flow};
 ghost use Rattle.module_stream.specs.Passing.{passed_on};
@@ -26,8 +27,9 @@ pub struct Module {
     pub reader: Box<dyn Task>,
 }
 
-/// A stream of at most 16 modules between a head and a tail (ACE's `ACE_Stream`). The tasks of each direction stand in the order
-/// in which messages go through them. Messages go past a task that says that it is passing (`Task::is_passing`).
+/// A stream of at most 16 modules between a head and a tail (ACE's `ACE_Stream`). The tasks of each
+/// direction stand in the order in which messages go through them. Messages go past a task that
+/// says that it is passing (`Task::is_passing`).
 #[derive(Drop)]
 pub struct Stream {
     names: Vec<u32>,
@@ -64,7 +66,10 @@ pub enum StreamRefused {
 }
 
 impl Stream {
-    ghost use Rattle.module_stream.specs.Streams.{writers_of, readers_of, names_of, has_started, is_spent, StaysOpen, IsEmptyStream, HasOneMore, IsUnchanged, TakesModule, RefusesModule, RefusesMessage};
+    ghost use Rattle.module_stream.specs.Streams.{writers_of, readers_of, names_of, has_started};
+    ghost use Rattle.module_stream.specs.Streams.{is_spent, StaysOpen, IsEmptyStream, HasOneMore};
+    ghost use Rattle.module_stream.specs.Streams.{IsUnchanged, TakesModule, RefusesModule};
+    ghost use Rattle.module_stream.specs.Streams.{RefusesMessage};
 
     /// A stream without modules. It takes no memory.
     pub fn new(alloc: Global) -> Stream
@@ -79,14 +84,16 @@ impl Stream {
         }
     }
 
-    /// Pushes a module just below the head, before the first message. A refusal gives it back, and the stream is as before:
-    /// `SameName` comes exactly where a module of that name is in the stream, `Full` exactly where it is not and there are 16.
+    /// Pushes a module just below the head, before the first message. A refusal gives it back, and
+    /// the stream is as before: `SameName` comes exactly where a module of that name is in the
+    /// stream, `Full` exactly where it is not and there are 16.
     pub fn push(&mut self, m: Module) -> Result<(), (Module, PushRefused)>
         requires { has_started self.old ≡ false }
         ensures accepts { OnOk result (TakesModule self.old m.name) }
         ensures pushed { OnOk result (HasOneMore self.old m self.new) }
         ensures refused { IfErr result (λ refusal. RefusesModule self.old m.name refusal.1) }
-        ensures unchanged { IfErr result (λ refusal. (refusal.0 ≡ m) × IsUnchanged self.old self.new) }
+        ensures unchanged { IfErr result (λ refusal. (refusal.0 ≡ m)
+            × IsUnchanged self.old self.new) }
     {
         if self.names.contains(&m.name) {
             return Err((m, PushRefused::SameName));
@@ -113,15 +120,18 @@ impl Stream {
     fn reserve(&mut self) -> Result<(), AllocError>
         ensures unchanged { IsUnchanged self.old self.new }
         ensures names { OnOk result (vec_len self.new.names + 1 ≤ vec_capacity self.new.names) }
-        ensures writers { OnOk result (vec_len self.new.writers + 1 ≤ vec_capacity self.new.writers) }
-        ensures readers { OnOk result (vec_len self.new.readers + 1 ≤ vec_capacity self.new.readers) }
+        ensures writers { OnOk result (vec_len self.new.writers + 1
+            ≤ vec_capacity self.new.writers) }
+        ensures readers { OnOk result (vec_len self.new.readers + 1
+            ≤ vec_capacity self.new.readers) }
     {
         self.names.reserve(1)?;
         self.writers.reserve(1)?;
         self.readers.reserve(1)
     }
 
-    /// Takes the module just below the head, before the first message. None comes exactly where there is none.
+    /// Takes the module just below the head, before the first message. None comes exactly where
+    /// there is none.
     pub fn pop(&mut self) -> Option<Module>
         requires { has_started self.old ≡ false }
         ensures popped { IfSome result (λ popped. HasOneMore self.new popped self.old) }
@@ -137,19 +147,21 @@ impl Stream {
         })
     }
 
-    /// Whether a message was put, or the stream was finished: from then on no module is pushed or popped.
+    /// Whether a message was put, or the stream was finished: from then on no module is pushed or
+    /// popped.
     pub fn has_started(&self) -> bool
         ensures { result ≡ has_started self.now }
     {
         self.started
     }
 
-    /// Puts a message at the head. It goes through the writers down to the tail, and the answer is what leaves the last; the
-    /// changed stream gives the rest. `Spent` comes exactly where there was no memory in an earlier `put`, `put_up` or `finish`,
-    /// or where the stream was finished; the message is dropped then. After `NoMemory` the stream is spent.
+    /// Puts a message at the head. It goes through the writers down to the tail, and the answer is
+    /// what leaves the last; the changed stream gives the rest. `Spent` comes exactly where there
+    /// was no memory in an earlier `put`, `put_up` or `finish`, or where the stream was finished;
+    /// the message is dropped then. After `NoMemory` the stream is spent.
     pub fn put(&mut self, m: Message) -> Result<Messages, StreamRefused>
-        ensures given { IfOk result (λ out. Comes (flow ⟦<dyn Task as Task>⟧ (writers_of self.old)) (m ∷ [])
-            out (flow ⟦<dyn Task as Task>⟧ (writers_of self.new))) }
+        ensures given { IfOk result (λ out. Comes (flow ⟦<dyn Task as Task>⟧ (writers_of self.old))
+            (m ∷ []) out (flow ⟦<dyn Task as Task>⟧ (writers_of self.new))) }
         ensures names { names_of self.new ≡ names_of self.old }
         ensures readers { readers_of self.new ≡ readers_of self.old }
         ensures started { has_started self.new ≡ true }
@@ -166,12 +178,13 @@ impl Stream {
         }
     }
 
-    /// Puts a message at the head as `put` does. Where one message leaves the last task, no list is made for it.
+    /// Puts a message at the head as `put` does. Where one message leaves the last task, no list is
+    /// made for it.
     // Within its callers, since a `Passed` that a call returns goes through memory.
     #[inline(always)]
     pub fn pass(&mut self, m: Message) -> Result<Passed, StreamRefused>
-        ensures given { IfOk result (λ out. Comes (flow ⟦<dyn Task as Task>⟧ (writers_of self.old)) (m ∷ [])
-            (passed_on out) (flow ⟦<dyn Task as Task>⟧ (writers_of self.new))) }
+        ensures given { IfOk result (λ out. Comes (flow ⟦<dyn Task as Task>⟧ (writers_of self.old))
+            (m ∷ []) (passed_on out) (flow ⟦<dyn Task as Task>⟧ (writers_of self.new))) }
         ensures names { names_of self.new ≡ names_of self.old }
         ensures readers { readers_of self.new ≡ readers_of self.old }
         ensures started { has_started self.new ≡ true }
@@ -191,10 +204,11 @@ impl Stream {
         }
     }
 
-    /// Puts a message at the tail. It goes through the readers up to the head. Refusals are those of `put`.
+    /// Puts a message at the tail. It goes through the readers up to the head. Refusals are those
+    /// of `put`.
     pub fn put_up(&mut self, m: Message) -> Result<Messages, StreamRefused>
-        ensures given { IfOk result (λ out. Comes (flow ⟦<dyn Task as Task>⟧ (readers_of self.old)) (m ∷ [])
-            out (flow ⟦<dyn Task as Task>⟧ (readers_of self.new))) }
+        ensures given { IfOk result (λ out. Comes (flow ⟦<dyn Task as Task>⟧ (readers_of self.old))
+            (m ∷ []) out (flow ⟦<dyn Task as Task>⟧ (readers_of self.new))) }
         ensures names { names_of self.new ≡ names_of self.old }
         ensures writers { writers_of self.new ≡ writers_of self.old }
         ensures started { has_started self.new ≡ true }
@@ -211,12 +225,13 @@ impl Stream {
         }
     }
 
-    /// Puts a message at the tail as `put_up` does. Where one message leaves the last task, no list is made for it.
+    /// Puts a message at the tail as `put_up` does. Where one message leaves the last task, no list
+    /// is made for it.
     // Within its callers, since a `Passed` that a call returns goes through memory.
     #[inline(always)]
     pub fn pass_up(&mut self, m: Message) -> Result<Passed, StreamRefused>
-        ensures given { IfOk result (λ out. Comes (flow ⟦<dyn Task as Task>⟧ (readers_of self.old)) (m ∷ [])
-            (passed_on out) (flow ⟦<dyn Task as Task>⟧ (readers_of self.new))) }
+        ensures given { IfOk result (λ out. Comes (flow ⟦<dyn Task as Task>⟧ (readers_of self.old))
+            (m ∷ []) (passed_on out) (flow ⟦<dyn Task as Task>⟧ (readers_of self.new))) }
         ensures names { names_of self.new ≡ names_of self.old }
         ensures writers { writers_of self.new ≡ writers_of self.old }
         ensures started { has_started self.new ≡ true }
@@ -236,10 +251,11 @@ impl Stream {
         }
     }
 
-    /// Ends the writer side: finishes its tasks from the head to the tail, and gives all that still comes out. After it the stream
-    /// is spent. Refusals are those of `put`.
+    /// Ends the writer side: finishes its tasks from the head to the tail, and gives all that still
+    /// comes out. After it the stream is spent. Refusals are those of `put`.
     pub fn finish(&mut self) -> Result<Messages, StreamRefused>
-        ensures given { IfOk result (λ out. out ≡ flow ⟦<dyn Task as Task>⟧ (writers_of self.old) []) }
+        ensures given { IfOk result (λ out. out ≡ flow ⟦<dyn Task as Task>⟧ (writers_of self.old)
+            []) }
         ensures names { names_of self.new ≡ names_of self.old }
         ensures readers { readers_of self.new ≡ readers_of self.old }
         ensures started { has_started self.new ≡ true }

@@ -1,5 +1,5 @@
 //! Texts of records as messages.
-ghost use Rattle.std.specs.Prelude.{◌≡◌, ◌≤◌, ◌<◌, ◌++◌, ℕ, List, IfOk, length};
+ghost use Rattle.std.specs.Prelude.{◌≡◌, ◌≤◌, IfOk, length};
 ghost use Rattle.cdr_record.specs.Borrowed.{owned};
 ghost use Rattle.module_stream.specs.Tasks.{text_block};
 ghost use Rattle.log_lines.specs.Texts.{record_text};
@@ -8,43 +8,18 @@ use cdr_record::RecordRef;
 use ev_types::NoMemory;
 use log_lines::put_borrowed_text;
 use message_block::Block;
-use sink_buffer::TextOut;
+use sink_buffer::GrowingText;
 
-/// How many bytes a block has at most. The text of a record has fewer: a message of 65,536 bytes has at most four times as many
-/// in its text.
+/// How many bytes a block has at most. The text of a record has fewer: a message of 65,536 bytes
+/// has at most four times as many in its text.
 const MOST_BYTES: usize = 1_048_576;
 
-/// How many bytes stand before the message in the text of a record at most: `SEC,USEC PID NAME: `, with numbers of at most 20, 11, 11
-/// and 12 bytes.
+/// How many bytes stand before the message in the text of a record at most: `SEC,USEC PID NAME: `,
+/// with numbers of at most 20, 11, 11 and 12 bytes.
 const MOST_BEFORE_MESSAGE: usize = 59;
 
-/// A text that grows as it is put. It is broken where there was no memory for it.
-#[derive(Drop)]
-struct GrowingText {
-    bytes: Vec<u8>,
-    broken: bool,
-    ghost within: { length bytes.items ≤ 1048576 },
-}
-
-impl TextOut for GrowingText {
-    ghost use Rattle.module_stream.specs.Growing.{Grows};
-
-    ghost Since = { List ℕ };
-
-    ghost stands = { Grows };
-
-    fn put(&mut self, bytes: &[u8]) {
-        if !self.broken
-            && bytes.len() <= MOST_BYTES - self.bytes.len()
-            && self.bytes.extend_from_slice(bytes).is_ok()
-        {
-            return;
-        }
-        self.broken = true;
-    }
-}
-
-/// How many bytes the text of a record with this message has at most where no byte of it is escaped: so many are put without growing.
+/// How many bytes the text of a record with this message has at most where no byte of it is
+/// escaped: so many are put without growing.
 fn room_for(message: &[u8]) -> usize {
     MOST_BEFORE_MESSAGE.saturating_add(message.len())
 }
@@ -57,15 +32,9 @@ fn text_of(memory: Vec<u8>, entry: RecordRef<'_>) -> Result<Vec<u8>, NoMemory>
     let mut bytes = memory;
     bytes.clear();
     bytes.reserve(room_for(entry.text))?;
-    let mut text = GrowingText {
-        bytes,
-        broken: false,
-    };
+    let mut text = GrowingText::new(bytes, MOST_BYTES);
     put_borrowed_text(&mut text, entry);
-    if text.broken {
-        return Err(NoMemory);
-    }
-    Ok(text.bytes)
+    text.into_bytes()
 }
 
 /// A block of the text of a record, without space, in memory that is used again.

@@ -1,5 +1,6 @@
 //! The work of the thread.
-ghost use Rattle.std.specs.Prelude.{◌≡◌, ◌≤◌, ◌<◌, [], ◌∷◌, ◌++◌, List, true, false, OnOk, OnErr, MatchOption, vec_len};
+ghost use Rattle.std.specs.Prelude.{◌≡◌, ◌≤◌, ◌<◌, [], ◌∷◌, ◌++◌, List, true, false, OnOk, OnErr};
+ghost use Rattle.std.specs.Prelude.{MatchOption, vec_len};
 ghost use Rattle.crossbeam_queue.specs.Passes.{view, IsSamePass, IsPassOf};
 ghost use Rattle.message_block.specs.Messages.{MessageState};
 ghost use Rattle.message_lines.specs.Lines.{log};
@@ -18,7 +19,8 @@ use std::snapshot::Snapshot;
 use std::sync::Wait;
 use std::thread::Promise;
 
-/// A task, the ends of the lines that it works between, and whether it lost a message for want of memory.
+/// A task, the ends of the lines that it works between, and whether it lost a message for want of
+/// memory.
 #[derive(Drop)]
 pub struct Worker<T: Task> {
     pub(crate) task: T,
@@ -29,7 +31,8 @@ pub struct Worker<T: Task> {
     pub(crate) gathered: Batch,
 }
 
-/// What the thread promises of the worker that it gives at its end: it is the one that began with this task and these ends.
+/// What the thread promises of the worker that it gives at its end: it is the one that began with
+/// this task and these ends.
 #[derive(Drop)]
 pub struct Works<T: Task> {
     pub(crate) task: Snapshot<T>,
@@ -38,7 +41,8 @@ pub struct Works<T: Task> {
 }
 
 impl<T: Task> Promise<Worker<T>> for Works<T> {
-    ghost kept_by = { λ p worker. HasWorked T.gives p.task.value p.takes.value p.puts.value worker };
+    ghost kept_by = { λ p worker. HasWorked T.gives p.task.value p.takes.value p.puts.value
+        worker };
 }
 
 /// Works until the end comes, and then sends the end.
@@ -79,8 +83,9 @@ impl<T: Task> Worker<T> {
         ensures same { IsSamePass self.old.puts self.new.puts }
         ensures takes { self.new.takes ≡ self.old.takes }
         ensures none { self.new.gathered.messages.items ≡ [] }
-        ensures gave { (first : Gives) (taken sent : List MessageState) → Gave T.gives first taken sent self.old
-            → (all : List MessageState) × Gave T.gives first (taken ++ message ∷ []) all self.new }
+        ensures gave { (first : Gives) (taken sent : List MessageState)
+            → Gave T.gives first taken sent self.old → (all : List MessageState)
+            × Gave T.gives first (taken ++ message ∷ []) all self.new }
     {
         self.put(rt, came, waits, message);
         self.send_gathered(rt, came, waits);
@@ -92,8 +97,9 @@ impl<T: Task> Worker<T> {
         ensures same { IsSamePass self.old.puts self.new.puts }
         ensures takes { self.new.takes ≡ self.old.takes }
         ensures none { self.new.gathered.messages.items ≡ [] }
-        ensures gave { (first : Gives) (taken sent : List MessageState) → Gave T.gives first taken sent self.old
-            → (all : List MessageState) × Gave T.gives first (taken ++ batch.messages.items) all self.new }
+        ensures gave { (first : Gives) (taken sent : List MessageState)
+            → Gave T.gives first taken sent self.old → (all : List MessageState)
+            × Gave T.gives first (taken ++ batch.messages.items) all self.new }
     {
         let Batch { mut messages } = batch;
         let _ = self.gathered.messages.reserve(messages.len());
@@ -104,29 +110,33 @@ impl<T: Task> Worker<T> {
         self.keep_memory(messages);
     }
 
-    /// Takes the memory of a list of which nothing is left for what is gathered next, where nothing is: so lists that go through the lines need
-    /// no memory anew, and the threads do not wait for each other at the allocator.
+    /// Takes the memory of a list of which nothing is left for what is gathered next, where nothing
+    /// is: so lists that go through the lines need no memory anew, and the threads do not wait for
+    /// each other at the allocator.
     fn keep_memory(&mut self, list: Vec<Message>)
         requires list { list.items ≡ [] }
         requires none { self.old.gathered.messages.items ≡ [] }
         ensures puts { self.new.puts ≡ self.old.puts }
         ensures rest { IsSameRest self.old self.new }
         ensures none { self.new.gathered.messages.items ≡ [] }
-        ensures given { (sent : List MessageState) → HasGiven sent self.old → HasGiven sent self.new }
+        ensures given { (sent : List MessageState) → HasGiven sent self.old
+            → HasGiven sent self.new }
     {
         if self.gathered.messages.capacity() == 0 {
             self.gathered = Batch::new(list);
         }
     }
 
-    /// Puts a message into the task, and gathers or sends what comes out. Once a message was lost, all that follow are dropped.
+    /// Puts a message into the task, and gathers or sends what comes out. Once a message was lost,
+    /// all that follow are dropped.
     fn put<R: Wait>(&mut self, rt: &R, came: &Line, waits: &Waits, message: Message)
         requires { IsPassOf came.now self.old.puts × ((view self.old.puts).puts ≡ true) }
         ensures same { IsSamePass self.old.puts self.new.puts }
         ensures puts { (view self.new.puts).puts ≡ true }
         ensures takes { self.new.takes ≡ self.old.takes }
-        ensures gave { (first : Gives) (taken sent : List MessageState) → Gave T.gives first taken sent self.old
-            → (all : List MessageState) × Gave T.gives first (taken ++ message ∷ []) all self.new }
+        ensures gave { (first : Gives) (taken sent : List MessageState)
+            → Gave T.gives first taken sent self.old → (all : List MessageState)
+            × Gave T.gives first (taken ++ message ∷ []) all self.new }
     {
         if self.lost {
             return;
@@ -156,8 +166,10 @@ impl<T: Task> Worker<T> {
         ensures same { IsSamePass self.old.puts self.new.puts }
         ensures puts { (view self.new.puts).puts ≡ true }
         ensures rest { IsSameRest self.old self.new }
-        ensures gathered { (sent : List MessageState) → HasGiven sent self.old → OnOk result (HasGiven (sent ++ message ∷ []) self.new) }
-        ensures lost { (sent : List MessageState) → HasGiven sent self.old → OnErr result (HasGiven sent self.new) }
+        ensures gathered { (sent : List MessageState) → HasGiven sent self.old
+            → OnOk result (HasGiven (sent ++ message ∷ []) self.new) }
+        ensures lost { (sent : List MessageState) → HasGiven sent self.old
+            → OnErr result (HasGiven sent self.new) }
     {
         self.make_room(rt, came, waits);
         match self.gathered.messages.push(message) {
@@ -173,7 +185,8 @@ impl<T: Task> Worker<T> {
         ensures puts { (view self.new.puts).puts ≡ true }
         ensures rest { IsSameRest self.old self.new }
         ensures room { vec_len self.new.gathered.messages < 256 }
-        ensures given { (sent : List MessageState) → HasGiven sent self.old → HasGiven sent self.new }
+        ensures given { (sent : List MessageState) → HasGiven sent self.old
+            → HasGiven sent self.new }
     {
         if self.gathered.messages.len() >= MOST_TOGETHER {
             self.send_gathered(rt, came, waits);
@@ -187,7 +200,8 @@ impl<T: Task> Worker<T> {
         ensures puts { (view self.new.puts).puts ≡ true }
         ensures rest { IsSameRest self.old self.new }
         ensures none { self.new.gathered.messages.items ≡ [] }
-        ensures given { (sent : List MessageState) → HasGiven sent self.old → HasGiven sent self.new }
+        ensures given { (sent : List MessageState) → HasGiven sent self.old
+            → HasGiven sent self.new }
     {
         if let Some(item) = item_of(&mut self.gathered) {
             send(rt, came, &mut self.puts, waits, item);
@@ -198,7 +212,8 @@ impl<T: Task> Worker<T> {
 /// What was gathered as an item: one message as itself, so that the list stays for the next.
 fn item_of(gathered: &mut Batch) -> Option<Item>
     ensures none { gathered.new.messages.items ≡ [] }
-    ensures item { MatchOption result (gathered.old.messages.items ≡ []) (λ item. each_of item ≡ ones gathered.old.messages.items) }
+    ensures item { MatchOption result (gathered.old.messages.items ≡ [])
+        (λ item. each_of item ≡ ones gathered.old.messages.items) }
 {
     if gathered.messages.len() > 1 {
         let none = Batch::new(Vec::new(*gathered.messages.allocator()));
@@ -215,7 +230,8 @@ fn send_all<R: Wait>(rt: &R, came: &Line, puts: &mut End, waits: &Waits, message
     requires end { IsPassOf came.now puts.old }
     requires puts { (view puts.old).puts ≡ true }
     ensures same { IsSamePass puts.old puts.new }
-    ensures sent { view puts.new ≡ log true (view puts.old).takes ((view puts.old).sent ++ ones messages.items) (view puts.old).got }
+    ensures sent { view puts.new ≡ log true (view puts.old).takes
+        ((view puts.old).sent ++ ones messages.items) (view puts.old).got }
 {
     for message in messages {
         send(rt, came, puts, waits, Item::One(message));

@@ -1,5 +1,7 @@
 -- Making and ending posters keeps the rule.
-use Rattle.std.proofs.Common.{◌≡◌, ◌≢◌, ⊎_elim, ℕ, zero, suc, ◌+◌, ◌-◌, ◌<◌, List, [], ◌∷◌, ◌++◌, length, set, sym, refl, ap, ◌∙◌, subst, arith, cond, Bool, true, false, true≢false, eqb, eq-eqb, ne_eqb, ltb, lt-ltb, le-ltb}
+use Rattle.std.proofs.Common.{◌≡◌, ◌≢◌, ⊎_elim, ℕ, zero, suc, ◌+◌, ◌-◌, ◌<◌, List, [], ◌∷◌, ◌++◌}
+use Rattle.std.proofs.Common.{length, set, sym, refl, ap, ◌∙◌, subst, arith, cond, Bool, true}
+use Rattle.std.proofs.Common.{false, true≢false, eqb, eq-eqb, ne_eqb, ltb, lt-ltb, le-ltb}
 use Rattle.std.specs.Prelude.{slice_index}
 use mathlib.Core.Logic.{dite}
 use mathlib.Core.Option.{some, some-ne-none}
@@ -13,7 +15,8 @@ use Rattle.notify_ring.specs.declared.view.View.{View}
 use Rattle.notify_ring.specs.Postings.{flag, by_poster, gate_at}
 use Rattle.list_lemmas.specs.Sums.{total}
 use Rattle.notify_ring.specs.Passes.{blank, split_left, split_right, joined, owns}
-use Rattle.notify_ring.specs.Rule.{first_view, claim_of, good_of, pends_of, claimed, good, pends, poster, rooted, kids, drainer, Fits, RingHolds}
+use Rattle.notify_ring.specs.Rule.{first_view, claim_of, good_of, pends_of, claimed, good, pends}
+use Rattle.notify_ring.specs.Rule.{poster, rooted, kids, drainer, Fits, RingHolds}
 use Rattle.notify_ring.specs.Steps.{poster_part, drainer_part}
 use Rattle.list_lemmas.proofs.Sums.{total-append, total-set, terms_le, total-same, alone}
 use Rattle.notify_ring.proofs.Lists.{of-none}
@@ -22,17 +25,35 @@ use Rattle.notify_ring.proofs.Keeps.{off, Rule, same_fits}
 kid : Bool → ℕ → ℕ
 kid b n = cond b n 0
 
-only_root : (vs : List View) → total rooted vs ≡ 1 → (id k : ℕ) (v u : View) → k ≢ id → get_elem? vs id ≡ some v → get_elem? vs k ≡ some u → v.root ≡ true → u.root ≡ true → ⊥
-only_root vs one id k v u ne at e rv ru = omega (arith, terms_le rooted vs id k v u ne at e, one, ap flag rv, ap flag ru)
+only_root : (vs : List View) → total rooted vs ≡ 1 → (id k : ℕ) (v u : View) → k ≢ id
+    → get_elem? vs id ≡ some v → get_elem? vs k ≡ some u → v.root ≡ true → u.root ≡ true → ⊥
+only_root vs one id k v u ne at e rv ru =
+    omega (arith, terms_le rooted vs id k v u ne at e, one, ap flag rv, ap flag ru)
 
 more : (p m : ℕ) → flag (ltb p (m + 1)) ≡ flag (ltb p m) + flag (eqb p m)
 more p m = dite (ℕ_discrete p m)
-    (λ e. omega (arith, ap flag (lt-ltb p (m + 1) (omega arith)), ap flag (le-ltb p m (omega arith)), ap flag (eq-eqb p m e)))
+    (λ e. omega (
+      arith,
+      ap flag (lt-ltb p (m + 1) (omega arith)),
+      ap flag (le-ltb p m (omega arith)),
+      ap flag (eq-eqb p m e),
+    ))
     (λ ne. dite (dec_le m p)
-    (λ le. omega (arith, ap flag (le-ltb p (m + 1) (omega arith)), ap flag (le-ltb p m le), ap flag (ne_eqb p m ne)))
-    (λ no. omega (arith, ap flag (lt-ltb p (m + 1) (omega arith)), ap flag (lt-ltb p m (omega arith)), ap flag (ne_eqb p m ne))))
+    (λ le. omega (
+      arith,
+      ap flag (le-ltb p (m + 1) (omega arith)),
+      ap flag (le-ltb p m le),
+      ap flag (ne_eqb p m ne),
+    ))
+    (λ no. omega (
+      arith,
+      ap flag (lt-ltb p (m + 1) (omega arith)),
+      ap flag (lt-ltb p m (omega arith)),
+      ap flag (ne_eqb p m ne),
+    )))
 
-pub splits : (id : ℕ) (v : View) → v.root ≡ true → v.posters < 64 → Splits Rule id v (split_left v) (split_right v)
+pub splits : (id : ℕ) (v : View) → v.root ≡ true → v.posters < 64
+    → Splits Rule id v (split_left v) (split_right v)
 splits id v root room s o at =
     let vs = s.views in
     let left = split_left v in
@@ -40,30 +61,68 @@ splits id v root room s o at =
     let mid = set vs id left in
     let fit = o.fits id v at in
     let r = fit.root root in
-    let left-kids : kids left ≡ kids v + 1 = ap (λ b. cond {A = ℕ} b (v.children + 1) 0) root ∙ ap (λ b. cond {A = ℕ} b v.children 0 + 1) (sym root) in
-    let quiet : (k : ℕ) → total (pends k) (mid ++ right ∷ []) ≡ total (pends k) vs = λ k. omega (arith, total-append (pends k) mid (right ∷ []), total-same (pends k) vs id v left at refl) in
+    let left-kids : kids left ≡ kids v + 1 =
+    ap (λ b. cond {A = ℕ} b (v.children + 1) 0) root
+    ∙ ap (λ b. cond {A = ℕ} b v.children 0 + 1) (sym root) in
+    let quiet : (k : ℕ) → total (pends k) (mid ++ right ∷ []) ≡ total (pends k) vs =
+    λ k. omega (
+      arith,
+      total-append (pends k) mid (right ∷ []),
+      total-same (pends k) vs id v left at refl,
+    ) in
     record {
       all = o.all;
       cleared = o.cleared;
       freed = o.freed;
       made = o.made + 1;
       wide = o.wide;
-      held = omega (arith, o.held, total-append claimed mid (right ∷ []), total-same claimed vs id v left at refl);
+      held = omega (
+        arith,
+        o.held,
+        total-append claimed mid (right ∷ []),
+        total-same claimed vs id v left at refl,
+      );
       tail = o.tail;
       order = o.order;
-      few = omega (arith, o.few, total-append good mid (right ∷ []), total-same good vs id v left at refl);
-      numbered = λ n x e. let t = o.numbered n x e in record { number = t.number; from = omega (arith, t.from) };
+      few = omega (
+        arith,
+        o.few,
+        total-append good mid (right ∷ []),
+        total-same good vs id v left at refl,
+      );
+      numbered = λ n x e. let t = o.numbered n x e in
+          record { number = t.number; from = omega (arith, t.from) };
       stored = λ n x le e none. o.stored n x le e (sym (quiet n) ∙ none);
       waits = λ n le lt some-wait. o.waits n le lt (omega (arith, quiet n));
       vacant = o.vacant;
       single = λ n. omega (arith, quiet n, o.single n);
       fits = λ k u e. ⊎_elim
-          (λ (old : get_elem? mid k ≡ some u). same_fits s.words o.all o.cleared o.freed (o.made + 1) vs id left
-          (λ j x ne there. let g = o.fits j x there in record { posted = g.posted; full = g.full; ended = g.ended; flight = g.flight; root = λ is. absurd (only_root vs o.roots id j v x ne at there root is); child = g.child; drain = g.drain })
-          (record { posted = fit.posted; full = fit.full; ended = fit.ended; flight = fit.flight; root = λ _. (omega (arith, r.0), omega (arith, r.1), r.2); child = fit.child; drain = fit.drain }) k u old)
-          (λ (new : right ≡ u). subst (λ (x : View). Fits s.words o.all o.cleared o.freed (o.made + 1) x) new (record {
+          (λ (old : get_elem? mid k ≡ some u).
+          same_fits s.words o.all o.cleared o.freed (o.made + 1) vs id left
+          (λ j x ne there. let g = o.fits j x there in
+          record {
+            posted = g.posted;
+            full = g.full;
+            ended = g.ended;
+            flight = g.flight;
+            root = λ is. absurd (only_root vs o.roots id j v x ne at there root is);
+            child = g.child;
+            drain = g.drain;
+          })
+          (record {
+            posted = fit.posted;
+            full = fit.full;
+            ended = fit.ended;
+            flight = fit.flight;
+            root = λ _. (omega (arith, r.0), omega (arith, r.1), r.2);
+            child = fit.child;
+            drain = fit.drain;
+          }) k u old)
+          (λ (new : right ≡ u). subst (λ (x : View).
+          Fits s.words o.all o.cleared o.freed (o.made + 1) x) new (record {
             full = λ le. absurd (omega (arith, le));
-            posted = λ _. sym (of-none v.posters o.all (λ n x there same. omega (arith, (o.numbered n x there).from, r.0)));
+            posted = λ _. sym (of-none v.posters o.all
+                (λ n x there same. omega (arith, (o.numbered n x there).from, r.0)));
             ended = λ j x there. absurd (some-ne-none x (sym there));
             flight = tt;
             root = λ is. absurd (true≢false (sym is));
@@ -71,16 +130,42 @@ splits id v root room s o at =
             drain = λ is. absurd (true≢false (sym is));
           }))
           (at_snoc mid right u k e);
-      owners = λ p. omega (arith, o.owners p, total-append (owns p) mid (right ∷ []), total-same (owns p) vs id v left at refl, more p o.made, ap (λ m. flag (eqb p m)) r.0);
-      roots = omega (arith, o.roots, total-append rooted mid (right ∷ []), total-same rooted vs id v left at refl);
-      family = omega (arith, o.family, total-append poster mid (right ∷ []), total-same poster vs id v left at refl, total-append kids mid (right ∷ []), total-set kids vs id v left at, left-kids);
+      owners = λ p. omega (
+        arith,
+        o.owners p,
+        total-append (owns p) mid (right ∷ []),
+        total-same (owns p) vs id v left at refl,
+        more p o.made,
+        ap (λ m. flag (eqb p m)) r.0,
+      );
+      roots = omega (
+        arith,
+        o.roots,
+        total-append rooted mid (right ∷ []),
+        total-same rooted vs id v left at refl,
+      );
+      family = omega (
+        arith,
+        o.family,
+        total-append poster mid (right ∷ []),
+        total-same poster vs id v left at refl,
+        total-append kids mid (right ∷ []),
+        total-set kids vs id v left at,
+        left-kids,
+      );
       limit = omega (arith, r.0, room);
       seqs = o.seqs;
-      drainers = omega (arith, o.drainers, total-append drainer mid (right ∷ []), total-same drainer vs id v left at refl);
+      drainers = omega (
+        arith,
+        o.drainers,
+        total-append drainer mid (right ∷ []),
+        total-same drainer vs id v left at refl,
+      );
       bounded = o.bounded;
     }
 
-pub joins : (id : ℕ) (v : View) (other : ℕ) (u : View) → v.root ≡ true → u.root ≡ false → u.posts ≡ true → u.flight ≡ Idle → Joins Rule id v other u (joined v u) blank
+pub joins : (id : ℕ) (v : View) (other : ℕ) (u : View) → v.root ≡ true → u.root ≡ false
+    → u.posts ≡ true → u.flight ≡ Idle → Joins Rule id v other u (joined v u) blank
 joins id v other u root child posts idle s o at apart there =
     let vs = s.views in
     let w = joined v u in
@@ -96,28 +181,52 @@ joins id v other u root child posts idle s o at apart there =
     let v-posts : poster v ≡ 1 = ap flag r.2 in
     let u-posts : poster u ≡ 1 = ap flag posts in
     let two = terms_le poster vs id other v u apart at at-u in
-    let kids-are : total kids vs ≡ v.children = alone rooted kids vs id v (λ k x e unrooted. kid_free x.root x.children unrooted) o.roots at (ap flag root) ∙ v-kids in
-    let quiet : (k : ℕ) → total (pends k) (set mid other blank) ≡ total (pends k) vs = λ k. omega (arith, total-set (pends k) mid other u blank there, total-same (pends k) vs id v w at refl, ap (pends_of k) idle) in
+    let kids-are : total kids vs ≡ v.children =
+    alone rooted kids vs id v (λ k x e unrooted. kid_free x.root x.children unrooted) o.roots at
+    (ap flag root) ∙ v-kids in
+    let quiet : (k : ℕ) → total (pends k) (set mid other blank) ≡ total (pends k) vs =
+    λ k. omega (
+      arith,
+      total-set (pends k) mid other u blank there,
+      total-same (pends k) vs id v w at refl,
+      ap (pends_of k) idle,
+    ) in
     record {
       all = o.all;
       cleared = o.cleared;
       freed = o.freed;
       made = o.made;
       wide = o.wide;
-      held = omega (arith, o.held, total-set claimed mid other u blank there, total-same claimed vs id v w at refl, ap claim_of idle);
+      held = omega (
+        arith,
+        o.held,
+        total-set claimed mid other u blank there,
+        total-same claimed vs id v w at refl,
+        ap claim_of idle,
+      );
       tail = o.tail;
       order = o.order;
-      few = omega (arith, o.few, total-set good mid other u blank there, total-same good vs id v w at refl, ap good_of idle);
+      few = omega (
+        arith,
+        o.few,
+        total-set good mid other u blank there,
+        total-same good vs id v w at refl,
+        ap good_of idle,
+      );
       numbered = o.numbered;
       stored = λ n x le e none. o.stored n x le e (sym (quiet n) ∙ none);
       waits = λ n le lt some-wait. o.waits n le lt (omega (arith, quiet n));
       vacant = o.vacant;
       single = λ n. omega (arith, quiet n, o.single n);
       fits = same_fits s.words o.all o.cleared o.freed o.made mid other blank
-          (λ j x _ e. same_fits s.words o.all o.cleared o.freed o.made vs id w (λ k y _. o.fits k y) (record {
+          (λ j x _ e. same_fits s.words o.all o.cleared o.freed o.made vs id w (λ k y _. o.fits k y)
+          (record {
             posted = fv.posted;
             full = fv.full;
-            ended = λ k e there-e. ⊎_elim (λ t. fv.ended k e t) (λ (t : _ ≡ e). subst (λ (z : Ended). z.posted ≡ by_poster z.number o.all) t (fu.posted posts)) (at_snoc v.ended record { number = u.number; posted = u.posted } e k there-e);
+            ended = λ k e there-e. ⊎_elim (λ t. fv.ended k e t)
+                (λ (t : _ ≡ e). subst (λ (z : Ended). z.posted ≡ by_poster z.number o.all) t
+                (fu.posted posts)) (at_snoc v.ended record { number = u.number; posted = u.posted }
+                e k there-e);
             flight = fv.flight;
             root = λ is. (r.0, omega (arith, r.1), r.2);
             child = λ is. absurd (off v.root root is);
@@ -137,15 +246,41 @@ joins id v other u root child posts idle s o at apart there =
         o.owners p,
         total-set (owns p) mid other u blank there,
         total-set (owns p) vs id v w at,
-        total-append (λ (e : Ended). flag (eqb p e.number)) v.ended (record { number = u.number; posted = u.posted } ∷ []),
+        total-append (λ (e : Ended). flag (eqb p e.number)) v.ended
+            (record { number = u.number; posted = u.posted } ∷ []),
         ap (λ b. cond {A = ℕ} b (flag (eqb p u.number)) 0) posts,
         ap (total (λ (e : Ended). flag (eqb p e.number))) no-ended,
       );
-      roots = omega (arith, o.roots, total-set rooted mid other u blank there, total-same rooted vs id v w at refl, ap flag child);
-      family = omega (arith, o.family, total-set poster mid other u blank there, total-same poster vs id v w at refl, total-set kids mid other u blank there, total-set kids vs id v w at, u-kids, v-kids, w-kids, v-posts, u-posts, two, kids-are);
+      roots = omega (
+        arith,
+        o.roots,
+        total-set rooted mid other u blank there,
+        total-same rooted vs id v w at refl,
+        ap flag child,
+      );
+      family = omega (
+        arith,
+        o.family,
+        total-set poster mid other u blank there,
+        total-same poster vs id v w at refl,
+        total-set kids mid other u blank there,
+        total-set kids vs id v w at,
+        u-kids,
+        v-kids,
+        w-kids,
+        v-posts,
+        u-posts,
+        two,
+        kids-are,
+      );
       limit = o.limit;
       seqs = o.seqs;
-      drainers = omega (arith, o.drainers, total-set drainer mid other u blank there, total-same drainer vs id v w at refl);
+      drainers = omega (
+        arith,
+        o.drainers,
+        total-set drainer mid other u blank there,
+        total-same drainer vs id v w at refl,
+      );
       bounded = o.bounded;
     }
   where
@@ -184,15 +319,16 @@ begins = record {
   waits = λ n le lt some-wait. absurd (omega arith);
   vacant = λ n le lt. zeros-at 514 (gate_at n);
   single = λ n. omega arith;
-  fits = λ k u e. ⊎_elim (λ (x : get_elem? [] k ≡ some u). absurd (some-ne-none u (sym x))) (λ (x : first_view ≡ u). subst (λ (y : View). Fits (zeros 514) [] 0 0 1 y) x (record {
-    full = λ le. absurd (omega (arith, le));
-    posted = λ _. refl;
-    ended = λ j y there. absurd (some-ne-none y (sym there));
-    flight = tt;
-    root = λ _. (refl, omega arith, refl);
-    child = λ is. absurd (true≢false is);
-    drain = λ _. (refl, refl);
-  })) (at_snoc [] first_view u k e);
+  fits = λ k u e. ⊎_elim (λ (x : get_elem? [] k ≡ some u). absurd (some-ne-none u (sym x)))
+      (λ (x : first_view ≡ u). subst (λ (y : View). Fits (zeros 514) [] 0 0 1 y) x (record {
+        full = λ le. absurd (omega (arith, le));
+        posted = λ _. refl;
+        ended = λ j y there. absurd (some-ne-none y (sym there));
+        flight = tt;
+        root = λ _. (refl, omega arith, refl);
+        child = λ is. absurd (true≢false is);
+        drain = λ _. (refl, refl);
+      })) (at_snoc [] first_view u k e);
   owners = λ p. first-owner p;
   roots = refl;
   family = refl;
@@ -215,17 +351,32 @@ halves id v s o at =
     let right = drainer_part v in
     let mid = set vs id left in
     let fit = o.fits id v at in
-    let quiet : (k : ℕ) → total (pends k) (mid ++ right ∷ []) ≡ total (pends k) vs = λ k. omega (arith, total-append (pends k) mid (right ∷ []), total-same (pends k) vs id v left at refl) in
+    let quiet : (k : ℕ) → total (pends k) (mid ++ right ∷ []) ≡ total (pends k) vs =
+    λ k. omega (
+      arith,
+      total-append (pends k) mid (right ∷ []),
+      total-same (pends k) vs id v left at refl,
+    ) in
     record {
       all = o.all;
       cleared = o.cleared;
       freed = o.freed;
       made = o.made;
       wide = o.wide;
-      held = omega (arith, o.held, total-append claimed mid (right ∷ []), total-same claimed vs id v left at refl);
+      held = omega (
+        arith,
+        o.held,
+        total-append claimed mid (right ∷ []),
+        total-same claimed vs id v left at refl,
+      );
       tail = o.tail;
       order = o.order;
-      few = omega (arith, o.few, total-append good mid (right ∷ []), total-same good vs id v left at refl);
+      few = omega (
+        arith,
+        o.few,
+        total-append good mid (right ∷ []),
+        total-same good vs id v left at refl,
+      );
       numbered = o.numbered;
       seqs = o.seqs;
       stored = λ n x le e none. o.stored n x le e (sym (quiet n) ∙ none);
@@ -233,9 +384,20 @@ halves id v s o at =
       vacant = o.vacant;
       single = λ n. omega (arith, quiet n, o.single n);
       fits = λ k u e. ⊎_elim
-          (λ (old : get_elem? mid k ≡ some u). same_fits s.words o.all o.cleared o.freed o.made vs id left (λ j x ne there. o.fits j x there)
-          (record { posted = fit.posted; full = fit.full; ended = fit.ended; flight = fit.flight; root = fit.root; child = fit.child; drain = λ is. absurd (true≢false (sym is)) }) k u old)
-          (λ (new : right ≡ u). subst (λ (x : View). Fits s.words o.all o.cleared o.freed o.made x) new (record {
+          (λ (old : get_elem? mid k ≡ some u).
+          same_fits s.words o.all o.cleared o.freed o.made vs id left
+          (λ j x ne there. o.fits j x there)
+          (record {
+            posted = fit.posted;
+            full = fit.full;
+            ended = fit.ended;
+            flight = fit.flight;
+            root = fit.root;
+            child = fit.child;
+            drain = λ is. absurd (true≢false (sym is));
+          }) k u old)
+          (λ (new : right ≡ u). subst (λ (x : View). Fits s.words o.all o.cleared o.freed o.made x)
+          new (record {
             posted = λ is. absurd (true≢false (sym is));
             full = λ le. absurd (omega (arith, le));
             ended = λ j x there. absurd (some-ne-none x (sym there));
@@ -245,10 +407,32 @@ halves id v s o at =
             drain = fit.drain;
           }))
           (at_snoc mid right u k e);
-      owners = λ p. omega (arith, o.owners p, total-append (owns p) mid (right ∷ []), total-same (owns p) vs id v left at refl);
-      drainers = omega (arith, o.drainers, total-append drainer mid (right ∷ []), total-set drainer vs id v left at);
-      roots = omega (arith, o.roots, total-append rooted mid (right ∷ []), total-same rooted vs id v left at refl);
-      family = omega (arith, o.family, total-append poster mid (right ∷ []), total-same poster vs id v left at refl, total-append kids mid (right ∷ []), total-same kids vs id v left at refl);
+      owners = λ p. omega (
+        arith,
+        o.owners p,
+        total-append (owns p) mid (right ∷ []),
+        total-same (owns p) vs id v left at refl,
+      );
+      drainers = omega (
+        arith,
+        o.drainers,
+        total-append drainer mid (right ∷ []),
+        total-set drainer vs id v left at,
+      );
+      roots = omega (
+        arith,
+        o.roots,
+        total-append rooted mid (right ∷ []),
+        total-same rooted vs id v left at refl,
+      );
+      family = omega (
+        arith,
+        o.family,
+        total-append poster mid (right ∷ []),
+        total-same poster vs id v left at refl,
+        total-append kids mid (right ∷ []),
+        total-same kids vs id v left at refl,
+      );
       limit = o.limit;
       bounded = o.bounded;
     }

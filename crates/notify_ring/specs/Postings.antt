@@ -1,5 +1,8 @@
--- Postings, and where the ring keeps them. Word 0 is how many places are held, word 1 the number of postings drawn, and place p has its handle in word 2 + 2 * p and its gate in word 3 + 2 * p. Posting n has place n mod 256.
-use Rattle.std.specs.Prelude.{◌≡◌, ℕ, zero, suc, ◌+◌, ◌*◌, ◌%◌, ◌<◌, List, [], ◌∷◌, length, slice_index, cond, ◌==◌, Bool}
+-- Postings, and where the ring keeps them. Word 0 is how many places are held, word 1 the number of
+-- postings drawn, and place p has its handle in word 2 + 2 * p and its gate in word 3 + 2 * p.
+-- Posting n has place n mod 256.
+use Rattle.std.specs.Prelude.{◌≡◌, ℕ, zero, suc, ◌+◌, ◌*◌, ◌%◌, ◌<◌, List, [], ◌∷◌, length}
+use Rattle.std.specs.Prelude.{slice_index, cond, ◌==◌, Bool}
 use Rattle.notify_ring.specs.Kinds.{kind_code}
 use Rattle.notify_ring.specs.declared.posting.Posting.{Posting}
 
@@ -41,4 +44,5 @@ pub record IsNumbered (made n : ℕ) (x : Posting) : Type 0 where
 
 -- How many postings of each poster were taken.
 abbrev pub CountsByPoster : List ℕ → List Posting → Type 0
-CountsByPoster counts got = (length counts ≡ 64) × ((p : ℕ) → p < 64 → slice_index counts p ≡ length (by_poster p got))
+CountsByPoster counts got = (length counts ≡ 64)
+    × ((p : ℕ) → p < 64 → slice_index counts p ≡ length (by_poster p got))

@@ -1,4 +1,8 @@
--- What each step on the ring's words tells: from m, a seat before the step, to n, the same seat after it, where the step found r in its word. That a claim or a look keeps what it found stands here alone: the rule ties a claim's find to the postings drawn, and that of a look at an empty gate to nothing, since the gate may be stored at once.
+-- The steps on the ring's words. Each relates a seat before the step (m) to the same seat after it
+-- (n); r is what the step found in its word. That a claim keeps what it found, and that a look
+-- does, is said here and nowhere else, so these definitions have to be believed. What a claim found
+-- is tied to the postings that were drawn, by the rule. What a look at an empty gate found is tied
+-- to nothing, since the gate may be stored right after the look.
 use Rattle.std.specs.Prelude.{◌≡◌, ℕ, ◌+◌, List, [], ◌∷◌, ◌++◌, false, true}
 use Rattle.atomic_table.specs.Table.{Me}
 use Rattle.ev_types.specs.declared.upcall.Handle.{Handle}
@@ -30,7 +34,8 @@ claimed_view v r = record v { claims = v.claims + 1; found = r; flight = Claimed
 abbrev pub ClaimMade : Mine → ℕ → Mine → Type 0
 ClaimMade m r n = n ≡ (claimed_view m.0 r, [])
 
--- A poster gave its claim back, stored the handle of the number that it drew, or stored the gate. Only its flight goes on.
+-- A poster gave its claim back, stored the handle of the number that it drew, or stored the gate.
+-- Only its flight goes on.
 abbrev pub next_flight : Flight → Flight
 next_flight Idle = Idle
 next_flight (Claimed r) = Idle
@@ -43,21 +48,29 @@ next_view v = record v { flight = next_flight v.flight }
 abbrev pub FlightMoved : Mine → Mine → Type 0
 FlightMoved m n = n ≡ (next_view m.0, [])
 
--- A poster drew the number that it found, for this handle and kind. The posting stands at the end of its list.
+-- A poster drew the number that it found, for this handle and kind. The posting stands at the end
+-- of its list.
 abbrev pub drawn_view : View → ℕ → Handle → Kind → View
-drawn_view v n handle kind = record v { posted = v.posted ++ posting_of v n handle kind ∷ []; flight = Drawn (posting_of v n handle kind) }
+drawn_view v n handle kind = record v {
+  posted = v.posted ++ posting_of v n handle kind ∷ [];
+  flight = Drawn (posting_of v n handle kind);
+}
 
 abbrev pub NumberDrawn : Handle → Kind → Mine → ℕ → Mine → Type 0
 NumberDrawn handle kind m r n = n ≡ (drawn_view m.0 r handle kind, [])
 
--- The drainer looked at the gate of the next number and found r: 0 for an empty gate, or the code of the next posting. The view counts the look and keeps what it found.
+-- The drainer looked at the gate of the next number and found r: 0 for an empty gate, or the code
+-- of the next posting. The view counts the look and keeps what it found.
 abbrev pub loaded_view : View → ℕ → Stage → View
 loaded_view v r t = record v { loads = v.loads + 1; gate = r; stage = t }
 
 abbrev pub GateLoaded : Mine → ℕ → Mine → Type 0
-GateLoaded m r n = (r ≡ 0 → n ≡ (loaded_view m.0 r Resting, [])) × (¬ (r ≡ 0) → (x : Posting) × (r ≡ code x) × IsNext m.0.got x × (n ≡ (loaded_view m.0 r (Seen x), [])))
+GateLoaded m r n = (r ≡ 0 → n ≡ (loaded_view m.0 r Resting, []))
+    × (¬ (r ≡ 0) → (x : Posting) × (r ≡ code x) × IsNext m.0.got x
+    × (n ≡ (loaded_view m.0 r (Seen x), [])))
 
--- The drainer looked at that gate, found r, and took nothing. The view counts the look and keeps what it found.
+-- The drainer looked at that gate, found r, and took nothing. The view counts the look and keeps
+-- what it found.
 abbrev pub GatePeeked : Mine → ℕ → Mine → Type 0
 GatePeeked m r n = n ≡ (loaded_view m.0 r Resting, [])
 
@@ -89,8 +102,20 @@ abbrev pub poster_part : View → View
 poster_part v = record v { drains = false; got = []; loads = 0; gate = 0; stage = Resting }
 
 abbrev pub drainer_part : View → View
-drainer_part v = record blank { drains = v.drains; got = v.got; loads = v.loads; gate = v.gate; stage = v.stage }
+drainer_part v = record blank {
+  drains = v.drains;
+  got = v.got;
+  loads = v.loads;
+  gate = v.gate;
+  stage = v.stage;
+}
 
 -- At the end the drainer's part comes back to the root's view.
 abbrev pub with_drainer : View → View → View
-with_drainer v u = record v { drains = u.drains; got = u.got; loads = u.loads; gate = u.gate; stage = u.stage }
+with_drainer v u = record v {
+  drains = u.drains;
+  got = u.got;
+  loads = u.loads;
+  gate = u.gate;
+  stage = u.stage;
+}

@@ -25,7 +25,8 @@ pub struct Poster {
     pub(crate) posters: u64,
     ghost idle: { (seat.me.0.flight ≡ Idle) × (seat.me.1 ≡ []) },
     ghost small: { number < 64 },
-    ghost posts: { (seat.me.0.posts ≡ true) × (number ≡ seat.me.0.number) × (made ≡ length seat.me.0.posted) × (posters ≡ seat.me.0.posters) },
+    ghost posts: { (seat.me.0.posts ≡ true) × (number ≡ seat.me.0.number)
+        × (made ≡ length seat.me.0.posted) × (posters ≡ seat.me.0.posters) },
 }
 
 /// It takes the postings in order. A ring has one.
@@ -35,7 +36,8 @@ pub struct Drainer {
     pub(crate) taken: u64,
     pub(crate) counts: Vec<u64>,
     ghost rests: { (seat.me.0.stage ≡ Resting) × (seat.me.1 ≡ []) × (seat.me.0.drains ≡ true) },
-    ghost apart: { (seat.me.0.posts ≡ false) × (seat.me.0.root ≡ false) × (seat.me.0.flight ≡ Idle) },
+    ghost apart: { (seat.me.0.posts ≡ false) × (seat.me.0.root ≡ false)
+        × (seat.me.0.flight ≡ Idle) },
     ghost taken_is: { taken ≡ length seat.me.0.got },
     ghost counts_are: { CountsByPoster counts.items seat.me.0.got },
 }

@@ -1,9 +1,14 @@
 // The calls of a ring, and its steps.
-ghost use Rattle.std.specs.Prelude.{◌≡◌, ◌≢◌, ◌+◌, ◌-◌, ◌*◌, ◌%◌, ◌^◌, ◌<◌, ◌≤◌, ◌++◌, [], ◌∷◌, true, false, length, IfOk, ℕ};
+ghost use Rattle.std.specs.Prelude.{◌≡◌, ◌+◌, ◌-◌, ◌%◌, ◌^◌, ◌<◌, []};
+ghost use Rattle.std.specs.Prelude.{true, false, length, IfOk, ℕ};
 ghost use Rattle.notify_ring.specs.Postings.{code};
-ghost use Rattle.notify_ring.specs.Passes.{root_poster, new_drainer, split_left, split_right, joined, HasLooked, HasPosted, HasTaken, IsMerged};
-ghost use Rattle.notify_ring.specs.Steps.{IsPosterSeat, IsDrainerSeat, ClaimMade, FlightMoved, NumberDrawn, GateLoaded, GatePeeked, HandleLoaded, GateCleared, PlaceReleased};
-ghost use Rattle.notify_ring.specs.Words.{id_of, IsSeatOf, IsSameSeat, poster_ring, poster_view, drainer_ring, drainer_view};
+ghost use Rattle.notify_ring.specs.Passes.{root_poster, new_drainer, split_left, split_right};
+ghost use Rattle.notify_ring.specs.Passes.{joined, HasLooked, HasPosted, HasTaken, IsMerged};
+ghost use Rattle.notify_ring.specs.Steps.{IsPosterSeat, IsDrainerSeat, ClaimMade, FlightMoved};
+ghost use Rattle.notify_ring.specs.Steps.{NumberDrawn, GateLoaded, GatePeeked, HandleLoaded};
+ghost use Rattle.notify_ring.specs.Steps.{GateCleared, PlaceReleased};
+ghost use Rattle.notify_ring.specs.Words.{id_of, IsSeatOf, IsSameSeat, poster_ring, poster_view};
+ghost use Rattle.notify_ring.specs.Words.{drainer_ring, drainer_view};
 ghost use Rattle.notify_ring.specs.declared.posting.Posting.{Posting as PostingOf};
 ghost use Rattle.notify_ring.specs.declared.view.Stage.TheVariants.{Resting, Seen, Cleared};
 ghost use Rattle.notify_ring.specs.declared.view.Flight.TheVariants.{Idle, Claimed, Drawn, Written};
@@ -13,16 +18,14 @@ use crate::plays::{
     Claim, ClearGate, DrainerPass, Draw, LoadGate, LoadHandle, NextFlight, PeekGate, Posted,
     PosterPass, Release,
 };
-use crate::posting::{Full, Posting, code_of, kind_of};
+use crate::posting::{Full, Posting, from_gate, gate_of};
 use crate::start::{count, zeros};
 use crate::view::View;
+use crate::words::{HELD, MADE, PLACES, WORDS, gate_word, handle_word};
 use atomic_table::{Seat, Table};
 use ev_types::{Handle, Kind, NoMemory};
 use std::alloc::Global;
 use std::marker::Brand;
-
-// How many postings a ring holds.
-const PLACES: u64 = 256;
 
 impl Poster {
     /// How many postings this poster made.
@@ -36,11 +39,13 @@ impl Poster {
 impl Ring {
     /// A ring with no posting, its root poster, which has number 0, and its drainer.
     pub fn new(alloc: Global) -> Result<(Ring, Poster, Drainer), NoMemory>
-        ensures poster { IfOk result (λ r. (poster_ring r.1 ≡ id_of r.0) × (poster_view r.1 ≡ root_poster)) }
-        ensures drainer { IfOk result (λ r. (drainer_ring r.2 ≡ id_of r.0) × (drainer_view r.2 ≡ new_drainer)) }
+        ensures poster { IfOk result (λ r. (poster_ring r.1 ≡ id_of r.0)
+            × (poster_view r.1 ≡ root_poster)) }
+        ensures drainer { IfOk result (λ r. (drainer_ring r.2 ≡ id_of r.0)
+            × (drainer_view r.2 ≡ new_drainer)) }
     {
         let counts = zeros(alloc)?;
-        let (table, mut seat) = Table::of_words(alloc, &[0; 514], &())?;
+        let (table, mut seat) = Table::of_words(alloc, &[0; WORDS], &())?;
         let other = table.shared.split_seat::<DrainerPass>(&mut seat);
         let poster = Poster {
             seat,
@@ -56,13 +61,15 @@ impl Ring {
         Ok((Ring { table }, poster, drainer))
     }
 
-    /// Posts a notification and gives its number. It neither waits nor takes memory. `Full` comes exactly
-    /// where 256 places or more were held or in flight when it looked, and then nothing is posted.
+    /// Posts a notification and gives its number. It neither waits nor takes memory. `Full` comes
+    /// exactly where 256 places or more were held or in flight when it looked, and then nothing is
+    /// posted.
     pub fn post(&self, poster: &mut Poster, handle: Handle, kind: Kind) -> Result<u64, Full>
         requires ring { poster_ring poster.old ≡ id_of self.now }
         requires room { length (poster_view poster.old).posted < 2 ^ 56 }
         ensures ring { poster_ring poster.new ≡ poster_ring poster.old }
-        ensures posted { HasPosted (poster_view poster.old) handle kind result (poster_view poster.new) }
+        ensures posted { HasPosted (poster_view poster.old) handle kind result
+            (poster_view poster.new) }
     {
         let found = self.claim(&mut poster.seat);
         if found >= PLACES {
@@ -72,16 +79,14 @@ impl Ring {
         let number = self.draw(&mut poster.seat, handle, kind);
         let place = number % PLACES;
         self.store_handle(&mut poster.seat, place, handle.0);
-        self.store_gate(
-            &mut poster.seat,
-            place,
-            1 + code_of(kind) + 4 * poster.number,
-        );
+        let gate = gate_of(kind, poster.number);
+        self.store_gate(&mut poster.seat, place, gate);
         poster.made += 1;
         Ok(number)
     }
 
-    /// Looks once whether no posting is there to be taken, and takes none. It neither waits nor takes memory.
+    /// Looks once whether no posting is there to be taken, and takes none. It neither waits nor
+    /// takes memory.
     pub fn finds_none(&self, drainer: &mut Drainer) -> bool
         requires ring { drainer_ring drainer.old ≡ id_of self.now }
         ensures ring { drainer_ring drainer.new ≡ drainer_ring drainer.old }
@@ -91,8 +96,8 @@ impl Ring {
         self.peek_gate(&mut drainer.seat, place) == 0
     }
 
-    /// Takes the next posting, or None where its gate was empty at this call's one look. It neither waits nor
-    /// takes memory.
+    /// Takes the next posting, or None where its gate was empty at this call's one look. It neither
+    /// waits nor takes memory.
     pub fn next(&self, drainer: &mut Drainer) -> Option<Posting>
         requires ring { drainer_ring drainer.old ≡ id_of self.now }
         ensures ring { drainer_ring drainer.new ≡ drainer_ring drainer.old }
@@ -106,8 +111,7 @@ impl Ring {
         let handle = self.load_handle(&mut drainer.seat, place);
         self.clear_gate(&mut drainer.seat, place);
         self.release(&mut drainer.seat);
-        let from = (gate - 1) / 4;
-        let kind = kind_of((gate - 1) % 4);
+        let (kind, from) = from_gate(gate);
         let seq = count(&mut drainer.counts, from);
         let number = drainer.taken;
         drainer.taken += 1;
@@ -125,7 +129,8 @@ impl Ring {
         requires ring { poster_ring root.old ≡ id_of self.now }
         requires root { (poster_view root.old).root ≡ true }
         requires few { (poster_view root.old).posters < 64 }
-        ensures ring { (poster_ring root.new ≡ poster_ring root.old) × (poster_ring result ≡ poster_ring root.old) }
+        ensures ring { (poster_ring root.new ≡ poster_ring root.old)
+            × (poster_ring result ≡ poster_ring root.old) }
         ensures root { poster_view root.new ≡ split_left (poster_view root.old) }
         ensures child { poster_view result ≡ split_right (poster_view root.old) }
     {
@@ -142,7 +147,8 @@ impl Ring {
 
     /// Takes a poster in. The root keeps its list of postings. It takes no memory.
     pub fn join(&self, root: &mut Poster, other: Poster)
-        requires ring { (poster_ring root.old ≡ id_of self.now) × (poster_ring other ≡ id_of self.now) }
+        requires ring { (poster_ring root.old ≡ id_of self.now)
+            × (poster_ring other ≡ id_of self.now) }
         requires root { (poster_view root.old).root ≡ true }
         requires child { (poster_view other).root ≡ false }
         ensures ring { poster_ring root.new ≡ poster_ring root.old }
@@ -179,7 +185,7 @@ impl Ring {
         } = drainer;
         table.shared.join_seat::<DrainerPass>(&mut seat, other);
         let closed = table.close_with(seat);
-        let tail = closed.word(1);
+        let tail = closed.word(MADE);
         closed.free();
         tail
     }
@@ -194,17 +200,18 @@ impl Ring {
         ensures table { IsSameSeat seat.old seat.new }
         ensures told { ClaimMade seat.old.me result seat.new.me }
     {
-        self.table.shared.fetch_add::<Claim>(seat, 0, 1)
+        self.table.shared.fetch_add::<Claim>(seat, HELD, 1)
     }
 
     // The place is given back.
     fn unclaim(&self, seat: &mut Seat<(), View>)
         requires table { IsSeatOf self.now seat.old }
-        requires claimed { ((found : ℕ) × (seat.old.me.0.flight ≡ Claimed found)) × IsPosterSeat seat.old.me }
+        requires claimed { ((found : ℕ) × (seat.old.me.0.flight ≡ Claimed found))
+            × IsPosterSeat seat.old.me }
         ensures table { IsSameSeat seat.old seat.new }
         ensures told { FlightMoved seat.old.me seat.new.me }
     {
-        self.table.shared.fetch_sub::<NextFlight>(seat, 0, 1);
+        self.table.shared.fetch_sub::<NextFlight>(seat, HELD, 1);
     }
 
     // A number is drawn for what the proof picks, by the arguments that it alone reads.
@@ -216,7 +223,7 @@ impl Ring {
         ensures table { IsSameSeat seat.old seat.new }
         ensures told { NumberDrawn B.handle B.kind seat.old.me result seat.new.me }
     {
-        self.table.shared.fetch_add::<Draw<B>>(seat, 1, 1)
+        self.table.shared.fetch_add::<Draw<B>>(seat, MADE, 1)
     }
 
     // A number is drawn. What will be posted is an argument for the proof alone.
@@ -233,23 +240,25 @@ impl Ring {
 
     fn store_handle(&self, seat: &mut Seat<(), View>, place: u64, handle: u64)
         requires table { IsSeatOf self.now seat.old }
-        requires drawn { (x : PostingOf) × (seat.old.me.0.flight ≡ Drawn x) × (place ≡ x.number % 256) × (handle ≡ x.handle.0) }
+        requires drawn { (x : PostingOf) × (seat.old.me.0.flight ≡ Drawn x)
+            × (place ≡ x.number % 256) × (handle ≡ x.handle.0) }
         requires slots { seat.old.me.1 ≡ [] }
         ensures table { IsSameSeat seat.old seat.new }
         ensures told { FlightMoved seat.old.me seat.new.me }
     {
-        let word = (2 + 2 * place) as usize;
+        let word = handle_word(place);
         self.table.shared.store::<NextFlight>(seat, word, handle);
     }
 
     fn store_gate(&self, seat: &mut Seat<(), View>, place: u64, gate: u64)
         requires table { IsSeatOf self.now seat.old }
-        requires written { (x : PostingOf) × (seat.old.me.0.flight ≡ Written x) × (place ≡ x.number % 256) × (gate ≡ code x) }
+        requires written { (x : PostingOf) × (seat.old.me.0.flight ≡ Written x)
+            × (place ≡ x.number % 256) × (gate ≡ code x) }
         requires slots { seat.old.me.1 ≡ [] }
         ensures table { IsSameSeat seat.old seat.new }
         ensures told { FlightMoved seat.old.me seat.new.me }
     {
-        let word = (3 + 2 * place) as usize;
+        let word = gate_word(place);
         self.table.shared.store::<NextFlight>(seat, word, gate);
     }
 }
@@ -263,7 +272,7 @@ impl Ring {
         ensures table { IsSameSeat seat.old seat.new }
         ensures told { GateLoaded seat.old.me result seat.new.me }
     {
-        let word = (3 + 2 * place) as usize;
+        let word = gate_word(place);
         self.table.shared.load::<LoadGate>(seat, word)
     }
 
@@ -274,29 +283,31 @@ impl Ring {
         ensures table { IsSameSeat seat.old seat.new }
         ensures told { GatePeeked seat.old.me result seat.new.me }
     {
-        let word = (3 + 2 * place) as usize;
+        let word = gate_word(place);
         self.table.shared.load::<PeekGate>(seat, word)
     }
 
     fn load_handle(&self, seat: &mut Seat<(), View>, place: u64) -> u64
         requires table { IsSeatOf self.now seat.old }
-        requires seen { ((x : PostingOf) × (seat.old.me.0.stage ≡ Seen x)) × IsDrainerSeat seat.old.me }
+        requires seen { ((x : PostingOf) × (seat.old.me.0.stage ≡ Seen x))
+            × IsDrainerSeat seat.old.me }
         requires place { place ≡ length seat.old.me.0.got % 256 }
         ensures table { IsSameSeat seat.old seat.new }
         ensures told { HandleLoaded seat.old.me result seat.new.me }
     {
-        let word = (2 + 2 * place) as usize;
+        let word = handle_word(place);
         self.table.shared.load::<LoadHandle>(seat, word)
     }
 
     fn clear_gate(&self, seat: &mut Seat<(), View>, place: u64)
         requires table { IsSeatOf self.now seat.old }
-        requires seen { ((x : PostingOf) × (seat.old.me.0.stage ≡ Seen x)) × IsDrainerSeat seat.old.me }
+        requires seen { ((x : PostingOf) × (seat.old.me.0.stage ≡ Seen x))
+            × IsDrainerSeat seat.old.me }
         requires place { place ≡ length seat.old.me.0.got % 256 }
         ensures table { IsSameSeat seat.old seat.new }
         ensures told { GateCleared seat.old.me seat.new.me }
     {
-        let word = (3 + 2 * place) as usize;
+        let word = gate_word(place);
         self.table.shared.store::<ClearGate>(seat, word, 0);
     }
 
@@ -307,6 +318,6 @@ impl Ring {
         ensures table { IsSameSeat seat.old seat.new }
         ensures told { PlaceReleased seat.old.me seat.new.me }
     {
-        self.table.shared.fetch_sub::<Release>(seat, 0, 1);
+        self.table.shared.fetch_sub::<Release>(seat, HELD, 1);
     }
 }

@@ -1,5 +1,6 @@
 // The counts of a new drainer.
-ghost use Rattle.std.specs.Prelude.{◌≡◌, ◌+◌, ◌^◌, ◌<◌, length, slice_index, slice_set, replicate, IfOk};
+ghost use Rattle.std.specs.Prelude.{◌≡◌, ◌+◌, ◌^◌, ◌<◌, length, slice_index, slice_set, replicate};
+ghost use Rattle.std.specs.Prelude.{IfOk};
 
 use std::alloc::{AllocError, Global};
 
@@ -14,7 +15,8 @@ pub(crate) fn count(counts: &mut Vec<u64>, from: u64) -> u64
     requires in_range { from < length counts.old.items }
     requires low { slice_index counts.old.items from < 2 ^ 56 }
     ensures found { result ≡ slice_index counts.old.items from }
-    ensures more { counts.new.items ≡ slice_set counts.old.items from (slice_index counts.old.items from + 1) }
+    ensures more { counts.new.items ≡ slice_set counts.old.items from
+        (slice_index counts.old.items from + 1) }
 {
     let at = from as usize;
     let found = counts[at];

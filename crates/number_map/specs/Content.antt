@@ -1,4 +1,5 @@
--- What a contract sees of a map from numbers: its entries in the order of their numbers, as those of an ordered map.
+-- What a contract sees of a map from numbers: its entries in the order of their numbers, as those
+-- of an ordered map.
 use Rattle.std.specs.Prelude.{ℕ, ◌≡◌, ◌+◌, List, [], ◌∷◌, Option, Some, None, if◌then◌else◌}
 use Rattle.std.specs.BTreeMap.{is_at}
 use Rattle.std.specs.Map.{lookup}
@@ -20,4 +21,6 @@ module _ {V : Type 0} where
 
   -- the new map has this at the number, and at each other number what the old one had
   abbrev pub Updates : Content V → Content V → ℕ → Option V → Type 0
-  Updates old new number value = ((q : ℕ) → found new q ≡ (if is_at (nat_cmp number) q then value else found old q)) × (found new number ≡ value)
+  Updates old new number value = ((q : ℕ)
+      → found new q ≡ (if is_at (nat_cmp number) q then value else found old q))
+      × (found new number ≡ value)

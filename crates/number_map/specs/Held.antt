@@ -1,6 +1,8 @@
--- Values that are held one behind another, each with the number of its place. A place leads to the index at which its value is held; where it has
--- none, what it leads to is the value of another place, or nothing.
-use Rattle.std.specs.Prelude.{ℕ, ◌≡◌, ◌+◌, ◌==◌, Bool, false, List, [], ◌∷◌, Option, Some, None, if◌then◌else◌}
+-- Values that are held one behind another, each with the number of its place. A place leads to the
+-- index at which its value is held; where it has none, what it leads to is the value of another
+-- place, or nothing.
+use Rattle.std.specs.Prelude.{ℕ, ◌≡◌, ◌+◌, ◌==◌, Bool, false, List, [], ◌∷◌, Option, Some, None}
+use Rattle.std.specs.Prelude.{if◌then◌else◌}
 use Rattle.std.specs.List.{slice_get}
 
 module _ {V : Type 0} where
@@ -16,8 +18,10 @@ module _ {V : Type 0} where
   -- the values of the places that lead to these indices, where the first place has this number
   abbrev pub values_from : List (ℕ × V) → ℕ → List ℕ → List (Option V)
   values_from held number [] = []
-  values_from held number (lead ∷ leads) = own number (slice_get held lead) ∷ values_from held (number + 1) leads
+  values_from held number (lead ∷ leads) =
+      own number (slice_get held lead) ∷ values_from held (number + 1) leads
 
   -- the place of each value leads to it
   pub record IsLed (leads : List ℕ) (held : List (ℕ × V)) : Type 0 where
-    pub led : (index : ℕ) (h : ℕ × V) → slice_get held index ≡ Some h → slice_get leads h.0 ≡ Some index
+    pub led : (index : ℕ) (h : ℕ × V) → slice_get held index ≡ Some h
+        → slice_get leads h.0 ≡ Some index

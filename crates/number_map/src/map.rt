@@ -11,8 +11,9 @@ use ev_types::NoMemory;
 use std::alloc::Global;
 use std::marker::Model;
 
-/// A map from numbers to values: each number below the greatest has a place, which leads to its value. So a look-up takes two steps, and the
-/// memory is four bytes for each number up to the greatest, and that of the most values that there were at once.
+/// A map from numbers to values: each number below the greatest has a place, which leads to its
+/// value. So a look-up takes two steps, and the memory is four bytes for each number up to the
+/// greatest, and that of the most values that there were at once.
 #[derive(Drop)]
 pub struct NumberMap<V: Copy> {
     places: Places<V>,
@@ -44,10 +45,11 @@ impl<V: Copy> NumberMap<V> {
         self.places.get(number as usize)
     }
 
-    /// Gives a number a value, in place of one that it had. `NoMemory` comes only where it had none, and then all is as before. More values at
-    /// once than 32 bits count are answered so too.
+    /// Gives a number a value, in place of one that it had. `NoMemory` comes only where it had
+    /// none, and then all is as before. More values at once than 32 bits count are answered so too.
     pub fn insert(&mut self, number: u64, value: V) -> Result<(), NoMemory>
-        ensures entries { OnOk result (self.new.entries ≡ insert_entry nat_cmp self.old.entries number value) }
+        ensures entries { OnOk result (self.new.entries ≡ insert_entry nat_cmp self.old.entries
+            number value) }
         ensures updates { OnOk result (Updates self.old self.new number (Some value)) }
         ensures absent { OnErr result (found self.old number ≡ None) }
         ensures err { OnErr result (self.new.entries ≡ self.old.entries) }
@@ -61,7 +63,8 @@ impl<V: Copy> NumberMap<V> {
     /// Takes the value of a number away, and gives it.
     pub fn remove(&mut self, number: u64) -> Option<V>
         ensures value { result ≡ found self.old number }
-        ensures entries { self.new.entries ≡ remove_entry (is_at (nat_cmp number)) self.old.entries }
+        ensures entries { self.new.entries ≡ remove_entry (is_at (nat_cmp number))
+            self.old.entries }
         ensures updates { Updates self.old self.new number None }
         ensures unchanged { IfNone result (self.new.entries ≡ self.old.entries) }
         ensures ordered { IsStrictlySortedBy nat_cmp (keys_of self.new.entries) }

@@ -1,5 +1,6 @@
 //! Places, of which some have a value.
-ghost use Rattle.std.specs.Prelude.{◌≡◌, ◌<◌, ◌≤◌, ◌-◌, ◌++◌, [], None, Some, OnOk, OnErr, IsSome, length, get_or, set, replicate};
+ghost use Rattle.std.specs.Prelude.{◌≡◌, ◌<◌, ◌≤◌, ◌-◌, ◌++◌, [], None, Some, OnOk, OnErr, IsSome};
+ghost use Rattle.std.specs.Prelude.{length, get_or, set, replicate};
 ghost use Rattle.number_map.specs.Held.{is_own, own};
 ghost use Rattle.std.specs.List.{slice_get};
 
@@ -7,9 +8,10 @@ use ev_types::NoMemory;
 use std::alloc::Global;
 use std::marker::Model;
 
-/// A list of places, each with a value or without. The values are held one behind another, each with the number of its place, and each place
-/// has the index at which its value is held. Where it has none, what that index leads to is the value of another place, or nothing. So a place
-/// without a value takes four bytes.
+/// A list of places, each with a value or without. The values are held one behind another, each
+/// with the number of its place, and each place has the index at which its value is held. Where it
+/// has none, what that index leads to is the value of another place, or nothing. So a place without
+/// a value takes four bytes.
 #[derive(Drop)]
 pub(crate) struct Places<V: Copy> {
     leads: Vec<u32>,
@@ -95,7 +97,8 @@ impl<V: Copy> Places<V> {
         Ok(())
     }
 
-    /// Takes the value of a place away, which it has. The value that is held last is held in its stead.
+    /// Takes the value of a place away, which it has. The value that is held last is held in its
+    /// stead.
     pub(crate) fn take(&mut self, place: usize)
         requires there { place < length self.old }
         requires held { IsSome (get_or self.old place None) }

@@ -3,3 +3,4 @@ pub mod OneKeeps
 pub mod StoryOfEnd
 pub mod Watched
 pub mod OneNet
+pub use Rattle.bounded_input

@@ -1,6 +1,9 @@
--- The end of the one connection of the command `logd one`, whose bytes come from a source (C++NPv2 chapter 3: `ACE_SOCK_Stream`;
--- the source in place of a socket, and the limit, are this project's own).
-use Rattle.std.specs.Prelude.{◌≡◌, ◌≢◌, ◌+◌, ◌-◌, ◌⊎◌, ℕ, zero, suc, Bool, true, false, nat_lt, ◌&&◌, is_none, List, [], ◌++◌, length, take, drop, Option, Some, None, option_map, option_to_list}
+-- The end of the one connection of the command `logd one`, whose bytes come from a source (C++NPv2
+-- chapter 3: `ACE_SOCK_Stream`; the source in place of a socket, and the limit, are this project's
+-- own).
+use Rattle.std.specs.Prelude.{◌≡◌, ◌≢◌, ◌+◌, ◌-◌, ◌⊎◌, ℕ, zero, suc, Bool, true, false, nat_lt}
+use Rattle.std.specs.Prelude.{◌&&◌, is_none, List, [], ◌++◌, length, take, drop, Option, Some, None}
+use Rattle.std.specs.Prelude.{option_map, option_to_list}
 use Rattle.ev_base.specs.Counts.{Rose}
 use Rattle.ev_base.specs.Bytes.{ReaderBytes}
 use Rattle.ev_base.specs.Source.{SourceFacts}
@@ -41,12 +44,13 @@ failed_of end = end.failed
 abbrev pub last_bytes : ℕ → List ℕ → List ℕ
 last_bytes count bytes = drop (length bytes - count) bytes
 
--- Of the bytes that the source gave, those that the end gave: it keeps the last `kept`, and gave the `count` before them.
+-- Of the bytes that the source gave, those that the end gave: it keeps the last `kept`, and gave
+-- the `count` before them.
 abbrev pub passed_on : ℕ → ℕ → List ℕ → List ℕ
 passed_on kept count given = last_bytes count (take (length given - kept) given)
 
--- The bytes that the end gave since it was made, where the source tells its bytes: those that the source gave before are not
--- among them.
+-- The bytes that the end gave since it was made, where the source tells its bytes: those that the
+-- source gave before are not among them.
 abbrev pub given_by : ℕ → ℕ → Option ReaderBytes → List ℕ
 given_by kept count None = []
 given_by kept count (Some bytes) = passed_on kept count bytes.given
@@ -57,7 +61,8 @@ given_of facts end = given_by (length (extra_of end)) end.given (facts end.input
 -- the end's bytes: those that it gave, and the byte that it keeps with what the source has left
 abbrev pub end_bytes : List ℕ → ℕ → Option ReaderBytes → Option ReaderBytes
 end_bytes extra count None = None
-end_bytes extra count (Some bytes) = Some (record { given = passed_on (length extra) count bytes.given; left = extra ++ bytes.left })
+end_bytes extra count (Some bytes) =
+    Some (record { given = passed_on (length extra) count bytes.given; left = extra ++ bytes.left })
 
 -- ---- what it tells
 
@@ -77,8 +82,8 @@ last_of (suc writes) = Some Paused
 abbrev pub is_over : ℕ → Option ℕ → Bool → Bool
 is_over reads extra over = nat_lt 0 reads && (is_none extra && over)
 
--- It is the connection's end of number 0. It counts its own faults, tells its bytes where the source does, and tells neither
--- what is written, since it takes nothing, nor parts of a story.
+-- It is the connection's end of number 0. It counts its own faults, tells its bytes where the
+-- source does, and tells neither what is written, since it takes nothing, nor parts of a story.
 abbrev pub one_end_facts : {S : Type 0} → (S → SourceFacts) → OneEnd S → EndFacts
 one_end_facts facts end = record {
   listener = false;
@@ -86,6 +91,8 @@ one_end_facts facts end = record {
   last_read = option_map try_of end.last;
   writes = end.writes;
   last_write = last_of end.writes;
+  finishes = 0;
+  last_finish = None;
   faults = end.faults;
   gave = end.given;
   over = is_over end.reads end.extra (facts end.input).over;
@@ -113,11 +120,15 @@ pub record MeetsByte {S : Type 0} (facts : S → SourceFacts) (old new : OneEnd 
 
 -- since one state of the end and another the source gave just the bytes that the end took from it
 abbrev pub TakesAll : {S : Type 0} → (S → SourceFacts) → OneEnd S → OneEnd S → Type 0
-TakesAll facts old new = (facts (input_of new)).gave + took_of old ≡ (facts (input_of old)).gave + took_of new
+TakesAll facts old new = (facts (input_of new)).gave + took_of old
+    ≡ (facts (input_of old)).gave + took_of new
 
 -- Why a read answers what it answers. A fault is one of the source, or a byte behind the limit.
 abbrev pub OneReads : {S : Type 0} → (S → SourceFacts) → OneEnd S → Got → OneEnd S → Type 0
-OneReads facts old (got.Bytes n) new = (count_of new ≡ count_of old + n) × (extra_of new ≡ []) × (failed_of new ≡ failed_of old)
+OneReads facts old (got.Bytes n) new =
+    (count_of new ≡ count_of old + n) × (extra_of new ≡ []) × (failed_of new ≡ failed_of old)
 OneReads facts old got.Pause new = ⊥
-OneReads facts old got.Over new = ((facts (input_of new)).over ≡ true) × (count_of new ≡ count_of old) × (extra_of new ≡ []) × (failed_of new ≡ failed_of old)
-OneReads facts old got.Failed new = (count_of new ≡ count_of old) × (SourceFails facts old new ⊎ MeetsByte facts old new)
+OneReads facts old got.Over new = ((facts (input_of new)).over ≡ true)
+    × (count_of new ≡ count_of old) × (extra_of new ≡ []) × (failed_of new ≡ failed_of old)
+OneReads facts old got.Failed new =
+    (count_of new ≡ count_of old) × (SourceFails facts old new ⊎ MeetsByte facts old new)

@@ -1,7 +1,7 @@
--- The demultiplexer of the command `logd one`, whose one connection can be read at any time (POSA2, Reactor: Synchronous Event
--- Demultiplexer; a source in place of a socket is this project's own).
+-- The demultiplexer of the command `logd one`, whose one connection can be read at any time (POSA2,
+-- Reactor: Synchronous Event Demultiplexer; a source in place of a socket is this project's own).
 use Rattle.std.specs.Prelude.{◌≡◌, ℕ, true, List, [], ◌∷◌, map, Option, Some, None}
-use Rattle.ev_types.specs.declared.upcall.Mask.{Mask}
+use Rattle.ev_base.specs.ev_types.specs.declared.upcall.Mask.{Mask}
 use Rattle.ev_base.specs.Terms.{Terms}
 use Rattle.ev_base.specs.Net.{NetFacts, Call, Waits}
 use Rattle.ev_base.specs.declared.net.Waited.{Waited}
@@ -50,11 +50,12 @@ abbrev pub last_answer : List Call → Option Waited
 last_answer (Waits most answer reports ∷ calls) = Some answer
 last_answer _ = None
 
--- It follows no script: such a run has terms that lay down no groups. Where its last call was a wait, that was answered by what is
--- attached.
+-- It follows no script: such a run has terms that lay down no groups. Where its last call was a
+-- wait, that was answered by what is attached.
 pub record OneNetKeeps {S : Type 0} (t : Terms) (net : OneNet S) : Type 0 where
   pub no_script : t.groups ≡ None
-  pub answered : (answer : Waited) → last_answer net.calls ≡ Some answer → answer ≡ answer_of (first_report (masks_of net))
+  pub answered : (answer : Waited) → last_answer net.calls ≡ Some answer
+      → answer ≡ answer_of (first_report (masks_of net))
 
 abbrev pub one_net_keeps : {S : Type 0} → Terms → OneNet S → Type 0
 one_net_keeps t net = OneNetKeeps t net

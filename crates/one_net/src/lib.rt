@@ -1,5 +1,6 @@
-//! The one connection of the command `logd one`: `OneEnd`, the end that reads a source of bytes, such as standard input, up to
-//! a limit, and `OneNet`, the demultiplexer that reports it as readable (C++NPv2 chapters 3 and 4).
+//! The one connection of the command `logd one`: `OneEnd`, the end that reads a source of bytes,
+//! such as standard input, up to a limit, and `OneNet`, the demultiplexer that reports it as
+//! readable (C++NPv2 chapters 3 and 4).
 #![tactic(auto)]
 
 mod one_end;

@@ -1,14 +1,17 @@
 //! The end of the one connection, whose bytes come from a source.
-ghost use Rattle.std.specs.Prelude.{◌≡◌, ◌≤◌, ◌<◌, ◌-◌, ◌≢◌, ℕ, List, true, false, [], length, Some, None};
+ghost use Rattle.std.specs.Prelude.{◌≡◌, ◌≤◌, ◌<◌, ◌-◌, ◌≢◌, ℕ, List, true, false, [], length};
+ghost use Rattle.std.specs.Prelude.{Some, None};
 ghost use Rattle.ev_base.specs.Terms.{Terms, KeepsOn};
 
 use ev_base::{Got, PeerEnd, Sent, Source, Taken};
 
-/// The end of the connection of number 0, which reads a source, of which it gives so many bytes at most.
+/// The end of the connection of number 0, which reads a source, of which it gives so many bytes at
+/// most.
 ///
-/// A failing source is a fault of the end too. Where `limit` bytes were given, a read asks the source for one byte more. If there
-/// is one, the end keeps it, and from then on each read is a fault and asks no more. It never pauses at a read, and it has nowhere
-/// to write, so each write pauses. It owns the source, which `into_input` gives back.
+/// A failing source is a fault of the end too. Where `limit` bytes were given, a read asks the
+/// source for one byte more. If there is one, the end keeps it, and from then on each read is a
+/// fault and asks no more. It never pauses at a read, and it has nowhere to write, so each write
+/// pauses. It owns the source, which `into_input` gives back.
 #[derive(Drop)]
 pub struct OneEnd<S> {
     input: S,
@@ -29,7 +32,8 @@ pub struct OneEnd<S> {
 
 impl<S: Source> OneEnd<S> {
     ghost use Rattle.ev_base.specs.End.{IsFresh, EndReads};
-    ghost use Rattle.one_net.specs.OneEnd.{input_of, limit_of, count_of, extra_of, failed_of, one_end_facts, OneReads, TakesAll};
+    ghost use Rattle.one_net.specs.OneEnd.{input_of, limit_of, count_of, extra_of, failed_of};
+    ghost use Rattle.one_net.specs.OneEnd.{one_end_facts, OneReads, TakesAll};
     ghost use Rattle.one_net.specs.OneKeeps.{most_input, StartsAt, OneEndKeeps};
 
     /// An end that has made no call, over this source and with this limit.
@@ -41,7 +45,8 @@ impl<S: Source> OneEnd<S> {
         ensures limit { limit_of result ≡ limit }
         ensures count { count_of result ≡ 0 }
         ensures sound { (failed_of result ≡ false) × (extra_of result ≡ []) }
-        ensures kept { (t : Terms) → limit ≡ most_input → StartsAt t (S.facts input) → OneEndKeeps S.facts t result }
+        ensures kept { (t : Terms) → limit ≡ most_input → StartsAt t (S.facts input)
+            → OneEndKeeps S.facts t result }
     {
         OneEnd {
             input,
@@ -89,7 +94,8 @@ impl<S: Source> OneEnd<S> {
     // A read where a byte behind the limit was met before: it fails, and the source isn't asked.
     fn refuse(&mut self) -> Got
         requires { extra_of self.old ≢ [] }
-        ensures reads { (buffer : List ℕ) → EndReads (one_end_facts S.facts self.old) buffer result (one_end_facts S.facts self.new) }
+        ensures reads { (buffer : List ℕ) → EndReads (one_end_facts S.facts self.old) buffer result
+            (one_end_facts S.facts self.new) }
         ensures kept { KeepsOn (OneEndKeeps S.facts) self.old self.new }
         ensures causes { OneReads S.facts self.old result self.new }
         ensures took { TakesAll S.facts self.old self.new }
@@ -108,7 +114,8 @@ impl<S: Source> OneEnd<S> {
     fn look_behind(&mut self) -> Got
         requires none { extra_of self.old ≡ [] }
         requires full { count_of self.old ≡ limit_of self.old }
-        ensures reads { (buffer : List ℕ) → EndReads (one_end_facts S.facts self.old) buffer result (one_end_facts S.facts self.new) }
+        ensures reads { (buffer : List ℕ) → EndReads (one_end_facts S.facts self.old) buffer result
+            (one_end_facts S.facts self.new) }
         ensures kept { KeepsOn (OneEndKeeps S.facts) self.old self.new }
         ensures causes { OneReads S.facts self.old result self.new }
         ensures took { TakesAll S.facts self.old self.new }
@@ -143,7 +150,8 @@ impl<S: Source> OneEnd<S> {
         requires none { extra_of self.old ≡ [] }
         requires some { 0 < length part.old }
         requires room { length part.old ≤ limit_of self.old - count_of self.old }
-        ensures reads { EndReads (one_end_facts S.facts self.old) part.new result (one_end_facts S.facts self.new) }
+        ensures reads { EndReads (one_end_facts S.facts self.old) part.new result
+            (one_end_facts S.facts self.new) }
         ensures kept { KeepsOn (OneEndKeeps S.facts) self.old self.new }
         ensures causes { OneReads S.facts self.old result self.new }
         ensures took { TakesAll S.facts self.old self.new }
@@ -174,7 +182,8 @@ impl<S: Source> OneEnd<S> {
 
 impl<S: Source> PeerEnd for OneEnd<S> {
     ghost use Rattle.ev_base.specs.End.{EndReads, EndWrites};
-    ghost use Rattle.one_net.specs.OneEnd.{input_of, limit_of, count_of, extra_of, failed_of, one_end_facts, OneReads, TakesAll};
+    ghost use Rattle.one_net.specs.OneEnd.{input_of, limit_of, count_of, extra_of, failed_of};
+    ghost use Rattle.one_net.specs.OneEnd.{one_end_facts, OneReads, TakesAll};
     ghost use Rattle.one_net.specs.OneKeeps.{OneEndKeeps};
     ghost use Rattle.one_net.specs.StoryOfEnd.{keeps_its_story};
 
@@ -189,13 +198,15 @@ impl<S: Source> PeerEnd for OneEnd<S> {
     fn read(&mut self, buf: &mut [u8]) -> Got
         requires reader { (one_end_facts S.facts self.old).listener ≡ false }
         requires room { 0 < length buf.old }
-        ensures reads { EndReads (one_end_facts S.facts self.old) buf.new result (one_end_facts S.facts self.new) }
+        ensures reads { EndReads (one_end_facts S.facts self.old) buf.new result
+            (one_end_facts S.facts self.new) }
         ensures kept { KeepsOn (OneEndKeeps S.facts) self.old self.new }
         ensures causes { OneReads S.facts self.old result self.new }
         ensures took { TakesAll S.facts self.old self.new }
         ensures within { count_of self.new ≤ limit_of self.new }
         ensures limit { limit_of self.new ≡ limit_of self.old }
-        ensures refused { extra_of self.old ≢ [] → (result ≡ Got.Failed) × (input_of self.new ≡ input_of self.old) }
+        ensures refused { extra_of self.old ≢ [] → (result ≡ Got.Failed)
+            × (input_of self.new ≡ input_of self.old) }
     {
         if self.extra.is_some() {
             return self.refuse();
@@ -211,7 +222,8 @@ impl<S: Source> PeerEnd for OneEnd<S> {
     fn write(&mut self, piece: &[u8]) -> Sent
         requires writer { (one_end_facts S.facts self.old).listener ≡ false }
         requires some { 0 < length piece.now }
-        ensures writes { EndWrites (one_end_facts S.facts self.old) piece.now result (one_end_facts S.facts self.new) }
+        ensures writes { EndWrites (one_end_facts S.facts self.old) piece.now result
+            (one_end_facts S.facts self.new) }
         ensures kept { KeepsOn (OneEndKeeps S.facts) self.old self.new }
         ensures pauses { result ≡ Sent.Pause }
         ensures limit { limit_of self.new ≡ limit_of self.old }

@@ -1,18 +1,18 @@
 //! The demultiplexer of the one connection.
-ghost use Rattle.std.specs.Prelude.{◌≡◌, ◌≢◌, ◌≤◌, ◌+◌, ◌∷◌, ℕ, [], Some, OnOk, IsOk, Contains, vec_len, vec_capacity};
+ghost use Rattle.std.specs.Prelude.{◌≡◌, ◌≢◌, ◌≤◌, ◌+◌, ◌∷◌, ℕ, [], Some, OnOk, IsOk, Contains};
+ghost use Rattle.std.specs.Prelude.{vec_len, vec_capacity};
 
 use super::OneEnd;
 use crate::watched::{answer_of, first_report, set_mask_in};
-use ev_base::{Net, Report, Source, Waited};
-use ev_types::{Handle, Mask, NetFailed, NoMemory};
-use net_calls::{Calls, Made};
+use ev_base::{Calls, Handle, Made, Mask, Net, NetFailed, NoMemory, Report, Source, Waited};
 use std::alloc::Global;
 
 /// A demultiplexer whose ends can be read at any time, and nothing else.
 ///
-/// Each wait reports the end that was attached first as readable, at moment 0, where its mask has that; else nothing can be
-/// reported any more. It never fails, and only `reserve` takes memory. It holds the ends that it took back, which are not let go:
-/// so it ends by `into_retired` or by `close`.
+/// Each wait reports the end that was attached first as readable, at moment 0, where its mask has
+/// that; else nothing can be reported any more. It never fails, and only `reserve` takes memory. It
+/// holds the ends that it took back, which are not let go: so it ends by `into_retired` or by
+/// `close`.
 pub struct OneNet<S> {
     // The handles and masks of the ends that are attached. These three lists have the latest first.
     watched: Vec<(u64, Mask)>,
@@ -50,8 +50,10 @@ impl<S: Source> OneNet<S> {
 
     /// The end that was retired, where it is the only one that the net took.
     pub fn into_retired(self) -> OneEnd<S>
-        requires { (handle : ℕ) × (end : OneEnd S) × ((one_net_facts self).retired ≡ Some ((handle, end) ∷ [])) × ((one_net_facts self).turned_away ≡ Some []) }
-        ensures { (handle : ℕ) (end : OneEnd S) → (one_net_facts self).retired ≡ Some ((handle, end) ∷ []) → result ≡ end }
+        requires { (handle : ℕ) × (end : OneEnd S) × ((one_net_facts self).retired
+            ≡ Some ((handle, end) ∷ [])) × ((one_net_facts self).turned_away ≡ Some []) }
+        ensures { (handle : ℕ) (end : OneEnd S) → (one_net_facts self).retired
+            ≡ Some ((handle, end) ∷ []) → result ≡ end }
     {
         let OneNet {
             watched: _watched,
@@ -89,8 +91,9 @@ impl<S: Source> OneNet<S> {
 impl<S: Source> Net for OneNet<S> {
     ghost use Rattle.std.specs.Prelude.{refl};
     ghost use Rattle.ev_base.specs.Terms.{Terms, KeepsOn, KeepsOnWith};
-    ghost use Rattle.ev_base.specs.Net.{NetWaits, Reserves, NetAttaches, SetsMaskOf, RetiresEnd, TurnsAwayEnd};
-    ghost use Rattle.net_calls.specs.Groups.{follows_none};
+    ghost use Rattle.ev_base.specs.Net.{NetWaits, Reserves, NetAttaches, SetsMaskOf, RetiresEnd};
+    ghost use Rattle.ev_base.specs.Net.{TurnsAwayEnd};
+    ghost use Rattle.ev_base.specs.Calls.{follows_none};
     ghost use Rattle.one_net.specs.OneEnd.{one_end_facts};
     ghost use Rattle.one_net.specs.OneKeeps.{OneEndKeeps};
     ghost use Rattle.one_net.specs.OneNet.{one_net_facts, one_net_keeps, masks_of};
@@ -106,7 +109,10 @@ impl<S: Source> Net for OneNet<S> {
         ensures waits { NetWaits (one_net_facts self.old) most_ms result (one_net_facts self.new) }
         ensures kept { KeepsOn one_net_keeps self.old self.new }
         ensures waits_exactly { result ≡ answer_of (first_report (masks_of self.old)) }
-        ensures reports_exactly { one_net_facts self.new ≡ record (one_net_facts self.old) { reports = report_list (first_report (masks_of self.old)); calls = (one_net_facts self.new).calls } }
+        ensures reports_exactly { one_net_facts self.new ≡ record (one_net_facts self.old) {
+          reports = report_list (first_report (masks_of self.old));
+          calls = (one_net_facts self.new).calls;
+        } }
         ensures never_fails { result ≢ Waited.Failed }
     {
         self.given = first_report(&self.watched);
@@ -145,10 +151,12 @@ impl<S: Source> Net for OneNet<S> {
     fn attach(&mut self, end: &mut OneEnd<S>, handle: Handle, mask: Mask) -> Result<(), NetFailed>
         requires place { 1 ≤ (one_net_facts self.old).spare }
         requires absent { Contains (one_net_facts self.old).attached handle.0 → ⊥ }
-        ensures attaches { NetAttaches (one_net_facts self.old) handle.0 mask (one_end_facts S.facts end.old).serial result (one_net_facts self.new) }
+        ensures attaches { NetAttaches (one_net_facts self.old) handle.0 mask
+            (one_end_facts S.facts end.old).serial result (one_net_facts self.new) }
         ensures end { one_end_facts S.facts end.new ≡ one_end_facts S.facts end.old }
         ensures kept { KeepsOnWith one_net_keeps (OneEndKeeps S.facts) end.old self.old self.new }
-        ensures end_kept { (t : Terms) → one_net_keeps t self.old → OneEndKeeps S.facts t end.old → OneEndKeeps S.facts t end.new }
+        ensures end_kept { (t : Terms) → one_net_keeps t self.old → OneEndKeeps S.facts t end.old
+            → OneEndKeeps S.facts t end.new }
         ensures never_fails { result ≡ Ok tt }
         ensures spare { (one_net_facts self.new).spare + 1 ≡ (one_net_facts self.old).spare }
         ensures same_end { end.new ≡ end.old }
@@ -187,5 +195,6 @@ impl<S: Source> Net for OneNet<S> {
 
     ghost sound = { λ net steady. (refl, refl) };
 
-    ghost keeps_groups = { λ t net keeps. follows_none (one_net_facts net).calls t.groups keeps.no_script };
+    ghost keeps_groups = { λ t net keeps. follows_none (one_net_facts net).calls t.groups
+        keeps.no_script };
 }

@@ -3,8 +3,7 @@ ghost use Rattle.std.specs.Prelude.{◌≡◌};
 ghost use Rattle.ev_base.specs.Net.{changed_mask};
 ghost use Rattle.one_net.specs.Watched.{masked, first_report, answer_of};
 
-use ev_base::{Report, Waited};
-use ev_types::{Handle, Kind, Mask};
+use ev_base::{Handle, Kind, Mask, Report, Waited};
 
 // Puts a mask in the place of the one that an attached end of this handle has.
 fn masked(entry: (u64, Mask), handle: Handle, mask: Mask) -> (u64, Mask)

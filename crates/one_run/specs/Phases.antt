@@ -1,21 +1,25 @@
--- The journal of a reactor whose one handler, on handle 0, is served from its first report on until it closes itself.
-use Rattle.std.specs.Prelude.{◌≡◌, ◌≤◌, ◌⊎◌, ◌+◌, ◌*◌, ℕ, suc, Bool, true, false, List, [], ◌∷◌, ◌++◌, length, map, flat_map, ◌&&◌, None}
+-- The journal of a reactor whose one handler, on handle 0, is served from its first report on until
+-- it closes itself.
+use Rattle.std.specs.Prelude.{◌≡◌, ◌≤◌, ◌⊎◌, ◌+◌, ◌*◌, ℕ, suc, Bool, true, false, List, [], ◌∷◌}
+use Rattle.std.specs.Prelude.{◌++◌, length, map, flat_map, ◌&&◌, None}
 use Rattle.std.specs.List.{list_all, count_by}
-use Rattle.ev_types.specs.declared.upcall.Answer.{Answer}
-use Rattle.ev_types.specs.declared.upcall.Answer.TheVariants.{Again, Close}
-use Rattle.ev_types.specs.declared.upcall.Handle.{Handle}
-use Rattle.ev_types.specs.declared.upcall.Mask.{Mask}
-use Rattle.ev_types.specs.declared.upcall.Upcall.TheVariants.{Input}
-use Rattle.ev_types.specs.declared.upcall.Why.{Why}
-use Rattle.ev_types.specs.declared.upcall.Why.TheVariants.{Own, Removed as ByRemoval, Refused as ByRefusal}
-use Rattle.reactor_journal.specs.Event.{Item}
-use Rattle.reactor_journal.specs.declared.entry.Entry.{Entry}
-use Rattle.reactor_journal.specs.declared.entry.Entry.TheVariants as entry
-use Rattle.reactor_journal.specs.Past.{past_of, had, reason_of, count, is_closed}
-use Rattle.reactor_summary.specs.declared.parts.LiveHandle.{LiveHandle}
-use Rattle.reactor_summary.specs.declared.parts.WaitingEvent.{WaitingEvent}
-use Rattle.reactor_summary.specs.declared.parts.OpenEvent.{OpenEvent}
-use Rattle.reactor_summary.specs.Summary.{Summary, summary}
+use Rattle.ev_base.specs.ev_types.specs.declared.upcall.Answer.{Answer}
+use Rattle.ev_base.specs.ev_types.specs.declared.upcall.Answer.TheVariants.{Again, Close}
+use Rattle.ev_base.specs.ev_types.specs.declared.upcall.Handle.{Handle}
+use Rattle.ev_base.specs.ev_types.specs.declared.upcall.Mask.{Mask}
+use Rattle.ev_base.specs.ev_types.specs.declared.upcall.Upcall.TheVariants.{Input}
+use Rattle.ev_base.specs.ev_types.specs.declared.upcall.Why.{Why}
+use Rattle.ev_base.specs.ev_types.specs.declared.upcall.Why.TheVariants.{Own, Removed as ByRemoval}
+use Rattle.ev_base.specs.ev_types.specs.declared.upcall.Why.TheVariants.{Refused as ByRefusal}
+use Rattle.reactor_model.specs.reactor_journal.specs.Event.{Item}
+use Rattle.reactor_model.specs.reactor_journal.specs.declared.entry.Entry.{Entry}
+use Rattle.reactor_model.specs.reactor_journal.specs.declared.entry.Entry.TheVariants as entry
+use Rattle.reactor_model.specs.reactor_journal.specs.Past.{past_of, had, reason_of, count}
+use Rattle.reactor_model.specs.reactor_journal.specs.Past.{is_closed}
+use Rattle.reactor_core.specs.reactor_summary.specs.declared.parts.LiveHandle.{LiveHandle}
+use Rattle.reactor_core.specs.reactor_summary.specs.declared.parts.WaitingEvent.{WaitingEvent}
+use Rattle.reactor_core.specs.reactor_summary.specs.declared.parts.OpenEvent.{OpenEvent}
+use Rattle.reactor_core.specs.reactor_summary.specs.Summary.{Summary, summary}
 
 -- the handle of the one connection, which wants to read
 abbrev pub one_handle : Handle
@@ -34,19 +38,68 @@ input_event event = record { event = event; handle = one_handle; upcall = Input;
 abbrev pub open_input : ℕ → OpenEvent
 open_input event = record { event = event; handle = one_handle; upcall = Input; moment = 0 }
 
--- What a reactor keeps of its journal: before the first wait; while its event waits, which is the last entry; while that is open;
--- and once it was closed.
+-- What a reactor keeps of its journal: before the first wait; while its event waits, which is the
+-- last entry; while that is open; and once it was closed.
 abbrev pub opened_summary : Summary
-opened_summary = record { entries = 1; moment = 0; opened = 1; closed = 0; scheduled = 0; refused = 0; ended = false; handles = one_live ∷ []; waiting = []; opens = []; armed = [] }
+opened_summary = record {
+  entries = 1;
+  moment = 0;
+  opened = 1;
+  closed = 0;
+  scheduled = 0;
+  refused = 0;
+  ended = false;
+  handles = one_live ∷ [];
+  waiting = [];
+  opens = [];
+  armed = [];
+}
 
 abbrev pub waiting_summary : ℕ → Summary
-waiting_summary event = record { entries = suc event; moment = 0; opened = 1; closed = 0; scheduled = 0; refused = 0; ended = false; handles = one_live ∷ []; waiting = input_event event ∷ []; opens = []; armed = [] }
+waiting_summary event = record {
+  entries = suc event;
+  moment = 0;
+  opened = 1;
+  closed = 0;
+  scheduled = 0;
+  refused = 0;
+  ended = false;
+  handles = one_live ∷ [];
+  waiting = input_event event ∷ [];
+  opens = [];
+  armed = [];
+}
 
 abbrev pub out_summary : ℕ → Summary
-out_summary event = record { entries = suc (suc event); moment = 0; opened = 1; closed = 0; scheduled = 0; refused = 0; ended = false; handles = one_live ∷ []; waiting = []; opens = open_input event ∷ []; armed = [] }
+out_summary event = record {
+  entries = suc (suc event);
+  moment = 0;
+  opened = 1;
+  closed = 0;
+  scheduled = 0;
+  refused = 0;
+  ended = false;
+  handles = one_live ∷ [];
+  waiting = [];
+  opens = open_input event ∷ [];
+  armed = [];
+}
 
 abbrev pub closed_summary : ℕ → ℕ → Bool → Summary
-closed_summary entries moment ended = record { entries = entries; moment = moment; opened = 1; closed = 1; scheduled = 0; refused = 0; ended = ended; handles = []; waiting = []; opens = []; armed = [] }
+closed_summary entries moment ended =
+    record {
+      entries = entries;
+      moment = moment;
+      opened = 1;
+      closed = 1;
+      scheduled = 0;
+      refused = 0;
+      ended = ended;
+      handles = [];
+      waiting = [];
+      opens = [];
+      armed = [];
+    }
 
 -- the notes of an entry, and of a journal
 abbrev pub entry_notes : {N : Type 0} → Entry N → List N
@@ -78,7 +131,8 @@ abbrev pub AllReadOn : {N : Type 0} → List (Item N) → Type 0
 AllReadOn [] = Unit {0}
 AllReadOn (item ∷ items) = ReadsOn item × AllReadOn items
 
--- the kinds of entries that stand behind the first one until the end: waits and reports, upcalls and closings
+-- the kinds of entries that stand behind the first one until the end: waits and reports, upcalls
+-- and closings
 abbrev pub is_served : {N : Type 0} → Entry N → Bool
 is_served (entry.Polled now) = true
 is_served (entry.Ready handle kind) = true
@@ -137,7 +191,8 @@ is_rest (entry.Polled now) = true
 is_rest entry.Ended = true
 is_rest _ = false
 
--- The handler was closed: behind these entries, for this reason and with this note, and waits and the end follow.
+-- The handler was closed: behind these entries, for this reason and with this note, and waits and
+-- the end follow.
 pub record HasClosed {N : Type 0} (h : List (Entry N)) : Type 0 where
   pub before : List (Entry N)
   pub note : N
@@ -151,7 +206,8 @@ pub record HasClosed {N : Type 0} (h : List (Entry N)) : Type 0 where
   pub notes : notes_in before ≡ map note_of (turns_in before)
   pub size : length h ≤ 6 + 2 * length (turns_in before) + length rest
 
--- The handler closed itself, waits at these moments were made since, and the reactor was not stopped.
+-- The handler closed itself, waits at these moments were made since, and the reactor was not
+-- stopped.
 pub record IsShut {N : Type 0} (moments : List ℕ) (h : List (Entry N)) : Type 0 where
   pub entries : ℕ
   pub moment : ℕ
@@ -187,7 +243,8 @@ abbrev pub CanEnd : {N : Type 0} → List (Entry N) → Type 0
 CanEnd h = IsOpened h ⊎ (IsRead h ⊎ WasShut h)
 
 -- the closing of h is that of the history that is finished, behind which the reactor was stopped
-pub record ClosesAs {N : Type 0} {h : List (Entry N)} (closed : HasClosed h) (over : List (Entry N)) (finished : IsFinished over) : Type 0 where
+pub record ClosesAs {N : Type 0} {h : List (Entry N)} (closed : HasClosed h) (over : List (Entry N))
+    (finished : IsFinished over) : Type 0 where
   pub reason : finished.closed.reason ≡ closed.reason
   pub note : finished.closed.note ≡ closed.note
   pub rest : finished.closed.rest ≡ closed.rest ++ entry.Ended ∷ []

@@ -1,4 +1,5 @@
-//! The run of one connection, that of a source, on a reactor of its own: it is served turn by turn until it closes itself.
+//! The run of one connection, that of a source, on a reactor of its own: it is served turn by turn
+//! until it closes itself.
 #![tactic(auto)]
 
 mod opening;

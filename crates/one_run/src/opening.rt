@@ -9,8 +9,7 @@ ghost use Rattle.one_run.specs.Running.{one_meaning, CanRun, StandsIn};
 ghost use Rattle.one_run.specs.Opening.{StartsRun, TakesNothing, LeavesNothing, LeavesUnopened};
 
 use crate::OneCore;
-use ev_base::{Sink, Source};
-use ev_types::{Mask, Why};
+use ev_base::{Mask, Sink, Source, Why};
 use log_handler::{LineSink, LogConnection, ServerNote};
 use one_net::{OneEnd, OneNet};
 use reactor_core::{Core, Parts};
@@ -20,12 +19,6 @@ use timer_queue::SortedTimers;
 
 /// How many bytes are read at most: 2^40.
 const MOST_INPUT: u64 = 1 << 40;
-
-const READ: Mask = Mask {
-    read: true,
-    write: false,
-    except: false,
-};
 
 /// What is left where there was no memory to begin a run.
 #[derive(Drop)]
@@ -42,19 +35,22 @@ pub struct Unopened<S, K, V> {
     pub broken: bool,
 }
 
-/// A reactor for the one connection of a source, number 0, which is registered with it. It writes the lines of its notes to the
-/// sink, and hands its journal over in volumes of at least as many entries as the keeper of volumes says. For want of memory all comes
-/// back.
+/// A reactor for the one connection of a source, number 0, which is registered with it. It writes
+/// the lines of its notes to the sink, and hands its journal over in volumes of at least as many
+/// entries as the keeper of volumes says. For want of memory all comes back.
 pub fn open<S: Source, K: Sink, V: Volumes<ServerNote>>(
     alloc: Global,
     input: S,
     output: K,
     volumes: V,
 ) -> Result<OneCore<S, K, V>, Unopened<S, K, V>>
-    ensures ok { IfOk result (λ core. (t : Terms) → StartsRun t (S.facts input) (K.facts output) (V.facts volumes) → StandsIn (one_meaning S.facts K.facts V.facts) t IsOpened core) }
+    ensures ok { IfOk result (λ core. (t : Terms) → StartsRun t (S.facts input) (K.facts output)
+        (V.facts volumes) → StandsIn (one_meaning S.facts K.facts V.facts) t IsOpened core) }
     ensures volume { IfOk result (λ core. volume_of core ≡ (V.facts volumes).size) }
-    ensures volumes { IfOk result (λ core. TakesNothing (V.facts volumes) (V.facts (volumes_of core))) }
-    ensures err { IfErr result (λ left. LeavesUnopened S.facts K.facts input output left × TakesNothing (V.facts volumes) (V.facts left.volumes)) }
+    ensures volumes { IfOk result (λ core. TakesNothing (V.facts volumes)
+        (V.facts (volumes_of core))) }
+    ensures err { IfErr result (λ left. LeavesUnopened S.facts K.facts input output left
+        × TakesNothing (V.facts volumes) (V.facts left.volumes)) }
 {
     let end = OneEnd::new(input, MOST_INPUT);
     let made = Core::new(
@@ -70,7 +66,7 @@ pub fn open<S: Source, K: Sink, V: Volumes<ServerNote>>(
         Ok(core) => {
             let mut core = core;
             let handler = LogConnection::new(alloc, 0, end, None, 0);
-            match core.register(handler, READ, None) {
+            match core.register(handler, Mask::READ, None) {
                 Ok(_) => Ok(core),
                 Err((back, _)) => {
                     let (end, _note) = back.handle_close(Why::Refused);
@@ -97,7 +93,8 @@ fn abandon<S: Source, K: Sink, V: Volumes<ServerNote>>(
     end: OneEnd<S>,
 ) -> Unopened<S, K, V>
     requires { CanRun (one_meaning S.facts K.facts V.facts) (λ h. h ≡ []) core }
-    ensures left { (t : Terms) (F : ℕ) → Stands (one_meaning S.facts K.facts V.facts) t core F [] → LeavesNothing K.facts t result }
+    ensures left { (t : Terms) (F : ℕ) → Stands (one_meaning S.facts K.facts V.facts) t core F []
+        → LeavesNothing K.facts t result }
     ensures input { result.input ≡ input_of end }
     ensures volumes { result.volumes ≡ volumes_of core }
 {

@@ -1,16 +1,19 @@
 //! The run of the one connection on a reactor.
-ghost use Rattle.std.specs.Prelude.{◌≡◌, ◌⊎◌, ◌≤◌, ℕ, List, [], ◌∷◌, Option, OnOk, OnErr, IfOk, Some, None, true, false, Bool};
+ghost use Rattle.std.specs.Prelude.{◌≡◌, ◌⊎◌, ◌≤◌, ℕ, List, [], ◌∷◌, Option, OnOk, OnErr, IfOk};
+ghost use Rattle.std.specs.Prelude.{Some, None, true, false, Bool};
 ghost use Rattle.ev_base.specs.Terms.{Terms};
-ghost use Rattle.reactor_journal.specs.declared.entry.Entry.{Entry};
+ghost use Rattle.reactor_model.specs.reactor_journal.specs.declared.entry.Entry.{Entry};
 ghost use Rattle.reactor_core.specs.Stands.{Stands, IsStanding};
 ghost use Rattle.reactor_core.specs.Views.{net_of, watch_of, volumes_of};
 ghost use Rattle.log_handler.specs.declared.note.ServerNote.{ServerNote};
 ghost use Rattle.log_handler.specs.LineSink.{is_broken, whole_of};
 ghost use Rattle.one_run.specs.Phases.{IsOpened, IsRead, IsShut, CanEnd, GrowsFrom};
-ghost use Rattle.one_run.specs.Running.{one_meaning, AreOfOne, CanRun, LeavesParts, ClosedItself, Leads, LeadsBy, KeepsHistory, ReadsOneMore, TurnsOnce, IsWholeUntilLast, VolumesTell, halted, last_entry, closes_lost, IsShutAs, HasEnded};
+ghost use Rattle.one_run.specs.Running.{one_meaning, AreOfOne, CanRun, LeavesParts, ClosedItself};
+ghost use Rattle.one_run.specs.Running.{Leads, LeadsBy, KeepsHistory, ReadsOneMore, TurnsOnce};
+ghost use Rattle.one_run.specs.Running.{IsWholeUntilLast, VolumesTell, halted, last_entry};
+ghost use Rattle.one_run.specs.Running.{closes_lost, IsShutAs, HasEnded};
 
-use ev_base::{Sink, Source};
-use ev_types::Answer;
+use ev_base::{Answer, Sink, Source};
 use log_handler::{EndKind, LineSink, LogConnection, ServerNote};
 use one_net::{OneEnd, OneNet};
 use reactor_core::{Core, HandOverRefused, Parts, PollRefused};
@@ -43,11 +46,13 @@ pub struct Ending {
     pub lost: bool,
 }
 
-/// Serves the connection until it closed itself and a wait was over, or the run is halted. A failed write halts it: nothing is read
-/// behind it.
+/// Serves the connection until it closed itself and a wait was over, or the run is halted. A failed
+/// write halts it: nothing is read behind it.
 pub fn run<S: Source, K: Sink, V: Volumes<ServerNote>>(core: &mut OneCore<S, K, V>) -> Ending
     requires { CanRun (one_meaning S.facts K.facts V.facts) IsOpened core.old }
-    ensures leads { Leads (one_meaning S.facts K.facts V.facts) IsOpened (λ h. HasEnded result.halt result.lost h × IsWholeUntilLast (whole_of (watch_of core.new)) h) core.old core.new }
+    ensures leads { Leads (one_meaning S.facts K.facts V.facts) IsOpened
+        (λ h. HasEnded result.halt result.lost h
+        × IsWholeUntilLast (whole_of (watch_of core.new)) h) core.old core.new }
     ensures volumes { VolumesTell V.facts result.halt core.old core.new }
     ensures broken { result.halt ≡ Some Halt.Broken → is_broken (watch_of core.new) ≡ true }
     ensures whole { result.halt ≡ None → is_broken (watch_of core.new) ≡ false }
@@ -80,10 +85,14 @@ pub fn finish<S: Source, K: Sink, V: Volumes<ServerNote>>(
     core: OneCore<S, K, V>,
 ) -> Parts<ServerNote, OneNet<S>, SortedTimers, LineSink<K>, V>
     requires { CanRun (one_meaning S.facts K.facts V.facts) CanEnd core }
-    ensures ends { (t : Terms) (F : ℕ) (h : List (Entry ServerNote)) → Stands (one_meaning S.facts K.facts V.facts) t core F h → AreOfOne t → CanEnd h
-        → LeavesParts (one_meaning S.facts K.facts V.facts) t core (λ journal over. GrowsFrom 0 h journal) result }
-    ensures closed { (t : Terms) (F : ℕ) (h : List (Entry ServerNote)) (now : ℕ) (lost : Bool) → Stands (one_meaning S.facts K.facts V.facts) t core F h → AreOfOne t → IsShutAs (now ∷ []) lost h
-        → LeavesParts (one_meaning S.facts K.facts V.facts) t core (λ journal over. ClosedItself lost journal over × GrowsFrom 0 h journal) result }
+    ensures ends { (t : Terms) (F : ℕ) (h : List (Entry ServerNote))
+        → Stands (one_meaning S.facts K.facts V.facts) t core F h → AreOfOne t → CanEnd h
+        → LeavesParts (one_meaning S.facts K.facts V.facts) t core
+        (λ journal over. GrowsFrom 0 h journal) result }
+    ensures closed { (t : Terms) (F : ℕ) (h : List (Entry ServerNote)) (now : ℕ) (lost : Bool)
+        → Stands (one_meaning S.facts K.facts V.facts) t core F h → AreOfOne t
+        → IsShutAs (now ∷ []) lost h → LeavesParts (one_meaning S.facts K.facts V.facts) t core
+        (λ journal over. ClosedItself lost journal over × GrowsFrom 0 h journal) result }
     ensures volumes { result.volumes ≡ volumes_of core }
     ensures broken { is_broken (watch_of core) ≡ true → is_broken result.watch ≡ true }
     ensures later { whole_of (watch_of core) ≤ whole_of result.watch }
@@ -111,13 +120,19 @@ fn hand_over<S: Source, K: Sink, V: Volumes<ServerNote>>(
     }
 }
 
-/// Waits once: before the first turn, for the report of the connection, and once it closed itself. Then it looks whether a write
-/// failed.
+/// Waits once: before the first turn, for the report of the connection, and once it closed itself.
+/// Then it looks whether a write failed.
 fn wait<S: Source, K: Sink, V: Volumes<ServerNote>>(core: &mut OneCore<S, K, V>) -> Result<(), Halt>
-    requires { CanRun (one_meaning S.facts K.facts V.facts) (λ h. IsOpened h ⊎ IsShut [] h) core.old }
-    ensures first { OnOk result (Leads (one_meaning S.facts K.facts V.facts) IsOpened IsRead core.old core.new) }
-    ensures last { OnOk result (LeadsBy (one_meaning S.facts K.facts V.facts) (IsShut []) (λ before h. (lost : Bool) → IsShutAs [] lost before → HasEnded None lost h) core.old core.new) }
-    ensures err { OnErr result (LeadsBy (one_meaning S.facts K.facts V.facts) (λ h. IsOpened h ⊎ IsShut [] h) (λ before h. CanEnd h × GrowsFrom 0 before h) core.old core.new) }
+    requires { CanRun (one_meaning S.facts K.facts V.facts) (λ h. IsOpened h ⊎ IsShut [] h)
+        core.old }
+    ensures first { OnOk result (Leads (one_meaning S.facts K.facts V.facts) IsOpened IsRead
+        core.old core.new) }
+    ensures last { OnOk result (LeadsBy (one_meaning S.facts K.facts V.facts) (IsShut [])
+        (λ before h. (lost : Bool) → IsShutAs [] lost before → HasEnded None lost h) core.old
+        core.new) }
+    ensures err { OnErr result (LeadsBy (one_meaning S.facts K.facts V.facts)
+        (λ h. IsOpened h ⊎ IsShut [] h) (λ before h. CanEnd h × GrowsFrom 0 before h) core.old
+        core.new) }
     ensures later { whole_of (watch_of core.old) ≤ whole_of (watch_of core.new) }
     ensures volumes { VolumesTell V.facts (halted result) core.old core.new }
     ensures broken { result ≡ Err Halt.Broken → is_broken (watch_of core.new) ≡ true }
@@ -138,15 +153,18 @@ fn wait<S: Source, K: Sink, V: Volumes<ServerNote>>(core: &mut OneCore<S, K, V>)
     }
 }
 
-/// Serves the connection, turn by turn, until it closes itself, and tells whether that was for want of memory. Each turn begins with
-/// an output of which no write failed.
+/// Serves the connection, turn by turn, until it closes itself, and tells whether that was for want
+/// of memory. Each turn begins with an output of which no write failed.
 fn serve<S: Source, K: Sink, V: Volumes<ServerNote>>(
     core: &mut OneCore<S, K, V>,
 ) -> Result<bool, Halt>
     requires served { CanRun (one_meaning S.facts K.facts V.facts) IsRead core.old }
     requires whole { is_broken (watch_of core.old) ≡ false }
-    ensures ok { IfOk result (λ lost. Leads (one_meaning S.facts K.facts V.facts) IsRead (IsShutAs [] lost) core.old core.new) }
-    ensures err { OnErr result (Leads (one_meaning S.facts K.facts V.facts) IsRead (λ h. (IsRead h ⊎ IsShut [] h) × IsWholeUntilLast (whole_of (watch_of core.new)) h) core.old core.new) }
+    ensures ok { IfOk result (λ lost. Leads (one_meaning S.facts K.facts V.facts) IsRead
+        (IsShutAs [] lost) core.old core.new) }
+    ensures err { OnErr result (Leads (one_meaning S.facts K.facts V.facts) IsRead
+        (λ h. (IsRead h ⊎ IsShut [] h) × IsWholeUntilLast (whole_of (watch_of core.new)) h) core.old
+        core.new) }
     ensures volumes { VolumesTell V.facts (halted result) core.old core.new }
     ensures broken { result ≡ Err Halt.Broken → is_broken (watch_of core.new) ≡ true }
     ensures whole { OnOk result (is_broken (watch_of core.new) ≡ false) }
@@ -161,15 +179,19 @@ fn serve<S: Source, K: Sink, V: Volumes<ServerNote>>(
     unreachable!("a journal has at most 2^62 entries")
 }
 
-/// Serves one upcall, where no write failed yet. Where the connection closed itself, tells whether that was for want of memory.
+/// Serves one upcall, where no write failed yet. Where the connection closed itself, tells whether
+/// that was for want of memory.
 fn turn<S: Source, K: Sink, V: Volumes<ServerNote>>(
     core: &mut OneCore<S, K, V>,
 ) -> Result<Option<bool>, Halt>
     requires served { CanRun (one_meaning S.facts K.facts V.facts) IsRead core.old }
     requires whole { is_broken (watch_of core.old) ≡ false }
-    ensures goes { result ≡ Ok None → LeadsBy (one_meaning S.facts K.facts V.facts) IsRead ReadsOneMore core.old core.new }
-    ensures closes { (lost : Bool) → result ≡ Ok (Some lost) → Leads (one_meaning S.facts K.facts V.facts) IsRead (IsShutAs [] lost) core.old core.new }
-    ensures err { OnErr result (LeadsBy (one_meaning S.facts K.facts V.facts) IsRead TurnsOnce core.old core.new) }
+    ensures goes { result ≡ Ok None → LeadsBy (one_meaning S.facts K.facts V.facts) IsRead
+        ReadsOneMore core.old core.new }
+    ensures closes { (lost : Bool) → result ≡ Ok (Some lost)
+        → Leads (one_meaning S.facts K.facts V.facts) IsRead (IsShutAs [] lost) core.old core.new }
+    ensures err { OnErr result (LeadsBy (one_meaning S.facts K.facts V.facts) IsRead TurnsOnce
+        core.old core.new) }
     ensures later { whole_of (watch_of core.old) ≤ whole_of (watch_of core.new) }
     ensures volumes { VolumesTell V.facts (halted result) core.old core.new }
     ensures broken { result ≡ Err Halt.Broken → is_broken (watch_of core.new) ≡ true }

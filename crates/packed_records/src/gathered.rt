@@ -41,8 +41,8 @@ impl Room {
     }
 }
 
-/// Log records in order, gathered one by one: the first alone takes no memory where its message is short, and more are packed. A
-/// contract sees the list of the records.
+/// Log records in order, gathered one by one: the first alone takes no memory where its message is
+/// short, and more are packed. A contract sees the list of the records.
 #[derive(Debug, Drop)]
 pub struct GatheredRecords {
     room: Room,
@@ -60,8 +60,8 @@ impl Model for GatheredRecords {
 }
 
 impl GatheredRecords {
-    /// No records. Where they are packed, they are given room for so many whose messages have so many bytes in all. It takes no
-    /// memory.
+    /// No records. Where they are packed, they are given room for so many whose messages have so
+    /// many bytes in all. It takes no memory.
     pub fn new(alloc: Global, records: usize, bytes: usize) -> GatheredRecords
         ensures { result ≡ [] }
     {

@@ -1,5 +1,5 @@
-//! Log records with their messages packed one behind another, so that a list of them takes two allocations, however many they are,
-//! and one alone whose message is short takes none.
+//! Log records with their messages packed one behind another, so that a list of them takes two
+//! allocations, however many they are, and one alone whose message is short takes none.
 #![tactic(auto)]
 
 mod gathered;

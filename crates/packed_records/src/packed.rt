@@ -46,7 +46,8 @@ pub(crate) fn head_of(entry: RecordRef<'_>) -> Head
     }
 }
 
-/// Log records in order, whose messages stand one behind another in one list. A contract sees the list of the records.
+/// Log records in order, whose messages stand one behind another in one list. A contract sees the
+/// list of the records.
 #[derive(Debug, Drop)]
 pub struct PackedRecords {
     heads: Vec<Head>,

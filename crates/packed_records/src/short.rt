@@ -10,7 +10,8 @@ use std::slice;
 /// How many bytes a short message has at most.
 const MOST: usize = 104;
 
-/// A log record whose message has at most 104 bytes, with the message in place. It takes no memory. A contract sees the record.
+/// A log record whose message has at most 104 bytes, with the message in place. It takes no memory.
+/// A contract sees the record.
 #[derive(Debug, Drop)]
 pub struct ShortRecord {
     head: Head,

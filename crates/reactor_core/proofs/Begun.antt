@@ -1,11 +1,12 @@
 -- A reactor that begins, and one that is over.
-use Rattle.std.proofs.Common.{ℕ, ◌≡◌, ◌==◌, ◌≤◌, true, false, List, [], length, refl, sym, ap, subst, arith, Option, Some, None}
+use Rattle.std.proofs.Common.{ℕ, ◌≡◌, ◌==◌, ◌≤◌, true, false, List, [], length, refl, sym, ap}
+use Rattle.std.proofs.Common.{subst, arith, Option, Some, None}
 use Rattle.std.specs.List.{list_any}
 use Rattle.std.proofs.lemmas.List.{append-nil}
 use Rattle.ev_base.specs.Terms.{Terms}
 use Rattle.ev_base.specs.Net.{NetFacts, IsNew, HasNone}
-use Rattle.reactor_journal.specs.declared.entry.Entry.{Entry}
-use Rattle.reactor_journal.specs.Past.{past_of}
+use Rattle.reactor_model.specs.reactor_journal.specs.declared.entry.Entry.{Entry}
+use Rattle.reactor_model.specs.reactor_journal.specs.Past.{past_of}
 use Rattle.reactor_summary.specs.declared.parts.LiveHandle.{LiveHandle}
 use Rattle.reactor_summary.specs.Summary.{summary, nothing}
 use Rattle.reactor_model.specs.Handling.{Handling}
@@ -22,11 +23,13 @@ use Rattle.reactor_core.proofs.Seats.{no_seats}
 use Rattle.reactor_core.proofs.Moves.{absent}
 use Rattle.reactor_core.proofs.WaitNumbers.{marks_begin}
 
-told_none : {A : Type 0} (P : List A → Type 0) (told : Option (List A)) → P [] → HasNone told → WhereTold P told
+told_none : {A : Type 0} (P : List A → Type 0) (told : Option (List A)) → P [] → HasNone told
+    → WhereTold P told
 told_none P None p h = tt
 told_none P (Some xs) p h = subst P (sym h) p
 
-new_net : {H E N : Type 0} (means : Handling H E N) (t : Terms) (net : NetFacts E) → IsNew net → (t.steady ≡ Some true → net.steady ≡ true) → NetStands {N = N} means t [] [] net
+new_net : {H E N : Type 0} (means : Handling H E N) (t : Terms) (net : NetFacts E) → IsNew net
+    → (t.steady ≡ Some true → net.steady ≡ true) → NetStands {N = N} means t [] [] net
 new_net {N = N} means t net n steady = record {
   retired = ([], refl, told_none (λ b. b ≡ []) net.retired refl n.retired);
   turned_away = ([], refl, told_none (λ b. b ≡ []) net.turned_away refl n.turned_away);
@@ -38,11 +41,14 @@ new_net {N = N} means t net n steady = record {
   moment = omega arith;
 }
 
-taken_at_first : {N : Type 0} (t : Terms) (told : Option (List (Entry N))) → WhereTold (λ entries. (n : ℕ) → t.volumes_taken ≡ Some n → length entries ≡ n) told → WhereTold (HasTaken t 0 []) told
+taken_at_first : {N : Type 0} (t : Terms) (told : Option (List (Entry N)))
+    → WhereTold (λ entries. (n : ℕ) → t.volumes_taken ≡ Some n → length entries ≡ n) told
+    → WhereTold (HasTaken t 0 []) told
 taken_at_first t None h = tt
 taken_at_first t (Some taken) h = (taken, sym (append-nil taken), h)
 
-pub record Begins {H M Q W V N E : Type 0} (m : Meaning H M Q W V N E) (core : Core H M Q W V N E) : Type 0 where
+pub record Begins {H M Q W V N E : Type 0} (m : Meaning H M Q W V N E)
+    (core : Core H M Q W V N E) : Type 0 where
   pub few : core.most ≤ 4097
   pub first : core.first ≡ 0
   pub journal : core.journal.entries ≡ []
@@ -52,8 +58,13 @@ pub record Begins {H M Q W V N E : Type 0} (m : Meaning H M Q W V N E) (core : C
   pub repo : core.repo.entries ≡ []
   pub marks : core.marks ≡ record { made = 0; over = 0 }
 
-pub begun : {H M Q W V N E : Type 0} (m : Meaning H M Q W V N E) (t : Terms) (core : Core H M Q W V N E) → Begins m core → t.most ≡ core.most → IsNew (m.facts core.net) → (t.steady ≡ Some true → (m.facts core.net).steady ≡ true) → m.keeps t core.net → m.watched t core.watch []
-    → WhereTold (λ entries. (n : ℕ) → t.volumes_taken ≡ Some n → length entries ≡ n) (m.volumes core.volumes).taken → IsNext (m.volumes core.volumes).next 0 → Stands m t core 0 []
+pub begun : {H M Q W V N E : Type 0} (m : Meaning H M Q W V N E) (t : Terms)
+    (core : Core H M Q W V N E) → Begins m core → t.most ≡ core.most → IsNew (m.facts core.net)
+    → (t.steady ≡ Some true → (m.facts core.net).steady ≡ true) → m.keeps t core.net
+    → m.watched t core.watch []
+    → WhereTold (λ entries. (n : ℕ) → t.volumes_taken ≡ Some n → length entries ≡ n)
+    (m.volumes core.volumes).taken → IsNext (m.volumes core.volumes).next 0
+    → Stands m t core 0 []
 begun {H = H} {N = N} m t core d most fresh steady keeps watch taken next = record {
   tracks = record {
     most = sym most;
@@ -61,7 +72,8 @@ begun {H = H} {N = N} m t core d most fresh steady keeps watch taken next = reco
     legal = refl;
     journal = record { first = d.first; within = omega arith; entries = d.journal };
     state = d.state;
-    repository = λ x. subst (λ es. SeatStands {N = N} m.means t [] x (R.seat_of x es)) (sym d.repo) refl;
+    repository = λ x. subst (λ es. SeatStands {N = N} m.means t [] x (R.seat_of x es)) (sym d.repo)
+        refl;
     net = new_net m.means t (m.facts core.net) fresh steady;
     keeps = keeps;
     watch = watch;
@@ -78,5 +90,9 @@ begun {H = H} {N = N} m t core d most fresh steady keeps watch taken next = reco
   };
 }
 
-pub over_no_seat : {H M Q W V N E : Type 0} (m : Meaning H M Q W V N E) (t : Terms) (core : Core H M Q W V N E) (F : ℕ) (h : List (Entry N)) → Stands m t core F h → IsOver (summary (past_of h)) → core.repo.entries ≡ []
-over_no_seat m t core F h st o = no_seats core.repo.entries (λ x. (absent m.means t false (past_of h) x (R.seat_of x core.repo.entries) (ap (list_any (λ (a : LiveHandle). a.handle.0 == x)) o.none_live) (st.tracks.repository x)).1)
+pub over_no_seat : {H M Q W V N E : Type 0} (m : Meaning H M Q W V N E) (t : Terms)
+    (core : Core H M Q W V N E) (F : ℕ) (h : List (Entry N)) → Stands m t core F h
+    → IsOver (summary (past_of h)) → core.repo.entries ≡ []
+over_no_seat m t core F h st o = no_seats core.repo.entries
+    (λ x. (absent m.means t false (past_of h) x (R.seat_of x core.repo.entries)
+    (ap (list_any (λ (a : LiveHandle). a.handle.0 == x)) o.none_live) (st.tracks.repository x)).1)

@@ -24,3 +24,8 @@ pub mod HandingOver
 pub mod Laws
 pub mod Faults
 pub mod Marks
+pub use Rattle.reactor_summary
+pub use Rattle.laws_turns
+pub use Rattle.reactor_state
+pub use Rattle.timer_queue
+pub use Rattle.laws_turns.specs.list_lemmas

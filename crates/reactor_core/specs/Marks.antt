@@ -1,11 +1,13 @@
--- Which wait was answered last that nothing can be reported any more. A later layer asks for it by its number.
-use Rattle.std.specs.Prelude.{ℕ, ◌≡◌, ◌≤◌, ◌+◌, Bool, true, false, List, [], ◌∷◌, ◌++◌, length, Option, Some, None, option_map, Result, Ok, Err}
+-- Which wait was answered last that nothing can be reported any more. A later layer asks for it by
+-- its number.
+use Rattle.std.specs.Prelude.{ℕ, ◌≡◌, ◌≤◌, ◌+◌, Bool, true, false, List, [], ◌∷◌, ◌++◌, length}
+use Rattle.std.specs.Prelude.{Option, Some, None, option_map, Result, Ok, Err}
 use Rattle.ev_base.specs.Net.{Call, Waits, with_one}
 use Rattle.ev_base.specs.declared.net.Waited.{Waited}
 use Rattle.ev_base.specs.declared.net.Waited.TheVariants as waited
-use Rattle.reactor_journal.specs.declared.entry.Entry.{Entry}
-use Rattle.reactor_journal.specs.declared.entry.Entry.TheVariants as entry
-use Rattle.reactor_journal.specs.Past.{count}
+use Rattle.reactor_model.specs.reactor_journal.specs.declared.entry.Entry.{Entry}
+use Rattle.reactor_model.specs.reactor_journal.specs.declared.entry.Entry.TheVariants as entry
+use Rattle.reactor_model.specs.reactor_journal.specs.Past.{count}
 use Rattle.reactor_core.specs.Ends.{WhereTold}
 use Rattle.reactor_core.specs.declared.marks.WaitMarks.{WaitMarks}
 use Rattle.reactor_core.specs.declared.polling.Polled.{Polled}
@@ -48,9 +50,13 @@ pub record IsOverAt (number : ℕ) (told : List Waited) : Type 0 where
 
 -- the marks after one more wait
 abbrev pub marked : Waited → WaitMarks → WaitMarks
-marked answer marks = record { made = marks.made + 1; over = over_after (marks.made + 1) answer marks.over }
+marked answer marks = record {
+  made = marks.made + 1;
+  over = over_after (marks.made + 1) answer marks.over;
+}
 
--- the marks after a wait, by its answer, by what it found, and by what a poll answers: one that failed leaves them
+-- the marks after a wait, by its answer, by what it found, and by what a poll answers: one that
+-- failed leaves them
 abbrev pub marks_after : Waited → WaitMarks → WaitMarks
 marks_after waited.Failed marks = marks
 marks_after (waited.Reports now count) marks = marked (waited.Reports now count) marks
@@ -67,18 +73,22 @@ abbrev pub marks_polled : Result Polled PollRefused → WaitMarks → WaitMarks
 marks_polled (Ok found) marks = marks_found (Some found) marks
 marks_polled (Err refused) marks = marks
 
--- The marks stand for a past: as many waits were made as it has entries of them, and the mark is the number of one, or 0. Where
--- the net tells its calls, these are as many waits too, and the mark is the number of the last that was answered Over.
+-- The marks stand for a past: as many waits were made as it has entries of them, and the mark is
+-- the number of one, or 0. Where the net tells its calls, these are as many waits too, and the mark
+-- is the number of the last that was answered Over.
 pub record AreMarked (marks : WaitMarks) (answers : List Waited) : Type 0 where
   pub made : marks.made ≡ length answers
   pub over : marks.over ≡ last_over answers
 
-pub record MarksStand {N : Type 0} (marks : WaitMarks) (past : List (Entry N)) (answers : Option (List Waited)) : Type 0 where
+pub record MarksStand {N : Type 0} (marks : WaitMarks) (past : List (Entry N))
+    (answers : Option (List Waited)) : Type 0 where
   pub made : marks.made ≡ count is_polled past
   pub within : marks.over ≤ marks.made
   pub over : WhereTold (AreMarked marks) answers
 
 -- what an entry does to them
-abbrev pub MarksGoOn : {N : Type 0} → Entry N → WaitMarks → Option (List Waited) → WaitMarks → Option (List Waited) → Type 0
-MarksGoOn (entry.Polled moment) marks answers marks' answers' = (answer : Waited) × (marks' ≡ marked answer marks) × (answers' ≡ with_one answers answer)
+abbrev pub MarksGoOn : {N : Type 0} → Entry N → WaitMarks → Option (List Waited) → WaitMarks
+    → Option (List Waited) → Type 0
+MarksGoOn (entry.Polled moment) marks answers marks' answers' =
+    (answer : Waited) × (marks' ≡ marked answer marks) × (answers' ≡ with_one answers answer)
 MarksGoOn _ marks answers marks' answers' = (marks' ≡ marks) × (answers' ≡ answers)

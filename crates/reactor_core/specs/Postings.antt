@@ -1,9 +1,11 @@
--- What the notifications of a reactor's user append, and why they are refused (C++NPv2 chapter 4, `notify` of `ACE_Reactor`).
+-- What the notifications of a reactor's user append, and why they are refused (C++NPv2 chapter 4,
+-- `notify` of `ACE_Reactor`).
 use Rattle.std.specs.Prelude.{ℕ, ◌≡◌, ◌↔◌, true, if◌then◌else◌, Result, IsErrOf}
-use Rattle.ev_types.specs.declared.upcall.Handle.{Handle}
-use Rattle.ev_types.specs.declared.upcall.Kind.{Kind}
-use Rattle.reactor_journal.specs.declared.entry.Entry.{Entry}
-use Rattle.reactor_journal.specs.declared.entry.Entry.TheVariants.{Posted, Stale}
+use Rattle.reactor_summary.specs.ev_types.specs.declared.upcall.Handle.{Handle}
+use Rattle.reactor_summary.specs.ev_types.specs.declared.upcall.Kind.{Kind}
+use Rattle.reactor_model.specs.reactor_journal.specs.declared.entry.Entry.{Entry}
+use Rattle.reactor_model.specs.reactor_journal.specs.declared.entry.Entry.TheVariants.{Posted}
+use Rattle.reactor_model.specs.reactor_journal.specs.declared.entry.Entry.TheVariants.{Stale}
 use Rattle.reactor_summary.specs.Summary.{Summary, is_alive}
 use Rattle.reactor_state.specs.declared.places.Places.{Places}
 use Rattle.reactor_core.specs.declared.postings.PostRefused.{PostRefused}
@@ -11,7 +13,8 @@ use Rattle.reactor_core.specs.declared.postings.PostRefused.TheVariants.{Stopped
 
 -- the entry of a notification: `Posted` where its handle is alive, and else `Stale`
 abbrev pub posting : {N : Type 0} → Summary → Handle → Kind → ℕ → ℕ → Entry N
-posting s handle kind from seq = if is_alive s handle.0 then Posted handle kind from seq else Stale handle from seq
+posting s handle kind from seq = if is_alive s handle.0 then Posted handle kind from seq else Stale
+    handle from seq
 
 -- the places of one notification: the event that it is
 abbrev pub post_places : Places

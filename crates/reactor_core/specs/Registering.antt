@@ -1,12 +1,13 @@
 -- What the registration of a handler appends (C++NPv2 chapter 3, `register_handler`).
 use Rattle.std.specs.Prelude.{ℕ, ◌≡◌, ◌<◌, ◌+◌, ◌⊎◌, false, List, [], ◌∷◌, Option, Some, None}
-use Rattle.ev_types.specs.declared.upcall.Handle.{Handle}
-use Rattle.ev_types.specs.declared.upcall.Mask.{Mask}
+use Rattle.reactor_summary.specs.ev_types.specs.declared.upcall.Handle.{Handle}
+use Rattle.reactor_summary.specs.ev_types.specs.declared.upcall.Mask.{Mask}
 use Rattle.ev_base.specs.Terms.{Terms}
-use Rattle.reactor_journal.specs.declared.entry.Entry.{Entry}
-use Rattle.reactor_journal.specs.declared.entry.Entry.TheVariants.{Opened, Scheduled}
-use Rattle.reactor_journal.specs.Past.{offered_here}
-use Rattle.reactor_journal.specs.Follow.{most_handles}
+use Rattle.reactor_model.specs.reactor_journal.specs.declared.entry.Entry.{Entry}
+use Rattle.reactor_model.specs.reactor_journal.specs.declared.entry.Entry.TheVariants.{Opened}
+use Rattle.reactor_model.specs.reactor_journal.specs.declared.entry.Entry.TheVariants.{Scheduled}
+use Rattle.reactor_model.specs.reactor_journal.specs.Past.{offered_here}
+use Rattle.reactor_model.specs.reactor_journal.specs.Follow.{most_handles}
 use Rattle.reactor_summary.specs.Summary.{Summary}
 use Rattle.reactor_summary.specs.Rules.{live}
 use Rattle.reactor_model.specs.Handling.{Handling}

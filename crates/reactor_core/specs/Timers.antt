@@ -1,5 +1,5 @@
--- The timers that a reactor's user sets and takes away, and why that is refused (C++NPv2 chapter 3, `schedule_timer` and
--- `cancel_timer` of `ACE_Reactor`).
+-- The timers that a reactor's user sets and takes away, and why that is refused (C++NPv2 chapter 3,
+-- `schedule_timer` and `cancel_timer` of `ACE_Reactor`).
 use Rattle.std.specs.Prelude.{ℕ, ◌≡◌, ◌↔◌, Bool, false, ◌||◌, Result, IsErrOf}
 use Rattle.reactor_summary.specs.Summary.{Summary, is_armed, timeout_waits}
 use Rattle.reactor_state.specs.declared.places.Places.{Places}

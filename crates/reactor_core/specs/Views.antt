@@ -1,8 +1,8 @@
 -- What contracts see of a reactor, and of an upcall on its way.
 use Rattle.std.specs.Prelude.{ℕ}
-use Rattle.ev_types.specs.declared.upcall.Answer.{Answer}
-use Rattle.ev_types.specs.declared.upcall.Handle.{Handle}
-use Rattle.ev_types.specs.declared.upcall.Upcall.{Upcall}
+use Rattle.reactor_summary.specs.ev_types.specs.declared.upcall.Answer.{Answer}
+use Rattle.reactor_summary.specs.ev_types.specs.declared.upcall.Handle.{Handle}
+use Rattle.reactor_summary.specs.ev_types.specs.declared.upcall.Upcall.{Upcall}
 use Rattle.reactor_core.specs.declared.reactor.Core.{Core}
 use Rattle.reactor_core.specs.declared.marks.WaitMarks.{WaitMarks}
 use Rattle.reactor_core.specs.declared.job.Job.{Job}
@@ -29,7 +29,8 @@ marks_of core = core.marks
 abbrev pub over_of : {H M Q W V N E : Type 0} → Core H M Q W V N E → ℕ
 over_of core = core.marks.over
 
--- the event of an upcall that is to be made, with its handle, the upcall and the moment at which it was started
+-- the event of an upcall that is to be made, with its handle, the upcall and the moment at which it
+-- was started
 abbrev pub job_event : {H N E : Type 0} → Job H N E → ℕ
 job_event job = job.event
 

@@ -1,24 +1,25 @@
 //! What a turn asks for, once its upcall is settled.
 ghost use Rattle.std.specs.Prelude.{◌≡◌, ◌+◌, ◌++◌, ◌∷◌, [], None, true, false};
-ghost use Rattle.reactor_journal.specs.declared.entry.Entry.{Entry};
-ghost use Rattle.reactor_journal.specs.Past.{past_of};
+ghost use Rattle.reactor_model.specs.reactor_journal.specs.declared.entry.Entry.{Entry};
+ghost use Rattle.reactor_model.specs.reactor_journal.specs.Past.{past_of};
 ghost use Rattle.reactor_summary.specs.Summary.{summary, is_alive};
 ghost use Rattle.reactor_summary.specs.Rules.{live};
 ghost use Rattle.reactor_model.specs.Turns.{IsTimer};
 ghost use Rattle.reactor_core.specs.Rest.{LeavesButAttaches, LeavesRest};
 ghost use Rattle.reactor_core.specs.Steps.{MayTurnAway};
-ghost use Rattle.reactor_core.specs.Stands.{From, FromRoom, FromTracks, RoomWith, Somewhere, Each, Stands, StandsWith, StandsWithRoom};
+ghost use Rattle.reactor_core.specs.Stands.{From, FromRoom, FromTracks, RoomWith, Somewhere, Each};
+ghost use Rattle.reactor_core.specs.Stands.{Stands, StandsWith, StandsWithRoom};
 ghost use Rattle.reactor_core.specs.Registering.{IsOffered};
 ghost use Rattle.reactor_core.specs.Settling.{act_places};
 ghost use Rattle.reactor_core.specs.Upcalls.{DoneFits};
-ghost use Rattle.reactor_core.specs.Acting.{FitsAct, Acts, CanInstall, Installs, Settles, is_mine, is_of, mask_mine, cancel_mine};
+ghost use Rattle.reactor_core.specs.Acting.{FitsAct, Acts, CanInstall, Installs, Settles, is_mine};
+ghost use Rattle.reactor_core.specs.Acting.{is_of, mask_mine, cancel_mine};
 
 use crate::append::append;
 use crate::means::Means;
 use crate::registering::has_place;
 use crate::{Core, Done};
-use ev_base::Net;
-use ev_types::{Handle, Mask, Why};
+use ev_base::{Handle, Mask, Net, Why};
 use reactor_model::{Act, Entry, EventHandler, Turn, Volumes, Watch};
 use reactor_summary::OpenEvent;
 use timer_queue::TimerQueue;
@@ -51,9 +52,10 @@ impl<
     W: Watch<H::Note>,
     V: Volumes<H::Note>,
 > Core<H, M, Q, W, V> {
-    /// Settles an upcall that was made. The journal has `Returned`; where the handle is not alive any more its handler is closed, for
-    /// itself where its own answer ended its life and else as it was removed, and `Closed` follows; else the handler goes home. Then
-    /// the act of the turn is done. It takes no memory and cannot fail.
+    /// Settles an upcall that was made. The journal has `Returned`; where the handle is not alive
+    /// any more its handler is closed, for itself where its own answer ended its life and else as
+    /// it was removed, and `Closed` follows; else the handler goes home. Then the act of the turn
+    /// is done. It takes no memory and cannot fail.
     pub fn settle(&mut self, done: Done<H>) -> Settled
         requires stands { StandsWith ⟦<Self as Means>⟧.m
             (λ t h. DoneFits H.means t (past_of h) done) self.old }
@@ -134,7 +136,8 @@ impl<
         }
     }
 
-    /// Whether a handler that an upcall offered may be registered: the reactor was not stopped, and is not full.
+    /// Whether a handler that an upcall offered may be registered: the reactor was not stopped, and
+    /// is not full.
     fn can_install(&self) -> bool
         ensures { FromTracks ⟦<Self as Means>⟧.m None [] self.now
             (λ t F h. CanInstall t.most (summary (past_of h)) result) }

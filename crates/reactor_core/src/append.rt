@@ -1,11 +1,10 @@
 //! How an entry comes into the journal.
 ghost use Rattle.std.specs.Prelude.{◌≡◌, ◌≤◌, ◌+◌, ◌++◌, ◌∷◌, [], List};
 ghost use Rattle.ev_base.specs.Terms.{Terms};
-ghost use Rattle.reactor_journal.specs.declared.entry.Entry.{Entry};
+ghost use Rattle.reactor_model.specs.reactor_journal.specs.declared.entry.Entry.{Entry};
 ghost use Rattle.reactor_core.specs.Rest.{WatchGoesOn};
 
-use reactor_journal::{Entry, Journal};
-use reactor_model::Watch;
+use reactor_model::{Entry, Journal, Watch};
 
 /// Shows an entry to the watch, and appends it. It takes no memory.
 pub(crate) fn append<N, W: Watch<N>>(journal: &mut Journal<N>, watch: &mut W, entry: Entry<N>)

@@ -1,6 +1,6 @@
 //! The closing of a handler.
 ghost use Rattle.std.specs.Prelude.{◌≤◌, ◌++◌, ◌∷◌, [], None};
-ghost use Rattle.reactor_journal.specs.declared.entry.Entry.{Entry};
+ghost use Rattle.reactor_model.specs.reactor_journal.specs.declared.entry.Entry.{Entry};
 ghost use Rattle.reactor_core.specs.Rest.{LeavesRest};
 ghost use Rattle.reactor_core.specs.Stands.{Somewhere, Each, Tracks, SpendsRoom};
 ghost use Rattle.reactor_core.specs.Steps.{MayClose};
@@ -8,8 +8,7 @@ ghost use Rattle.reactor_core.specs.Steps.{MayClose};
 use crate::Core;
 use crate::append::append;
 use crate::means::Means;
-use ev_base::Net;
-use ev_types::{Handle, Why};
+use ev_base::{Handle, Net, Why};
 use handler_repo::Placed;
 use reactor_model::{Entry, EventHandler, Volumes, Watch};
 use timer_queue::TimerQueue;
@@ -21,7 +20,8 @@ impl<
     W: Watch<H::Note>,
     V: Volumes<H::Note>,
 > Core<H, M, Q, W, V> {
-    /// Closes the handler in hand, whose handle waits for its close, and retires its end. It takes no memory.
+    /// Closes the handler in hand, whose handle waits for its close, and retires its end. It takes
+    /// no memory.
     pub(crate) fn close_handler(&mut self, handle: Handle, handler: Placed<H>, why: Why)
         requires may { Somewhere (MayClose ⟦<Self as Means>⟧.m handle handler why) self.old }
         requires room { 1 ≤ self.old.journal.spare }

@@ -1,15 +1,17 @@
 //! An upcall on its way: out to its event handler, and back.
 ghost use Rattle.std.specs.Prelude.{◌≡◌, List};
 ghost use Rattle.ev_base.specs.Terms.{Terms};
-ghost use Rattle.reactor_journal.specs.declared.entry.Entry.{Entry};
+ghost use Rattle.reactor_model.specs.reactor_journal.specs.declared.entry.Entry.{Entry};
 ghost use Rattle.reactor_core.specs.Upcalls.{JobFits, DoneFits, IsRunOf};
-ghost use Rattle.reactor_core.specs.Views.{job_event, job_handle, job_upcall, job_moment, done_event, done_handle, done_answer, done_note};
+ghost use Rattle.reactor_core.specs.Views.{job_event, job_handle, job_upcall, job_moment};
+ghost use Rattle.reactor_core.specs.Views.{done_event, done_handle, done_answer, done_note};
 
-use ev_types::{Answer, Handle, Upcall};
+use ev_base::{Answer, Handle, Upcall};
 use handler_repo::Placed;
 use reactor_model::{EventHandler, Turn};
 
-/// An upcall that is to be made. It owns the event handler, so no other thread can call that handler meanwhile.
+/// An upcall that is to be made. It owns the event handler, so no other thread can call that
+/// handler meanwhile.
 pub struct Job<H: EventHandler> {
     pub(crate) event: u64,
     pub(crate) handle: Handle,
@@ -57,8 +59,9 @@ impl<H: EventHandler> Job<H> {
         self.now
     }
 
-    /// Makes the upcall at the moment at which it was started (C++NPv2 chapter 3, `handle_input` and its fellows). Whatever journal
-    /// the job fits, what comes back fits it too: the handler has had one turn more, and its act is one that the turn may carry.
+    /// Makes the upcall at the moment at which it was started (C++NPv2 chapter 3, `handle_input`
+    /// and its fellows). Whatever journal the job fits, what comes back fits it too: the handler
+    /// has had one turn more, and its act is one that the turn may carry.
     #[inline(always)]
     pub fn run(self) -> Done<H>
         ensures fits { (t : Terms) (past : List (Entry H.Note)) → JobFits H.means t past self

@@ -1,4 +1,5 @@
-//! The one-thread reactor (POSA2, Reactor: Initiation Dispatcher; C++NPv2 chapter 3, `ACE_Reactor`).
+//! The one-thread reactor (POSA2, Reactor: Initiation Dispatcher; C++NPv2 chapter 3,
+//! `ACE_Reactor`).
 #![tactic(auto, using(crate::proofs::Frames::rest_goes_on))]
 
 mod acting;

@@ -4,7 +4,8 @@ ghost use Rattle.reactor_core.specs.Marks.{marked};
 
 use ev_base::Waited;
 
-/// The waits that did not fail: how many there were, and the number, from 1, of the last that was answered `Over`, or 0.
+/// The waits that did not fail: how many there were, and the number, from 1, of the last that was
+/// answered `Over`, or 0.
 #[derive(Clone, Copy, PartialEq, Eq, Debug)]
 pub struct WaitMarks {
     pub(crate) made: u64,

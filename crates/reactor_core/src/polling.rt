@@ -1,27 +1,30 @@
 //! The wait for events, and their entries.
-ghost use Rattle.std.specs.Prelude.{◌≡◌, ◌≤◌, ◌<◌, ◌+◌, ◌++◌, ◌↔◌, ℕ, List, map, filter, length, true, None, OnOk, OnErr, IfOk, IfSome, IfNone};
+ghost use Rattle.std.specs.Prelude.{◌≡◌, ◌≤◌, ◌<◌, ◌+◌, ◌++◌, ◌↔◌, ℕ, List, map, filter, length};
+ghost use Rattle.std.specs.Prelude.{true, None, OnOk, OnErr, IfOk, IfSome, IfNone};
 ghost use Rattle.ev_base.specs.Counts.{Rose};
 ghost use Rattle.ev_base.specs.Net.{NetWaits, FailsToWait};
 ghost use Rattle.ev_base.specs.Terms.{Terms};
 ghost use Rattle.ev_base.specs.declared.net.Report.{Report};
-ghost use Rattle.reactor_journal.specs.declared.entry.Entry.{Entry};
-ghost use Rattle.reactor_journal.specs.Past.{past_of, count};
+ghost use Rattle.reactor_model.specs.reactor_journal.specs.declared.entry.Entry.{Entry};
+ghost use Rattle.reactor_model.specs.reactor_journal.specs.Past.{past_of, count};
 ghost use Rattle.reactor_summary.specs.Summary.{Summary, summary};
 ghost use Rattle.reactor_core.specs.Calls.{least_limit, is_taken};
 ghost use Rattle.reactor_core.specs.Rest.{LeavesRest, CountsHold};
 ghost use Rattle.reactor_core.specs.Refusals.{NetFails, LeavesPoll};
-ghost use Rattle.reactor_core.specs.Stands.{From, Somewhere, Each, Stands, StandsWith, StandsAsBefore, Keeps, HasRoom};
+ghost use Rattle.reactor_core.specs.Stands.{From, Somewhere, Each, Stands, StandsWith};
+ghost use Rattle.reactor_core.specs.Stands.{StandsAsBefore, Keeps, HasRoom};
 ghost use Rattle.reactor_core.specs.Views.{net_of, volumes_of, marks_of, over_of};
 ghost use Rattle.reactor_core.specs.Marks.{is_polled, marks_after, marks_found, marks_polled};
 ghost use Rattle.reactor_core.specs.Polling.{FitsLimit, name_of, ready_of, Polls, WaitsOnce};
-ghost use Rattle.reactor_core.specs.Taking.{moment_of, count_of, event_places, MayWait, WaitGives, IsTakingDues, TakesDues, IsTakingReports, HasTakenReports};
+ghost use Rattle.reactor_core.specs.Taking.{moment_of, count_of, event_places, MayWait, WaitGives};
+ghost use Rattle.reactor_core.specs.Taking.{IsTakingDues, TakesDues, IsTakingReports};
+ghost use Rattle.reactor_core.specs.Taking.{HasTakenReports};
 
 use crate::Core;
 use crate::append::append;
 use crate::marks::marked;
 use crate::means::Means;
-use ev_base::{Net, Waited};
-use ev_types::NoMemory;
+use ev_base::{MOST_REPORTS, Net, NoMemory, Waited};
 use reactor_model::{Entry, EventHandler, Volumes, Watch};
 use reactor_state::Places;
 use timer_queue::TimerQueue;
@@ -47,9 +50,6 @@ pub enum PollRefused {
     /// The wait failed, and the net's count of failed waits rose.
     NetFailed,
 }
-
-/// How many reports a wait has at most.
-const MOST_REPORTS: usize = 256;
 
 /// The lesser of two limits, where None is no limit.
 fn least_limit(limit: Option<u64>, other: Option<u64>) -> Option<u64>
@@ -103,15 +103,18 @@ impl<
     W: Watch<H::Note>,
     V: Volumes<H::Note>,
 > Core<H, M, Q, W, V> {
-    /// Waits once for reports, at most `most_ms` milliseconds and no longer than to the earliest deadline; None is no limit
-    /// (C++NPv2 chapter 3, `ACE_Reactor::handle_events`; POSA2, Reactor). The journal has more entries: `Polled`, a `Due` for each
-    /// timer whose deadline is reached, in order, and a `Ready` for each report whose handle is alive and whose kind is in its
-    /// mask, in the order of the reports, of which there are at most 256. The answer says what the wait found. Where that is `Over`,
-    /// `over` tells from then on how many waits there were with this one, as many as the whole history has `Polled`.
+    /// Waits once for reports, at most `most_ms` milliseconds and no longer than to the earliest
+    /// deadline; None is no limit (C++NPv2 chapter 3, `ACE_Reactor::handle_events`; POSA2,
+    /// Reactor). The journal has more entries: `Polled`, a `Due` for each timer whose deadline is
+    /// reached, in order, and a `Ready` for each report whose handle is alive and whose kind is in
+    /// its mask, in the order of the reports, of which there are at most 256. The answer says what
+    /// the wait found. Where that is `Over`, `over` tells from then on how many waits there were
+    /// with this one, as many as the whole history has `Polled`.
     ///
-    /// `Stopped` comes exactly where the reactor was stopped. `NoMemory` comes where there was no memory for the entries and
-    /// events that a wait may bring, and leaves all as it was but the room. `NetFailed` comes only where the net's count of failed
-    /// waits rose: one wait was made, which failed. After each Err the journal, the handlers and the timers are as before.
+    /// `Stopped` comes exactly where the reactor was stopped. `NoMemory` comes where there was no
+    /// memory for the entries and events that a wait may bring, and leaves all as it was but the
+    /// room. `NetFailed` comes only where the net's count of failed waits rose: one wait was made,
+    /// which failed. After each Err the journal, the handlers and the timers are as before.
     pub fn poll(&mut self, most_ms: Option<u64>) -> Result<Polled, PollRefused>
         requires stands { StandsWith ⟦<Self as Means>⟧.m (λ t h. FitsLimit t most_ms) self.old }
         ensures ok { IfOk result (λ polled. From ⟦<Self as Means>⟧.m self.old
@@ -169,7 +172,8 @@ impl<
         )
     }
 
-    /// Makes one wait, with so many armed timers, and appends its entries. None comes exactly where the wait failed.
+    /// Makes one wait, with so many armed timers, and appends its entries. None comes exactly where
+    /// the wait failed.
     fn take_events(&mut self, limit: Option<u64>, armed: usize) -> Option<Polled>
         requires may { Somewhere (MayWait ⟦<Self as Means>⟧.m armed limit) self.old }
         ensures waits { IfSome result (λ polled.
@@ -215,7 +219,8 @@ impl<
         answer
     }
 
-    /// Appends a `Due` for each timer whose deadline is reached, of which there are at most so many.
+    /// Appends a `Due` for each timer whose deadline is reached, of which there are at most so
+    /// many.
     fn take_dues(&mut self, most: usize)
         requires taking { (t : Terms) × (F : ℕ) × (h : List (Entry H.Note)) × (s : Summary)
             × (events : ℕ) × (pending : List Report)

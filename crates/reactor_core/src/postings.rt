@@ -1,20 +1,20 @@
 //! Notifications that are posted to event handlers.
 ghost use Rattle.std.specs.Prelude.{◌≡◌, ◌<◌, ◌+◌, ◌-◌, ◌++◌, ◌∷◌, [], OnOk, OnErr, false};
-ghost use Rattle.reactor_journal.specs.declared.entry.Entry.{Entry};
-ghost use Rattle.reactor_journal.specs.Past.{past_of};
+ghost use Rattle.reactor_model.specs.reactor_journal.specs.declared.entry.Entry.{Entry};
+ghost use Rattle.reactor_model.specs.reactor_journal.specs.Past.{past_of};
 ghost use Rattle.reactor_summary.specs.Summary.{summary};
 ghost use Rattle.reactor_core.specs.Rest.{LeavesRest};
 ghost use Rattle.reactor_core.specs.Refusals.{LeavesPosting};
 ghost use Rattle.reactor_core.specs.Views.{net_of};
-ghost use Rattle.reactor_core.specs.Stands.{From, Stands, IsStanding, StandsWith, StandsAsBefore, HasRoom, Keeps};
+ghost use Rattle.reactor_core.specs.Stands.{From, Stands, IsStanding, StandsWith, StandsAsBefore};
+ghost use Rattle.reactor_core.specs.Stands.{HasRoom, Keeps};
 ghost use Rattle.reactor_core.specs.Requests.{GoesOnBy, WhereStanding};
 ghost use Rattle.reactor_core.specs.Postings.{posting, post_places, IsPostAnswer};
 
 use crate::Core;
 use crate::append::append;
 use crate::means::Means;
-use ev_base::Net;
-use ev_types::{Handle, Kind, NoMemory};
+use ev_base::{Handle, Kind, Net, NoMemory};
 use reactor_model::{Entry, EventHandler, Volumes, Watch};
 use reactor_state::Places;
 use timer_queue::TimerQueue;
@@ -44,9 +44,10 @@ impl<
     W: Watch<H::Note>,
     V: Volumes<H::Note>,
 > Core<H, M, Q, W, V> {
-    /// Posts a notification to the handler of a handle (ACE's `notify`). `from` is the poster's number, and `seq` its own number
-    /// for the notification, from 0. The journal has one more entry: `Posted` where the handle is alive, and else `Stale`.
-    /// `Stopped` comes exactly where the reactor was stopped; after a refusal nothing has changed but, with `NoMemory`, the room.
+    /// Posts a notification to the handler of a handle (ACE's `notify`). `from` is the poster's
+    /// number, and `seq` its own number for the notification, from 0. The journal has one more
+    /// entry: `Posted` where the handle is alive, and else `Stale`. `Stopped` comes exactly where
+    /// the reactor was stopped; after a refusal nothing has changed but, with `NoMemory`, the room.
     pub fn post(
         &mut self,
         handle: Handle,
@@ -73,8 +74,8 @@ impl<
         Ok(())
     }
 
-    /// Makes room for one notification, beside what is owed. Nothing changes but the room: after `NoMemory` there is no less of it
-    /// than before.
+    /// Makes room for one notification, beside what is owed. Nothing changes but the room: after
+    /// `NoMemory` there is no less of it than before.
     pub fn reserve_post(&mut self) -> Result<(), NoMemory>
         ensures kept { Keeps ⟦<Self as Means>⟧.m self.old self.new }
         ensures stands { StandsAsBefore ⟦<Self as Means>⟧.m self.old self.new }
@@ -85,8 +86,8 @@ impl<
         self.make_room(1, POST_PLACES)
     }
 
-    /// Posts a notification for which there is room, while the reactor was not stopped. It appends what `post` appends, uses that
-    /// room, takes no memory and leaves the net alone.
+    /// Posts a notification for which there is room, while the reactor was not stopped. It appends
+    /// what `post` appends, uses that room, takes no memory and leaves the net alone.
     pub fn post_reserved(&mut self, handle: Handle, kind: Kind, from: u64, seq: u64)
         requires stands { StandsWith ⟦<Self as Means>⟧.m (λ t h.
             HasRoom ⟦<Self as Means>⟧.m 1 post_places self.old (summary (past_of h))

@@ -2,7 +2,7 @@
 ghost use Rattle.std.specs.Prelude.{◌≡◌, ◌≤◌, ℕ, [], IfOk, IfErr, true, drop, Some};
 ghost use Rattle.ev_base.specs.Counts.{Rose};
 ghost use Rattle.ev_base.specs.Terms.{Terms};
-ghost use Rattle.reactor_journal.specs.Past.{past_of};
+ghost use Rattle.reactor_model.specs.reactor_journal.specs.Past.{past_of};
 ghost use Rattle.reactor_summary.specs.Summary.{summary};
 ghost use Rattle.reactor_model.specs.Volumes.{BeginsJournal};
 ghost use Rattle.reactor_core.specs.Views.{volume_of, net_of, watch_of, volumes_of, over_of};
@@ -13,20 +13,19 @@ ghost use Rattle.reactor_core.specs.Beginning.{CanBegin, IsOver, PartsStand};
 
 use crate::marks::WaitMarks;
 use crate::means::Means;
-use ev_base::Net;
-use ev_types::NoMemory;
+use ev_base::{Net, NoMemory};
 use handler_repo::PlacedRepo;
-use reactor_journal::Journal;
-use reactor_model::{EventHandler, Volumes, Watch};
+use reactor_model::{EventHandler, Journal, Volumes, Watch};
 use reactor_state::ReactorState;
 use std::alloc::Global;
 use timer_queue::TimerQueue;
 
-/// A reactor that one thread at a time calls (POSA2, Reactor: Initiation Dispatcher; C++NPv2 chapter 3, `ACE_Reactor`): it waits for
-/// what its net, its timers and its posters report, records each as an event in its journal, and dispatches the events to the
-/// handlers one by one.
+/// A reactor that one thread at a time calls (POSA2, Reactor: Initiation Dispatcher; C++NPv2
+/// chapter 3, `ACE_Reactor`): it waits for what its net, its timers and its posters report, records
+/// each as an event in its journal, and dispatches the events to the handlers one by one.
 ///
-/// It hands out each upcall as a job, so that its caller chooses when and where it runs, and takes it back to be settled.
+/// It hands out each upcall as a job, so that its caller chooses when and where it runs, and takes
+/// it back to be settled.
 pub struct Core<
     H: EventHandler,
     M: Net<End = H::End>,
@@ -71,9 +70,10 @@ impl<
     W: Watch<H::Note>,
     V: Volumes<H::Note>,
 > Core<H, M, Q, W, V> {
-    /// A reactor for at most so many live handlers, from 1 to 4,097, which hands its journal over in volumes of at least so many
-    /// entries, from 1. Its timer queue is empty, its watch has seen nothing, and its net has made no call. The volumes begin another
-    /// journal. With `NoMemory` all comes back as it was.
+    /// A reactor for at most so many live handlers, from 1 to 4,097, which hands its journal over
+    /// in volumes of at least so many entries, from 1. Its timer queue is empty, its watch has seen
+    /// nothing, and its net has made no call. The volumes begin another journal. With `NoMemory`
+    /// all comes back as it was.
     pub fn new(
         alloc: Global,
         most: u64,
@@ -161,8 +161,8 @@ impl<
         self.watch.broken()
     }
 
-    /// The number, from 1, of the last wait that was answered `Over`, or 0 where there was none. The n-th wait that did not fail has
-    /// the n-th `Polled` of the journal.
+    /// The number, from 1, of the last wait that was answered `Over`, or 0 where there was none.
+    /// The n-th wait that did not fail has the n-th `Polled` of the journal.
     pub fn over(&self) -> u64
         ensures mark { result ≡ over_of self.now }
         ensures there { From ⟦<Self as Means>⟧.m self.now (λ t F h. 1 ≤ result
@@ -172,10 +172,11 @@ impl<
         self.marks.over
     }
 
-    /// Takes apart a reactor that was stopped and whose handlers were all closed. The net, the watch and the volumes are its own, so
-    /// their counts of faults are those of its last call.
+    /// Takes apart a reactor that was stopped and whose handlers were all closed. The net, the
+    /// watch and the volumes are its own, so their counts of faults are those of its last call.
     pub fn into_parts(self) -> Parts<H::Note, M, Q, W, V>
-        requires stands { StandsWith ⟦<Self as Means>⟧.m (λ t h. IsOver (summary (past_of h))) self }
+        requires stands { StandsWith ⟦<Self as Means>⟧.m (λ t h. IsOver (summary (past_of h)))
+            self }
         ensures stands { From ⟦<Self as Means>⟧.m self
             (λ t F h. PartsStand ⟦<Self as Means>⟧.m Q.timers t F h result) }
         ensures net { result.net ≡ net_of self }

@@ -1,7 +1,8 @@
 //! The registration of handlers.
-ghost use Rattle.std.specs.Prelude.{nat_lt, ◌&&◌, ◌≡◌, ◌≤◌, ◌+◌, ◌-◌, ◌++◌, ◌∷◌, [], true, false, None, IfOk, IfErr};
-ghost use Rattle.reactor_journal.specs.declared.entry.Entry.{Entry};
-ghost use Rattle.reactor_journal.specs.Past.{past_of};
+ghost use Rattle.std.specs.Prelude.{nat_lt, ◌&&◌, ◌≡◌, ◌≤◌, ◌+◌, ◌-◌, ◌++◌, ◌∷◌, [], true, false};
+ghost use Rattle.std.specs.Prelude.{None, IfOk, IfErr};
+ghost use Rattle.reactor_model.specs.reactor_journal.specs.declared.entry.Entry.{Entry};
+ghost use Rattle.reactor_model.specs.reactor_journal.specs.Past.{past_of};
 ghost use Rattle.reactor_summary.specs.Summary.{summary, is_alive};
 ghost use Rattle.reactor_model.specs.Turns.{IsTimer};
 ghost use Rattle.reactor_state.specs.declared.places.Places.{Places};
@@ -9,15 +10,15 @@ ghost use Rattle.reactor_state.specs.State.{HasNumber, HasPlaces, no_places};
 ghost use Rattle.reactor_core.specs.Rest.{LeavesButAttaches, LeavesRest};
 ghost use Rattle.reactor_core.specs.Refusals.{LeavesAdmission, LeavesOffer};
 ghost use Rattle.reactor_core.specs.Steps.{MayAdmit, MayOpen};
-ghost use Rattle.reactor_core.specs.Stands.{From, FromTracks, Somewhere, Each, Tracks, TracksWith, StandsWith};
+ghost use Rattle.reactor_core.specs.Stands.{From, FromTracks, Somewhere, Each, Tracks, TracksWith};
+ghost use Rattle.reactor_core.specs.Stands.{StandsWith};
 ghost use Rattle.reactor_core.specs.Registering.{IsOffered, registered};
 ghost use Rattle.reactor_core.specs.Offering.{TakesHandle, ComesBack, RegisterGives, AdmitGives};
 
 use crate::Core;
 use crate::append::append;
 use crate::means::Means;
-use ev_base::Net;
-use ev_types::{Handle, Mask};
+use ev_base::{Handle, Mask, Net};
 use reactor_model::{Entry, EventHandler, Volumes, Watch};
 use reactor_state::Places;
 use timer_queue::TimerQueue;
@@ -43,7 +44,8 @@ pub enum RegisterRefused {
 /// How many handles a reactor opens at most.
 const MOST_HANDLES: u64 = 4_294_967_295;
 
-/// How many entries a registration takes room for: its own two, and the two that an alive handle owes.
+/// How many entries a registration takes room for: its own two, and the two that an alive handle
+/// owes.
 const REGISTER_ENTRIES: usize = 4;
 
 /// The places that it takes: that of a handle, and that of its timer.
@@ -69,11 +71,13 @@ impl<
     W: Watch<H::Note>,
     V: Volumes<H::Note>,
 > Core<H, M, Q, W, V> {
-    /// Registers a handler (ACE's `register_handler`), with the reports that it wants and, where one is given, a timer: its first
-    /// delay, from 1 to 4,294,967,295 milliseconds, and its period, 0 for once. The journal has `Opened`, and `Scheduled` for the
-    /// timer. With each refusal the handler that was offered comes back, and all is as it was, but that after `NoMemory` there may be
-    /// more room. `Stopped` comes exactly where the reactor was stopped; `Full` exactly where it was not, and as many handlers are
-    /// live as may be or 4,294,967,295 were registered; `NetFailed` only where the net failed to attach its end. That was tried
+    /// Registers a handler (ACE's `register_handler`), with the reports that it wants and, where
+    /// one is given, a timer: its first delay, from 1 to 4,294,967,295 milliseconds, and its
+    /// period, 0 for once. The journal has `Opened`, and `Scheduled` for the timer. With each
+    /// refusal the handler that was offered comes back, and all is as it was, but that after
+    /// `NoMemory` there may be more room. `Stopped` comes exactly where the reactor was stopped;
+    /// `Full` exactly where it was not, and as many handlers are live as may be or 4,294,967,295
+    /// were registered; `NetFailed` only where the net failed to attach its end. That was tried
     /// once: the net's count of failed attaches rose, and the handler fits what it fitted before.
     pub fn register(
         &mut self,
@@ -134,8 +138,8 @@ impl<
         }
     }
 
-    /// Registers a handler for which there is room: its end is attached, and the journal has `Opened`. Where the net cannot take
-    /// the end the handler comes back.
+    /// Registers a handler for which there is room: its end is attached, and the journal has
+    /// `Opened`. Where the net cannot take the end the handler comes back.
     fn open_handler(&mut self, handler: H, mask: Mask) -> Result<Handle, H>
         requires may { Somewhere (MayOpen ⟦<Self as Means>⟧.m handler) self.old }
         requires journal { 1 ≤ self.old.journal.spare }
@@ -168,7 +172,8 @@ impl<
         Ok(handle)
     }
 
-    /// Sets a timer of a handle that is alive: its first delay, from 1, and its period in milliseconds, 0 for once.
+    /// Sets a timer of a handle that is alive: its first delay, from 1, and its period in
+    /// milliseconds, 0 for once.
     pub(crate) fn arm(&mut self, handle: Handle, delay: u64, every: u64) -> u64
         requires tracks { TracksWith ⟦<Self as Means>⟧.m None []
             (λ t h. HasNumber (summary (past_of h))) self.old }

@@ -1,16 +1,16 @@
 //! The removal of a handler, and the end.
 ghost use Rattle.std.specs.Prelude.{◌≡◌, [], true, false, OnOk, OnErr, IsErr, ◌↔◌};
-ghost use Rattle.reactor_journal.specs.Past.{past_of};
+ghost use Rattle.reactor_model.specs.reactor_journal.specs.Past.{past_of};
 ghost use Rattle.reactor_summary.specs.Summary.{summary, is_alive};
 ghost use Rattle.reactor_core.specs.Rest.{LeavesRest};
 ghost use Rattle.reactor_core.specs.Stands.{From, FromQuiet, IsStanding, QuietWith};
-ghost use Rattle.reactor_core.specs.Removing.{Removes, RemovesQuietly, RemovesFirst, RemovesAll, StopsOnce, alive_handles};
+ghost use Rattle.reactor_core.specs.Removing.{Removes, RemovesQuietly, RemovesFirst, RemovesAll};
+ghost use Rattle.reactor_core.specs.Removing.{StopsOnce, alive_handles};
 
 use crate::Core;
 use crate::append::append;
 use crate::means::Means;
-use ev_base::Net;
-use ev_types::{Handle, Why};
+use ev_base::{Handle, Net, Why};
 use reactor_model::{Entry, EventHandler, Volumes, Watch};
 use timer_queue::TimerQueue;
 
@@ -25,9 +25,9 @@ impl<
     W: Watch<H::Note>,
     V: Volumes<H::Note>,
 > Core<H, M, Q, W, V> {
-    /// Removes a handler (ACE's `remove_handler`). The journal has `Removed`; where the handler is not out for an upcall it is
-    /// closed at once, and `Closed` follows. It takes no memory. `NotLive` comes exactly where the handle is not alive, and
-    /// leaves all as it was.
+    /// Removes a handler (ACE's `remove_handler`). The journal has `Removed`; where the handler is
+    /// not out for an upcall it is closed at once, and `Closed` follows. It takes no memory.
+    /// `NotLive` comes exactly where the handle is not alive, and leaves all as it was.
     pub fn remove(&mut self, handle: Handle) -> Result<(), NotLive>
         requires stands { IsStanding ⟦<Self as Means>⟧.m self.old }
         ensures not_live { From ⟦<Self as Means>⟧.m self.old (λ t F h.
@@ -65,8 +65,9 @@ impl<
         self.close_handler(handle, handler, Why::Removed);
     }
 
-    /// Stops the reactor: the journal has `Ended`, and each handler whose handle is alive is removed, in rising order. It takes no
-    /// memory, and does nothing where the reactor was stopped before.
+    /// Stops the reactor: the journal has `Ended`, and each handler whose handle is alive is
+    /// removed, in rising order. It takes no memory, and does nothing where the reactor was stopped
+    /// before.
     pub fn stop(&mut self)
         requires stands { IsStanding ⟦<Self as Means>⟧.m self.old }
         ensures stands { From ⟦<Self as Means>⟧.m self.old (λ t F h.

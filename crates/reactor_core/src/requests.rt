@@ -1,16 +1,16 @@
 //! What a user asks of a handle: to suspend it, to resume it, and to change its mask.
 ghost use Rattle.std.specs.Prelude.{◌≡◌, ◌<◌, OnOk, OnErr, true, false};
-ghost use Rattle.reactor_journal.specs.declared.entry.Entry.{Entry};
+ghost use Rattle.reactor_model.specs.reactor_journal.specs.declared.entry.Entry.{Entry};
 ghost use Rattle.reactor_core.specs.Rest.{LeavesRest};
 ghost use Rattle.reactor_core.specs.Refusals.{LeavesState, LeavesLive};
 ghost use Rattle.reactor_core.specs.Stands.{IsStanding, StandsAsBefore};
-ghost use Rattle.reactor_core.specs.Requests.{GoesOnBy, WhereStanding, suspension, IsStateAnswer, IsLiveAnswer};
+ghost use Rattle.reactor_core.specs.Requests.{GoesOnBy, WhereStanding, suspension, IsStateAnswer};
+ghost use Rattle.reactor_core.specs.Requests.{IsLiveAnswer};
 
 use crate::Core;
 use crate::append::append;
 use crate::means::Means;
-use ev_base::Net;
-use ev_types::{Handle, Mask};
+use ev_base::{Handle, Mask, Net};
 use reactor_model::{Entry, EventHandler, Volumes, Watch};
 use reactor_state::Places;
 use timer_queue::TimerQueue;
@@ -51,10 +51,10 @@ impl<
     W: Watch<H::Note>,
     V: Volumes<H::Note>,
 > Core<H, M, Q, W, V> {
-    /// Suspends a handle: from now on none of its events is started, while reports and timeouts of it still wait
-    /// (ACE's `suspend_handler`). The journal has one more entry, `Suspended`. `NotLive` comes exactly where the handle is not
-    /// alive, and `Same` exactly where it is alive and suspended already; after a refusal nothing has changed but, with `NoMemory`,
-    /// the room.
+    /// Suspends a handle: from now on none of its events is started, while reports and timeouts of
+    /// it still wait (ACE's `suspend_handler`). The journal has one more entry, `Suspended`.
+    /// `NotLive` comes exactly where the handle is not alive, and `Same` exactly where it is alive
+    /// and suspended already; after a refusal nothing has changed but, with `NoMemory`, the room.
     pub fn suspend(&mut self, handle: Handle) -> Result<(), StateRefused>
         requires stands { IsStanding ⟦<Self as Means>⟧.m self.old }
         ensures ok { OnOk result (GoesOnBy ⟦<Self as Means>⟧.m self.old
@@ -83,9 +83,10 @@ impl<
         Ok(())
     }
 
-    /// Ends the suspension of a handle (ACE's `resume_handler`): what waited for it may be started again. The journal has one more
-    /// entry, `Resumed`. `NotLive` comes exactly where the handle is not alive, and `Same` exactly where it is alive and not
-    /// suspended; after a refusal nothing has changed but, with `NoMemory`, the room.
+    /// Ends the suspension of a handle (ACE's `resume_handler`): what waited for it may be started
+    /// again. The journal has one more entry, `Resumed`. `NotLive` comes exactly where the handle
+    /// is not alive, and `Same` exactly where it is alive and not suspended; after a refusal
+    /// nothing has changed but, with `NoMemory`, the room.
     pub fn resume(&mut self, handle: Handle) -> Result<(), StateRefused>
         requires stands { IsStanding ⟦<Self as Means>⟧.m self.old }
         ensures ok { OnOk result (GoesOnBy ⟦<Self as Means>⟧.m self.old
@@ -128,9 +129,10 @@ impl<
         }
     }
 
-    /// Changes which reports an alive handle wants (ACE's `mask_ops`); the net is told the new mask, and reports that wait and are
-    /// of a kind that it lacks are dropped. The journal has one more entry, `Masked`. `NotLive` comes exactly where the handle is
-    /// not alive; after a refusal nothing has changed but, with `NoMemory`, the room.
+    /// Changes which reports an alive handle wants (ACE's `mask_ops`); the net is told the new
+    /// mask, and reports that wait and are of a kind that it lacks are dropped. The journal has one
+    /// more entry, `Masked`. `NotLive` comes exactly where the handle is not alive; after a refusal
+    /// nothing has changed but, with `NoMemory`, the room.
     pub fn set_mask(&mut self, handle: Handle, mask: Mask) -> Result<(), LiveRefused>
         requires stands { IsStanding ⟦<Self as Means>⟧.m self.old }
         ensures ok { OnOk result (GoesOnBy ⟦<Self as Means>⟧.m self.old

@@ -1,14 +1,13 @@
 //! Room for what a call appends, and for what is owed.
 ghost use Rattle.std.specs.Prelude.{◌≡◌, ◌≤◌, ◌+◌, ◌<◌, ◌^◌, max, OnOk, IfSome, IfNone};
-ghost use Rattle.reactor_journal.specs.Past.{past_of};
+ghost use Rattle.reactor_model.specs.reactor_journal.specs.Past.{past_of};
 ghost use Rattle.reactor_summary.specs.Summary.{summary};
 ghost use Rattle.reactor_core.specs.Rest.{LeavesRest};
 ghost use Rattle.reactor_core.specs.Stands.{From, Keeps, HasRoom, places_for};
 
 use crate::Core;
 use crate::means::Means;
-use ev_base::Net;
-use ev_types::NoMemory;
+use ev_base::{Net, NoMemory};
 use reactor_model::{EventHandler, Volumes, Watch};
 use reactor_state::Places;
 use timer_queue::TimerQueue;
@@ -16,7 +15,8 @@ use timer_queue::TimerQueue;
 /// How many entries a history has at most.
 pub(crate) const MOST_ENTRIES: u64 = 1 << 62;
 
-/// Places for so many more beside those for the open events, or None exactly where some of them are too many.
+/// Places for so many more beside those for the open events, or None exactly where some of them are
+/// too many.
 fn places_for(opened: usize, more: Places) -> Option<Places>
     ensures places { IfSome result (λ places. places ≡ places_for opened more) }
     ensures beyond { IfNone result (2 ^ 64
@@ -31,7 +31,8 @@ fn places_for(opened: usize, more: Places) -> Option<Places>
     })
 }
 
-/// How many entries there must be room for, beside those that there are, or None exactly where they are too many.
+/// How many entries there must be room for, beside those that there are, or None exactly where they
+/// are too many.
 fn entries_for(owed: usize, more: usize, held: u64) -> Option<usize>
     ensures entries { IfSome result (λ entries. entries ≡ owed + more) }
     ensures within { IfSome result (λ entries. held + entries ≤ 2 ^ 62) }
@@ -53,9 +54,9 @@ impl<
     W: Watch<H::Note>,
     V: Volumes<H::Note>,
 > Core<H, M, Q, W, V> {
-    /// Makes room for so many more entries and places. `NoMemory` comes also where the history, with what is owed, would pass 2^62
-    /// entries, or the places would pass the greatest `usize`: there is no memory for so many. After it there is no less room than
-    /// before.
+    /// Makes room for so many more entries and places. `NoMemory` comes also where the history,
+    /// with what is owed, would pass 2^62 entries, or the places would pass the greatest `usize`:
+    /// there is no memory for so many. After it there is no less room than before.
     pub(crate) fn make_room(&mut self, entries: usize, more: Places) -> Result<(), NoMemory>
         ensures kept { Keeps ⟦<Self as Means>⟧.m self.old self.new }
         ensures room { OnOk result (From ⟦<Self as Means>⟧.m self.old

@@ -1,13 +1,14 @@
 //! The settling of an upcall.
 ghost use Rattle.std.specs.Prelude.{◌≡◌, ◌≤◌, ◌+◌, ◌-◌, ◌++◌, ◌∷◌, [], Some, None};
-ghost use Rattle.reactor_journal.specs.declared.entry.Entry.{Entry};
-ghost use Rattle.reactor_journal.specs.Past.{past_of};
+ghost use Rattle.reactor_model.specs.reactor_journal.specs.declared.entry.Entry.{Entry};
+ghost use Rattle.reactor_model.specs.reactor_journal.specs.Past.{past_of};
 ghost use Rattle.reactor_summary.specs.declared.parts.OpenEvent.{OpenEvent};
 ghost use Rattle.reactor_summary.specs.Summary.{summary, open_event};
 ghost use Rattle.reactor_state.specs.State.{HasNumber, no_places, HasPlaces};
 ghost use Rattle.reactor_state.specs.declared.places.Places.{Places};
 ghost use Rattle.reactor_core.specs.Rest.{LeavesRest};
-ghost use Rattle.reactor_core.specs.Stands.{From, FromTracks, Somewhere, Each, StandsWith, Tracks, TracksWith, SpendsRoom};
+ghost use Rattle.reactor_core.specs.Stands.{From, FromTracks, Somewhere, Each, StandsWith, Tracks};
+ghost use Rattle.reactor_core.specs.Stands.{TracksWith, SpendsRoom};
 ghost use Rattle.reactor_core.specs.Steps.{MayTakeBack};
 ghost use Rattle.reactor_core.specs.Settling.{why_of, IsSettling};
 ghost use Rattle.reactor_core.specs.Settles.{TakesBack, SettlesEvent};
@@ -15,14 +16,14 @@ ghost use Rattle.reactor_core.specs.Settles.{TakesBack, SettlesEvent};
 use crate::Core;
 use crate::append::append;
 use crate::means::Means;
-use ev_base::Net;
-use ev_types::{Answer, Handle, Why};
+use ev_base::{Answer, Handle, Net, Why};
 use handler_repo::Placed;
 use reactor_model::{Entry, EventHandler, Volumes, Watch};
 use reactor_summary::OpenEvent;
 use timer_queue::TimerQueue;
 
-/// Why a handler is closed when its upcall is settled: for itself where it was alive until then, and else as it was removed.
+/// Why a handler is closed when its upcall is settled: for itself where it was alive until then,
+/// and else as it was removed.
 fn why_of(alive: bool) -> Why
     ensures { result ≡ why_of alive }
 {
@@ -36,7 +37,8 @@ impl<
     W: Watch<H::Note>,
     V: Volumes<H::Note>,
 > Core<H, M, Q, W, V> {
-    /// Settles an upcall but for its act: its handler goes home, or is closed where its handle is not alive any more.
+    /// Settles an upcall but for its act: its handler goes home, or is closed where its handle is
+    /// not alive any more.
     pub(crate) fn settle_event(
         &mut self,
         settled: OpenEvent,

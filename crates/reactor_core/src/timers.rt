@@ -1,6 +1,6 @@
 //! Timers that are set for event handlers, and taken away.
 ghost use Rattle.std.specs.Prelude.{◌≡◌, ◌<◌, ◌≤◌, ◌+◌, ◌-◌, ◌||◌, IfOk, OnOk, OnErr};
-ghost use Rattle.reactor_journal.specs.declared.entry.Entry.{Entry};
+ghost use Rattle.reactor_model.specs.reactor_journal.specs.declared.entry.Entry.{Entry};
 ghost use Rattle.reactor_core.specs.Rest.{LeavesRest};
 ghost use Rattle.reactor_core.specs.Refusals.{LeavesLive, LeavesTimer};
 ghost use Rattle.reactor_core.specs.Stands.{IsStanding, StandsAsBefore};
@@ -11,8 +11,7 @@ use crate::append::append;
 use crate::means::Means;
 use crate::requests::NO_PLACES;
 use crate::{Core, LiveRefused};
-use ev_base::Net;
-use ev_types::Handle;
+use ev_base::{Handle, Net};
 use reactor_model::{Entry, EventHandler, Volumes, Watch};
 use reactor_state::Places;
 use timer_queue::TimerQueue;
@@ -42,10 +41,11 @@ impl<
     W: Watch<H::Note>,
     V: Volumes<H::Note>,
 > Core<H, M, Q, W, V> {
-    /// Sets a timer for the handler of an alive handle (ACE's `schedule_timer`), and gives its number: the number of timers that
-    /// were set before. It comes due after `delay` milliseconds from the moment of the last wait, and then every `every`
-    /// milliseconds, or once where that is 0. The journal has one more entry, `Scheduled`. `NotLive` comes exactly where the handle
-    /// is not alive; after a refusal nothing has changed but, with `NoMemory`, the room.
+    /// Sets a timer for the handler of an alive handle (ACE's `schedule_timer`), and gives its
+    /// number: the number of timers that were set before. It comes due after `delay` milliseconds
+    /// from the moment of the last wait, and then every `every` milliseconds, or once where that is
+    /// 0. The journal has one more entry, `Scheduled`. `NotLive` comes exactly where the handle is
+    /// not alive; after a refusal nothing has changed but, with `NoMemory`, the room.
     pub fn schedule(&mut self, handle: Handle, delay: u64, every: u64) -> Result<u64, LiveRefused>
         requires stands { IsStanding ⟦<Self as Means>⟧.m self.old }
         requires some { 1 ≤ delay }
@@ -81,9 +81,10 @@ impl<
         Ok(timer)
     }
 
-    /// Takes a timer away, and the event of it that waits to be started (ACE's `cancel_timer`). The journal has one more entry,
-    /// `Cancelled`. `NotArmed` comes exactly where the timer is not armed and no event of it waits; after a refusal nothing has
-    /// changed but, with `NoMemory`, the room.
+    /// Takes a timer away, and the event of it that waits to be started (ACE's `cancel_timer`). The
+    /// journal has one more entry, `Cancelled`. `NotArmed` comes exactly where the timer is not
+    /// armed and no event of it waits; after a refusal nothing has changed but, with `NoMemory`,
+    /// the room.
     pub fn cancel(&mut self, timer: u64) -> Result<(), CancelRefused>
         requires stands { IsStanding ⟦<Self as Means>⟧.m self.old }
         ensures ok { OnOk result (GoesOnBy ⟦<Self as Means>⟧.m self.old

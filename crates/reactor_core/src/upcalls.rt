@@ -1,8 +1,8 @@
 //! The start of an upcall.
 ghost use Rattle.std.specs.Prelude.{◌≡◌, Some, IfOk, OnErr};
 ghost use Rattle.std.specs.Option.{is_some};
-ghost use Rattle.reactor_journal.specs.declared.entry.Entry.{Entry};
-ghost use Rattle.reactor_journal.specs.Past.{past_of};
+ghost use Rattle.reactor_model.specs.reactor_journal.specs.declared.entry.Entry.{Entry};
+ghost use Rattle.reactor_model.specs.reactor_journal.specs.Past.{past_of};
 ghost use Rattle.reactor_summary.specs.Summary.{pick, summary};
 ghost use Rattle.ev_base.specs.Net.{Reserves};
 ghost use Rattle.reactor_core.specs.Rest.{LeavesRest};
@@ -31,7 +31,8 @@ pub enum StartRefused {
 /// How many entries the start of an upcall takes room for: its own, and five for its settling.
 const UPCALL_ENTRIES: usize = 6;
 
-/// The places that it takes: those of a registration with its timer, of the timer that is armed again, and of an event.
+/// The places that it takes: those of a registration with its timer, of the timer that is armed
+/// again, and of an event.
 const UPCALL_PLACES: Places = Places {
     handles: 1,
     timers: 2,
@@ -47,9 +48,10 @@ impl<
     W: Watch<H::Note>,
     V: Volumes<H::Note>,
 > Core<H, M, Q, W, V> {
-    /// Starts the upcall of the event that is to be dispatched next, and gives its job, or None exactly where there is no such
-    /// event, and then nothing has changed. The journal has one more entry, `Started`. The net may have more places, and is else as
-    /// it was. After `NoMemory` nothing has changed but the room.
+    /// Starts the upcall of the event that is to be dispatched next, and gives its job, or None
+    /// exactly where there is no such event, and then nothing has changed. The journal has one more
+    /// entry, `Started`. The net may have more places, and is else as it was. After `NoMemory`
+    /// nothing has changed but the room.
     #[inline(always)]
     pub fn start(&mut self) -> Result<Option<Job<H>>, StartRefused>
         requires stands { IsStanding ⟦<Self as Means>⟧.m self.old }
@@ -70,9 +72,11 @@ impl<
         Ok(Some(self.dispatch(pick)))
     }
 
-    /// Whether `start` would find an event to be dispatched. It goes past those events that wait whose handle is busy or suspended.
+    /// Whether `start` would find an event to be dispatched. It goes past those events that wait
+    /// whose handle is busy or suspended.
     pub fn has_next(&self) -> bool
-        ensures { From ⟦<Self as Means>⟧.m self.now (λ t F h. result ≡ is_some (pick (summary (past_of h)))) }
+        ensures { From ⟦<Self as Means>⟧.m self.now (λ t F h. result
+            ≡ is_some (pick (summary (past_of h)))) }
     {
         self.state.find_pick().is_some()
     }

@@ -1,21 +1,23 @@
 //! How the entries that a reactor holds are handed over: a long run cannot keep its whole journal.
 ghost use Rattle.std.specs.Prelude.{◌≡◌, ◌≤◌, true, IfOk, IfErr, OnErr};
 ghost use Rattle.reactor_core.specs.Stands.{From, IsStanding, StandsAsBefore};
-ghost use Rattle.reactor_core.specs.HandingOver.{is_due, HandsOver, HandsNothing, HasCause, refusal_of};
+ghost use Rattle.reactor_core.specs.HandingOver.{is_due, HandsOver, HandsNothing, HasCause};
+ghost use Rattle.reactor_core.specs.HandingOver.{refusal_of};
 
 use crate::Core;
 use crate::means::Means;
 use crate::room::MOST_ENTRIES;
 use ev_base::Net;
-use reactor_journal::Journal;
-use reactor_model::{EventHandler, TakeRefused, Volumes, Watch};
+use reactor_model::{EventHandler, Journal, TakeRefused, Volumes, Watch};
 use std::mem;
 use timer_queue::TimerQueue;
 
-/// For how many entries a journal is given room at most as its volume begins. Where a volume has more, it grows.
+/// For how many entries a journal is given room at most as its volume begins. Where a volume has
+/// more, it grows.
 const MOST_AHEAD: u64 = 4_096;
 
-/// How many entries more than a volume has it may come to hold before it is handed over, in the usual run of things.
+/// How many entries more than a volume has it may come to hold before it is handed over, in the
+/// usual run of things.
 const BEYOND_VOLUME: u64 = 64;
 
 /// Why no volume was handed over.
@@ -34,10 +36,11 @@ impl<
     W: Watch<H::Note>,
     V: Volumes<H::Note>,
 > Core<H, M, Q, W, V> {
-    /// Hands the entries that are held over to the volumes, whether upcalls are open or not, and gives their number. That is done
-    /// exactly where they are at least as many as a volume has, and the whole journal has fewer than 2^62 entries; else the number
-    /// is 0 and nothing has changed. A refusal comes only where it is due, and changes nothing but, with `Failed`, the volumes'
-    /// count of faults.
+    /// Hands the entries that are held over to the volumes, whether upcalls are open or not, and
+    /// gives their number. That is done exactly where they are at least as many as a volume has,
+    /// and the whole journal has fewer than 2^62 entries; else the number is 0 and nothing has
+    /// changed. A refusal comes only where it is due, and changes nothing but, with `Failed`, the
+    /// volumes' count of faults.
     pub fn hand_over(&mut self) -> Result<u64, HandOverRefused>
         requires stands { IsStanding ⟦<Self as Means>⟧.m self.old }
         ensures ok { IfOk result (λ n. From ⟦<Self as Means>⟧.m self.old
@@ -76,7 +79,8 @@ impl<
         }
     }
 
-    /// Whether `hand_over` is due: as many entries are held as a volume has at least, and the whole journal has fewer than 2^62.
+    /// Whether `hand_over` is due: as many entries are held as a volume has at least, and the whole
+    /// journal has fewer than 2^62.
     pub fn is_volume_due(&self) -> bool
         ensures { From ⟦<Self as Means>⟧.m self.now (λ t F h. result ≡ is_due self.now F h) }
     {
@@ -84,7 +88,8 @@ impl<
     }
 }
 
-// For how many entries a journal is given room as its volume begins: for those that are owed, and for those of a volume.
+// For how many entries a journal is given room as its volume begins: for those that are owed, and
+// for those of a volume.
 fn room_ahead(owed: usize, volume: u64) -> usize
     ensures { owed ≤ result }
 {

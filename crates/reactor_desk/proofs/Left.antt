@@ -1,11 +1,14 @@
 -- What a desk stands for once a lead is over, and which events are open in it.
-use Rattle.std.proofs.Common.{ℕ, zero, suc, ◌≡◌, ◌≤◌, true, List, [], ◌∷◌, ◌++◌, length, take, drop, refl, sym, ap, ◌∙◌, subst, arith, append-nil, length-append, Option, Some, None}
+use Rattle.std.proofs.Common.{ℕ, zero, suc, ◌≡◌, ◌≤◌, true, List, [], ◌∷◌, ◌++◌, length, take, drop}
+use Rattle.std.proofs.Common.{refl, sym, ap, ◌∙◌, subst, arith, append-nil, length-append, Option}
+use Rattle.std.proofs.Common.{Some, None}
 use Rattle.std.proofs.lemmas.List.{append_assoc}
 use Rattle.std.specs.List.{list_all}
 use Rattle.ev_base.specs.Net.{NetFacts}
-use Rattle.leader_token.specs.Lists.{times, Begins}
-use Rattle.reactor_journal.specs.declared.entry.Entry.{Entry}
-use Rattle.reactor_journal.specs.declared.entry.Entry.TheVariants.{Started}
+use Rattle.leader_token.specs.Lists.{Begins}
+use Rattle.leader_token.specs.list_lemmas.specs.Times.{times}
+use Rattle.reactor_model.specs.reactor_journal.specs.declared.entry.Entry.{Entry}
+use Rattle.reactor_model.specs.reactor_journal.specs.declared.entry.Entry.TheVariants.{Started}
 use Rattle.reactor_core.specs.Stands.{Meaning}
 use Rattle.reactor_core.specs.Views.{job_event}
 use Rattle.reactor_desk.specs.Desks.{DeskStands}
@@ -16,62 +19,120 @@ use Rattle.reactor_desk.specs.declared.terms.DeskTerms.{DeskTerms}
 use Rattle.reactor_desk.specs.declared.desk.Desk.{Desk}
 use Rattle.reactor_desk.specs.declared.leading.Led.{Led}
 use Rattle.reactor_desk.specs.declared.leading.Led.TheVariants as led
-use Rattle.reactor_desk.proofs.Opens.{is_still, opens_more, opens_still, notices_still, may_still, waited_still}
+use Rattle.reactor_desk.proofs.Opens.{is_still, opens_more, opens_still, notices_still, may_still}
+use Rattle.reactor_desk.proofs.Opens.{waited_still}
 
 module _ {H M Q W V N E : Type 0} (m : Meaning H M Q W V N E) (q : DeskTerms) where
-  left_still : (F : ℕ) (h es : List (Entry N)) (new : Desk H M Q W V N E) → F ≤ length h → list_all is_still es ≡ true → DeskStands m q F new (h ++ es) → HistoryLeft m q h new (h ++ es) None
-  left_still F h es new within s stands = record { first = F; within = within; stands = stands; begins = (es, refl); opens = λ e. omega (arith, ap (times e) (opens_still h es s)) }
+  left_still : (F : ℕ) (h es : List (Entry N)) (new : Desk H M Q W V N E) → F ≤ length h
+      → list_all is_still es ≡ true → DeskStands m q F new (h ++ es)
+      → HistoryLeft m q h new (h ++ es) None
+  left_still F h es new within s stands =
+      record {
+        first = F;
+        within = within;
+        stands = stands;
+        begins = (es, refl);
+        opens = λ e. omega (arith, ap (times e) (opens_still h es s));
+      }
 
-  left_started : (F : ℕ) (h es : List (Entry N)) (event : ℕ) (new : Desk H M Q W V N E) → F ≤ length h → list_all is_still es ≡ true → DeskStands m q F new ((h ++ es) ++ Started event ∷ []) → HistoryLeft m q h new ((h ++ es) ++ Started event ∷ []) (Some event)
+  left_started : (F : ℕ) (h es : List (Entry N)) (event : ℕ) (new : Desk H M Q W V N E)
+      → F ≤ length h → list_all is_still es ≡ true
+      → DeskStands m q F new ((h ++ es) ++ Started event ∷ [])
+      → HistoryLeft m q h new ((h ++ es) ++ Started event ∷ []) (Some event)
   left_started F h es event new within s stands = record {
     first = F;
     within = within;
     stands = stands;
     begins = (es ++ Started event ∷ [], sym (append_assoc h es (Started event ∷ [])));
-    opens = λ e. omega (arith, ap (times e) (opens_more (h ++ es) (Started event)), ap (times e) (opens_still h es s));
+    opens = λ e. omega (
+      arith,
+      ap (times e) (opens_more (h ++ es) (Started event)),
+      ap (times e) (opens_still h es s),
+    );
   }
 
   -- the notices stand between
-  behind_notices : (h notices list : List (Entry N)) (new : Desk H M Q W V N E) (mine : Option ℕ) → list_all is_notice notices ≡ true → (l : HistoryLeft m q (h ++ notices) new list mine) → l.first ≤ length h → HistoryLeft m q h new list mine
+  behind_notices : (h notices list : List (Entry N)) (new : Desk H M Q W V N E) (mine : Option ℕ)
+      → list_all is_notice notices ≡ true → (l : HistoryLeft m q (h ++ notices) new list mine)
+      → l.first ≤ length h → HistoryLeft m q h new list mine
   behind_notices h notices list new mine are l within = record {
     first = l.first;
     within = within;
     stands = l.stands;
     begins = (notices ++ l.begins.0, sym (append_assoc h notices l.begins.0) ∙ l.begins.1);
-    opens = λ e. omega (arith, l.opens e, ap (times e) (opens_still h notices (notices_still notices are)));
+    opens = λ e. omega (
+      arith,
+      l.opens e,
+      ap (times e) (opens_still h notices (notices_still notices are)),
+    );
   }
 
   wide : (F : ℕ) (h notices : List (Entry N)) → F ≤ length h → F ≤ length (h ++ notices)
   wide F h notices w = omega (arith, length-append h notices)
 
-  left_on : (F : ℕ) (h notices : List (Entry N)) (most : Option ℕ) (before : NetFacts E) (l : Led H N E) (new : Desk H M Q W V N E) → F ≤ length h → (g : DispatchGives m q F (h ++ notices) most before l new) → list_all is_notice notices ≡ true → HistoryLeft m q h new (history_on m q F (h ++ notices) most before l new g) (event_of l)
+  left_on : (F : ℕ) (h notices : List (Entry N)) (most : Option ℕ) (before : NetFacts E)
+      (l : Led H N E) (new : Desk H M Q W V N E) → F ≤ length h
+      → (g : DispatchGives m q F (h ++ notices) most before l new)
+      → list_all is_notice notices ≡ true
+      → HistoryLeft m q h new (history_on m q F (h ++ notices) most before l new g) (event_of l)
   unfolding left_started left_still
-  left_on F h notices most before (led.Job job) new w g are = behind_notices h notices _ new _ are (left_started F (h ++ notices) g.waited (job_event job) new (wide F h notices w) (may_still most (h ++ notices) before g.waited _ g.may) g.stands) w
-  left_on F h notices most before led.Quiet new w g are = behind_notices h notices _ new _ are (left_still F (h ++ notices) g.entries new (wide F h notices w) (waited_still most (h ++ notices) before g.entries _ _ g.waited) g.stands) w
-  left_on F h notices most before led.Over new w g are = behind_notices h notices _ new _ are (left_still F (h ++ notices) g.entries new (wide F h notices w) (waited_still most (h ++ notices) before g.entries _ _ g.waited) g.stands) w
-  left_on F h notices most before led.NetFault new w g are = left_still F h notices new w (notices_still notices are) g.2
-  left_on F h notices most before led.NoMemory new w g are = behind_notices h notices _ new _ are (left_still F (h ++ notices) g.entries new (wide F h notices w) (may_still most (h ++ notices) before g.entries _ g.may) g.stands) w
+  left_on F h notices most before (led.Job job) new w g are =
+      behind_notices h notices _ new _ are
+      (left_started F (h ++ notices) g.waited (job_event job) new (wide F h notices w)
+      (may_still most (h ++ notices) before g.waited _ g.may) g.stands) w
+  left_on F h notices most before led.Quiet new w g are =
+      behind_notices h notices _ new _ are
+      (left_still F (h ++ notices) g.entries new (wide F h notices w)
+      (waited_still most (h ++ notices) before g.entries _ _ g.waited) g.stands) w
+  left_on F h notices most before led.Over new w g are =
+      behind_notices h notices _ new _ are
+      (left_still F (h ++ notices) g.entries new (wide F h notices w)
+      (waited_still most (h ++ notices) before g.entries _ _ g.waited) g.stands) w
+  left_on F h notices most before led.NetFault new w g are =
+      left_still F h notices new w (notices_still notices are) g.2
+  left_on F h notices most before led.NoMemory new w g are =
+      behind_notices h notices _ new _ are
+      (left_still F (h ++ notices) g.entries new (wide F h notices w)
+      (may_still most (h ++ notices) before g.entries _ g.may) g.stands) w
   left_on F h notices most before led.Stopped new w g are = absurd g
   left_on F h notices most before led.Broken new w g are = absurd g
   left_on F h notices most before led.VolumeFault new w g are = absurd g
 
   -- as it was found
-  left_same : (F : ℕ) (h : List (Entry N)) (new : Desk H M Q W V N E) → DeskStands m q F new h → HistoryLeft m q h new h None
-  left_same F h new stands = record { first = F; within = stands.core.tracks.journal.within; stands = stands; begins = ([], append-nil h); opens = λ e. omega arith }
+  left_same : (F : ℕ) (h : List (Entry N)) (new : Desk H M Q W V N E) → DeskStands m q F new h
+      → HistoryLeft m q h new h None
+  left_same F h new stands = record {
+    first = F;
+    within = stands.core.tracks.journal.within;
+    stands = stands;
+    begins = ([], append-nil h);
+    opens = λ e. omega arith;
+  }
 
-  pub left_by_lead : (F : ℕ) (h : List (Entry N)) (most : Option ℕ) (old : Desk H M Q W V N E) (l : Led H N E) (new : Desk H M Q W V N E) → DeskStands m q F old h → (g : LeadGives m q F h most old l new) → HistoryLeft m q h new (history_left m q F h most old l new g) (event_of l)
-  left_by_lead F h most old (led.Job job) new o g = left_on g.1.first h g.1.notices most g.1.net (led.Job job) new g.1.within g.1.gives g.1.are
-  left_by_lead F h most old led.Quiet new o g = left_on g.1.first h g.1.notices most g.1.net led.Quiet new g.1.within g.1.gives g.1.are
-  left_by_lead F h most old led.Over new o g = left_on g.1.first h g.1.notices most g.1.net led.Over new g.1.within g.1.gives g.1.are
-  left_by_lead F h most old led.NetFault new o g = left_on g.1.first h g.1.notices most g.1.net led.NetFault new g.1.within g.1.gives g.1.are
-  left_by_lead F h most old led.NoMemory new o g = left_on g.1.first h g.1.notices most g.1.net led.NoMemory new g.1.within g.1.gives g.1.are
-  left_by_lead F h most old led.Stopped new o g = left_same F h new (subst (λ (d : Desk H M Q W V N E). DeskStands m q F d h) (sym g.1) o)
-  left_by_lead F h most old led.Broken new o g = left_same F h new (subst (λ (d : Desk H M Q W V N E). DeskStands m q F d h) (sym g.2) o)
+  pub left_by_lead : (F : ℕ) (h : List (Entry N)) (most : Option ℕ) (old : Desk H M Q W V N E)
+      (l : Led H N E) (new : Desk H M Q W V N E) → DeskStands m q F old h
+      → (g : LeadGives m q F h most old l new)
+      → HistoryLeft m q h new (history_left m q F h most old l new g) (event_of l)
+  left_by_lead F h most old (led.Job job) new o g =
+      left_on g.1.first h g.1.notices most g.1.net (led.Job job) new g.1.within g.1.gives g.1.are
+  left_by_lead F h most old led.Quiet new o g =
+      left_on g.1.first h g.1.notices most g.1.net led.Quiet new g.1.within g.1.gives g.1.are
+  left_by_lead F h most old led.Over new o g =
+      left_on g.1.first h g.1.notices most g.1.net led.Over new g.1.within g.1.gives g.1.are
+  left_by_lead F h most old led.NetFault new o g =
+      left_on g.1.first h g.1.notices most g.1.net led.NetFault new g.1.within g.1.gives g.1.are
+  left_by_lead F h most old led.NoMemory new o g =
+      left_on g.1.first h g.1.notices most g.1.net led.NoMemory new g.1.within g.1.gives g.1.are
+  left_by_lead F h most old led.Stopped new o g =
+      left_same F h new (subst (λ (d : Desk H M Q W V N E). DeskStands m q F d h) (sym g.1) o)
+  left_by_lead F h most old led.Broken new o g =
+      left_same F h new (subst (λ (d : Desk H M Q W V N E). DeskStands m q F d h) (sym g.2) o)
   left_by_lead F h most old led.VolumeFault new o g = left_same F h new g.1
 
   -- ---- the list is the only one
 
-  front_same : (n : ℕ) (base rest : List (Entry N)) → n ≤ length base → take n (base ++ rest) ≡ take n base
+  front_same : (n : ℕ) (base rest : List (Entry N)) → n ≤ length base
+      → take n (base ++ rest) ≡ take n base
   front_same zero base rest w = refl
   front_same (suc n) [] rest w = absurd (omega arith)
   front_same (suc n) (b ∷ base) rest w = ap (λ k. b ∷ k) (front_same n base rest (omega arith))
@@ -81,11 +142,16 @@ module _ {H M Q W V N E : Type 0} (m : Meaning H M Q W V N E) (q : DeskTerms) wh
   both_parts (suc n) [] = refl
   both_parts (suc n) (x ∷ list) = ap (λ k. x ∷ k) (both_parts n list)
 
-  pub only_one : (base g list : List (Entry N)) (n F : ℕ) (new : Desk H M Q W V N E) → F ≤ length base → Begins base g → Begins base list → DeskStands m q n new g → DeskStands m q F new list → g ≡ list
+  pub only_one : (base g list : List (Entry N)) (n F : ℕ) (new : Desk H M Q W V N E)
+      → F ≤ length base → Begins base g → Begins base list → DeskStands m q n new g
+      → DeskStands m q F new list → g ≡ list
   only_one base g list n F new within a b x y =
       let numbers : n ≡ F = sym x.core.tracks.journal.first ∙ y.core.tracks.journal.first in
-      let behind : drop F g ≡ drop F list = ap (λ k. drop k g) (sym numbers) ∙ (sym x.core.tracks.journal.entries ∙ y.core.tracks.journal.entries) in
+      let behind : drop F g ≡ drop F list =
+      ap (λ k. drop k g) (sym numbers) ∙ (sym x.core.tracks.journal.entries
+      ∙ y.core.tracks.journal.entries) in
       let front : take F g ≡ take F list =
-      ap (take F) (sym a.1) ∙ (front_same F base a.0 within ∙ (sym (front_same F base b.0 within) ∙ ap (take F) b.1))
+      ap (take F) (sym a.1) ∙ (front_same F base a.0 within
+      ∙ (sym (front_same F base b.0 within) ∙ ap (take F) b.1))
       in
       sym (both_parts F g) ∙ ((λ i. front i ++ behind i) ∙ both_parts F list)

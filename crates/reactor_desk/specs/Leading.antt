@@ -1,14 +1,16 @@
--- What the lead of a desk does (POSA2, Leader/Followers: the leader waits for an event, promotes a follower and processes its event).
-use Rattle.std.specs.Prelude.{ℕ, ◌≡◌, ◌⊎◌, ◌≤◌, ◌+◌, true, false, List, [], ◌∷◌, ◌++◌, length, drop, map, filter, Option, Some, None, IsTrue}
+-- What the lead of a desk does (POSA2, Leader/Followers: the leader waits for an event, promotes a
+-- follower and processes its event).
+use Rattle.std.specs.Prelude.{ℕ, ◌≡◌, ◌⊎◌, ◌≤◌, ◌+◌, true, false, List, [], ◌∷◌, ◌++◌, length, drop}
+use Rattle.std.specs.Prelude.{map, filter, Option, Some, None, IsTrue}
 use Rattle.std.specs.List.{list_all}
 use Rattle.ev_base.specs.Counts.{Rose}
 use Rattle.ev_base.specs.Net.{NetFacts, NetWaits, Reserves, FailsToWait}
 use Rattle.ev_base.specs.declared.net.Waited.{Waited}
-use Rattle.reactor_journal.specs.declared.entry.Entry.{Entry}
-use Rattle.reactor_journal.specs.declared.entry.Entry.TheVariants as entry
-use Rattle.reactor_journal.specs.Past.{past_of, is_pick, count}
-use Rattle.reactor_summary.specs.Summary.{summary}
-use Rattle.reactor_state.specs.State.{after}
+use Rattle.reactor_model.specs.reactor_journal.specs.declared.entry.Entry.{Entry}
+use Rattle.reactor_model.specs.reactor_journal.specs.declared.entry.Entry.TheVariants as entry
+use Rattle.reactor_model.specs.reactor_journal.specs.Past.{past_of, is_pick, count}
+use Rattle.reactor_core.specs.reactor_summary.specs.Summary.{summary}
+use Rattle.reactor_core.specs.reactor_state.specs.State.{after}
 use Rattle.reactor_core.specs.Calls.{time_left, least_limit, is_taken, IsAnsweredAt}
 use Rattle.reactor_core.specs.HandingOver.{is_due}
 use Rattle.reactor_core.specs.Marks.{is_polled}
@@ -27,9 +29,11 @@ use Rattle.reactor_desk.specs.declared.desk.Desk.{Desk}
 use Rattle.reactor_desk.specs.declared.leading.Led.{Led}
 use Rattle.reactor_desk.specs.declared.leading.Led.TheVariants as led
 
--- One wait of the net, which has more places than before and is else as it was, for the lesser of the limit and the time to the first deadline.
--- Its entries: `Polled`, the timers that come due, and the reports that are taken.
-pub record Waits {E N : Type 0} (most : Option ℕ) (h : List (Entry N)) (before : NetFacts E) (polled : Polled) (entries : List (Entry N)) (now : NetFacts E) : Type 0 where
+-- One wait of the net, which has more places than before and is else as it was, for the lesser of
+-- the limit and the time to the first deadline. Its entries: `Polled`, the timers that come due,
+-- and the reports that are taken.
+pub record Waits {E N : Type 0} (most : Option ℕ) (h : List (Entry N)) (before : NetFacts E)
+    (polled : Polled) (entries : List (Entry N)) (now : NetFacts E) : Type 0 where
   pub net : NetFacts E
   pub answer : Waited
   pub moment : ℕ
@@ -39,10 +43,13 @@ pub record Waits {E N : Type 0} (most : Option ℕ) (h : List (Entry N)) (before
   pub named : name_of answer ≡ Some polled
   pub answered : IsAnsweredAt moment answer
   pub due : AreDue (after (summary (past_of h)) (entry.Polled moment)) timers
-  pub are : entries ≡ entry.Polled moment ∷ (map due_of timers ++ map ready_of (filter (is_taken (summary (past_of h))) now.reports))
+  pub are : entries ≡ entry.Polled moment
+      ∷ (map due_of timers ++ map ready_of (filter (is_taken (summary (past_of h))) now.reports))
 
--- No event could be started, so there was one wait, which found this. It left the net as it is left, but for more places.
-pub record WaitedFor {E N : Type 0} (most : Option ℕ) (h : List (Entry N)) (before : NetFacts E) (entries : List (Entry N)) (left : NetFacts E) (P : Polled → Type 0) : Type 0 where
+-- No event could be started, so there was one wait, which found this. It left the net as it is
+-- left, but for more places.
+pub record WaitedFor {E N : Type 0} (most : Option ℕ) (h : List (Entry N)) (before : NetFacts E)
+    (entries : List (Entry N)) (left : NetFacts E) (P : Polled → Type 0) : Type 0 where
   pub none : HasNoPick (past_of h)
   pub polled : Polled
   pub now : NetFacts E
@@ -68,11 +75,17 @@ IsNotOver polled.Events = Unit {0}
 IsNotOver polled.Quiet = Unit {0}
 
 -- the entries of a wait, where there was one: exactly where no event could be started before
-abbrev pub MayHaveWaited : {E N : Type 0} → Option ℕ → List (Entry N) → NetFacts E → List (Entry N) → NetFacts E → Type 0
-MayHaveWaited most h before entries left = ((entries ≡ []) × Reserves before left) ⊎ WaitedFor most h before entries left (λ polled. Unit {0})
+abbrev pub MayHaveWaited : {E N : Type 0} → Option ℕ → List (Entry N) → NetFacts E → List (Entry N)
+    → NetFacts E → Type 0
+MayHaveWaited most h before entries left =
+    ((entries ≡ []) × Reserves before left)
+    ⊎ WaitedFor most h before entries left (λ polled. Unit {0})
 
--- The event of the job is the next of the history, or of the history with the entries of one wait, where it had none.
-pub record Dispatches {H M Q W V N E : Type 0} (m : Meaning H M Q W V N E) (q : DeskTerms) (F : ℕ) (h : List (Entry N)) (most : Option ℕ) (before : NetFacts E) (job : Job H N E) (new : Desk H M Q W V N E) : Type 0 where
+-- The event of the job is the next of the history, or of the history with the entries of one wait,
+-- where it had none.
+pub record Dispatches {H M Q W V N E : Type 0} (m : Meaning H M Q W V N E) (q : DeskTerms) (F : ℕ)
+    (h : List (Entry N)) (most : Option ℕ) (before : NetFacts E) (job : Job H N E)
+    (new : Desk H M Q W V N E) : Type 0 where
   pub waited : List (Entry N)
   pub may : MayHaveWaited most h before waited (m.facts (net_of (core_of new)))
   pub pick : IsTrue (is_pick (past_of (h ++ waited)) (job_event job))
@@ -80,35 +93,50 @@ pub record Dispatches {H M Q W V N E : Type 0} (m : Meaning H M Q W V N E) (q : 
   pub stands : DeskStands m q F new ((h ++ waited) ++ entry.Started (job_event job) ∷ [])
 
 -- After a wait no event could be started.
-pub record Idles {H M Q W V N E : Type 0} (m : Meaning H M Q W V N E) (q : DeskTerms) (F : ℕ) (h : List (Entry N)) (most : Option ℕ) (before : NetFacts E) (P : Polled → Type 0) (new : Desk H M Q W V N E) : Type 0 where
+pub record Idles {H M Q W V N E : Type 0} (m : Meaning H M Q W V N E) (q : DeskTerms) (F : ℕ)
+    (h : List (Entry N)) (most : Option ℕ) (before : NetFacts E) (P : Polled → Type 0)
+    (new : Desk H M Q W V N E) : Type 0 where
   pub entries : List (Entry N)
   pub waited : WaitedFor most h before entries (m.facts (net_of (core_of new))) P
   pub none : HasNoPick (past_of (h ++ entries))
   pub stands : DeskStands m q F new (h ++ entries)
 
 -- what is left where there was no memory: what was recorded
-pub record Leaves {H M Q W V N E : Type 0} (m : Meaning H M Q W V N E) (q : DeskTerms) (F : ℕ) (h : List (Entry N)) (most : Option ℕ) (before : NetFacts E) (new : Desk H M Q W V N E) : Type 0 where
-  pub entries : List (Entry N)
-  pub may : MayHaveWaited most h before entries (m.facts (net_of (core_of new)))
-  pub stands : DeskStands m q F new (h ++ entries)
+pub record Leaves {H M Q W V N E : Type 0} (m : Meaning H M Q W V N E) (q : DeskTerms) (F : ℕ)
+    (h : List (Entry N)) (most : Option ℕ) (before : NetFacts E) (new : Desk H M Q W V N E) : Type 0
+  where
+    pub entries : List (Entry N)
+    pub may : MayHaveWaited most h before entries (m.facts (net_of (core_of new)))
+    pub stands : DeskStands m q F new (h ++ entries)
 
 -- the desk stands, but that its drainer may have looked only once more than there were starts
-pub record StandsForStart {H M Q W V N E : Type 0} (m : Meaning H M Q W V N E) (q : DeskTerms) (F : ℕ) (desk : Desk H M Q W V N E) (h : List (Entry N)) : Type 0 where
+pub record StandsForStart {H M Q W V N E : Type 0} (m : Meaning H M Q W V N E) (q : DeskTerms)
+    (F : ℕ) (desk : Desk H M Q W V N E) (h : List (Entry N)) : Type 0 where
   pub stands : DeskStands m q F desk h
   pub looked : count is_started (drop q.found h) + 1 ≤ looks_of desk
 
 -- the start behind a wait is right where it stands so for a history; and P holds of each
-abbrev pub StartsFrom : {H M Q W V N E : Type 0} → Meaning H M Q W V N E → Desk H M Q W V N E → Type 0
-StartsFrom {N = N} m desk = (q : DeskTerms) × (F : ℕ) × (h : List (Entry N)) × StandsForStart m q F desk h
+abbrev pub StartsFrom : {H M Q W V N E : Type 0} → Meaning H M Q W V N E → Desk H M Q W V N E
+    → Type 0
+StartsFrom {N = N} m desk = (q : DeskTerms) × (F : ℕ) × (h : List (Entry N))
+    × StandsForStart m q F desk h
 
-abbrev pub FromStart : {H M Q W V N E : Type 0} → Meaning H M Q W V N E → Desk H M Q W V N E → (DeskTerms → ℕ → List (Entry N) → Type 0) → Type 0
-FromStart {N = N} m desk P = (q : DeskTerms) (F : ℕ) (h : List (Entry N)) → StandsForStart m q F desk h → P q F h
+abbrev pub FromStart : {H M Q W V N E : Type 0} → Meaning H M Q W V N E → Desk H M Q W V N E
+    → (DeskTerms → ℕ → List (Entry N) → Type 0) → Type 0
+FromStart {N = N} m desk P = (q : DeskTerms) (F : ℕ) (h : List (Entry N))
+    → StandsForStart m q F desk h → P q F h
 
 -- what the start behind a wait that found this gives
-abbrev pub GivesBehind : {H M Q W V N E : Type 0} → Meaning H M Q W V N E → DeskTerms → ℕ → List (Entry N) → Polled → Led H N E → Desk H M Q W V N E → Type 0
-GivesBehind m q F h polled (led.Job job) new = IsTrue (is_pick (past_of h) (job_event job)) × JobFits m.means q.run (entry.Started (job_event job) ∷ past_of h) job × DeskStands m q F new (h ++ entry.Started (job_event job) ∷ [])
-GivesBehind m q F h polled led.Quiet new = IsNotOver polled × HasNoPick (past_of h) × DeskStands m q F new h
-GivesBehind m q F h polled led.Over new = IsOver polled × HasNoPick (past_of h) × DeskStands m q F new h
+abbrev pub GivesBehind : {H M Q W V N E : Type 0} → Meaning H M Q W V N E → DeskTerms → ℕ
+    → List (Entry N) → Polled → Led H N E → Desk H M Q W V N E → Type 0
+GivesBehind m q F h polled (led.Job job) new =
+    IsTrue (is_pick (past_of h) (job_event job))
+    × JobFits m.means q.run (entry.Started (job_event job) ∷ past_of h) job
+    × DeskStands m q F new (h ++ entry.Started (job_event job) ∷ [])
+GivesBehind m q F h polled led.Quiet new =
+    IsNotOver polled × HasNoPick (past_of h) × DeskStands m q F new h
+GivesBehind m q F h polled led.Over new =
+    IsOver polled × HasNoPick (past_of h) × DeskStands m q F new h
 GivesBehind m q F h polled led.NoMemory new = DeskStands m q F new h
 GivesBehind m q F h polled led.NetFault new = ⊥
 GivesBehind m q F h polled led.Stopped new = ⊥
@@ -116,23 +144,29 @@ GivesBehind m q F h polled led.Broken new = ⊥
 GivesBehind m q F h polled led.VolumeFault new = ⊥
 
 -- What the lead of a desk gives once the postings were drained.
-abbrev pub DispatchGives : {H M Q W V N E : Type 0} → Meaning H M Q W V N E → DeskTerms → ℕ → List (Entry N) → Option ℕ → NetFacts E → Led H N E → Desk H M Q W V N E → Type 0
+abbrev pub DispatchGives : {H M Q W V N E : Type 0} → Meaning H M Q W V N E → DeskTerms → ℕ
+    → List (Entry N) → Option ℕ → NetFacts E → Led H N E → Desk H M Q W V N E → Type 0
 DispatchGives m q F h most before (led.Job job) new = Dispatches m q F h most before job new
 DispatchGives m q F h most before led.Quiet new = Idles m q F h most before IsNotOver new
 DispatchGives m q F h most before led.Over new = Idles m q F h most before IsOver new
-DispatchGives m q F h most before led.NetFault new = HasNoPick (past_of h) × WaitFails before (m.facts (net_of (core_of new))) × DeskStands m q F new h
+DispatchGives m q F h most before led.NetFault new =
+    HasNoPick (past_of h) × WaitFails before (m.facts (net_of (core_of new)))
+    × DeskStands m q F new h
 DispatchGives m q F h most before led.NoMemory new = Leaves m q F h most before new
 DispatchGives m q F h most before led.Stopped new = ⊥
 DispatchGives m q F h most before led.Broken new = ⊥
 DispatchGives m q F h most before led.VolumeFault new = ⊥
 
 -- Unless there was no memory, 256 postings were drained, or the ring was found empty.
-abbrev pub HasDrained : {H M Q W V N E : Type 0} → Led H N E → List (Entry N) → Desk H M Q W V N E → Type 0
+abbrev pub HasDrained : {H M Q W V N E : Type 0} → Led H N E → List (Entry N) → Desk H M Q W V N E
+    → Type 0
 HasDrained led.NoMemory notices new = Unit {0}
 HasDrained led notices new = (length notices ≡ 256) ⊎ FoundEmpty new
 
 -- a volume was handed over where one was due, and postings were drained, at most 256
-pub record LeadsOn {H M Q W V N E : Type 0} (m : Meaning H M Q W V N E) (q : DeskTerms) (F : ℕ) (h : List (Entry N)) (most : Option ℕ) (old : Desk H M Q W V N E) (led : Led H N E) (new : Desk H M Q W V N E) : Type 0 where
+pub record LeadsOn {H M Q W V N E : Type 0} (m : Meaning H M Q W V N E) (q : DeskTerms) (F : ℕ)
+    (h : List (Entry N)) (most : Option ℕ) (old : Desk H M Q W V N E) (led : Led H N E)
+    (new : Desk H M Q W V N E) : Type 0 where
   pub first : ℕ
   pub within : first ≤ length h
   pub notices : List (Entry N)
@@ -144,34 +178,58 @@ pub record LeadsOn {H M Q W V N E : Type 0} (m : Meaning H M Q W V N E) (q : Des
   pub gives : DispatchGives m q first (h ++ notices) most net led new
 
 -- it was not stopped, and its watch is whole
-pub record MayLead {H M Q W V N E : Type 0} (m : Meaning H M Q W V N E) (h : List (Entry N)) (old : Desk H M Q W V N E) : Type 0 where
+pub record MayLead {H M Q W V N E : Type 0} (m : Meaning H M Q W V N E) (h : List (Entry N))
+    (old : Desk H M Q W V N E) : Type 0 where
   pub running : IsRunning h
   pub whole : m.is_broken (watch_of (core_of old)) ≡ false
 
--- a desk does not lead where entries were appended in the same hold: a volume is due, it was stopped, or its watch failed
-abbrev pub MayNotLeadOn : {H M Q W V N E : Type 0} → Meaning H M Q W V N E → ℕ → List (Entry N) → Desk H M Q W V N E → Type 0
-MayNotLeadOn m F h old = ((summary (past_of h)).ended ≡ true) ⊎ ((m.is_broken (watch_of (core_of old)) ≡ true) ⊎ (is_due (core_of old) F h ≡ true))
+-- a desk does not lead where entries were appended in the same hold: a volume is due, it was
+-- stopped, or its watch failed
+abbrev pub MayNotLeadOn : {H M Q W V N E : Type 0} → Meaning H M Q W V N E → ℕ → List (Entry N)
+    → Desk H M Q W V N E → Type 0
+MayNotLeadOn m F h old = ((summary (past_of h)).ended ≡ true)
+    ⊎ ((m.is_broken (watch_of (core_of old)) ≡ true) ⊎ (is_due (core_of old) F h ≡ true))
 
 -- What the lead of a desk gives.
-abbrev pub LeadGives : {H M Q W V N E : Type 0} → Meaning H M Q W V N E → DeskTerms → ℕ → List (Entry N) → Option ℕ → Desk H M Q W V N E → Led H N E → Desk H M Q W V N E → Type 0
+abbrev pub LeadGives : {H M Q W V N E : Type 0} → Meaning H M Q W V N E → DeskTerms → ℕ
+    → List (Entry N) → Option ℕ → Desk H M Q W V N E → Led H N E → Desk H M Q W V N E → Type 0
 LeadGives m q F h most old led.Stopped new = ((summary (past_of h)).ended ≡ true) × (new ≡ old)
-LeadGives m q F h most old led.Broken new = IsRunning h × (m.is_broken (watch_of (core_of old)) ≡ true) × (new ≡ old)
+LeadGives m q F h most old led.Broken new =
+    IsRunning h × (m.is_broken (watch_of (core_of old)) ≡ true) × (new ≡ old)
 LeadGives m q F h most old led.VolumeFault new = MayLead m h old × DeskStands m q F new h
 LeadGives m q F h most old led new = MayLead m h old × LeadsOn m q F h most old led new
 
--- What a lead tells by the counts of the desk: with a fault that of its cause rose in this call, or for the watch above what the terms
--- had at the start; with Over the last wait that was answered so is the last of all, and with Quiet it is that of before this call.
-abbrev pub LeadTells : {H M Q W V N E : Type 0} → Meaning H M Q W V N E → Desk H M Q W V N E → Led H N E → Desk H M Q W V N E → Type 0
-LeadTells m old led.NetFault new = Rose (m.facts (net_of (core_of old))).failed_waits (m.facts (net_of (core_of new))).failed_waits
-LeadTells m old led.VolumeFault new = Rose (m.volumes (volumes_of (core_of old))).faults (m.volumes (volumes_of (core_of new))).faults
-LeadTells m old led.Broken new = FromDesk m new (λ q F h. (before : ℕ) → q.run.output_faults ≡ Some before → Rose before (m.faults (watch_of (core_of new))))
+-- What a lead tells by the counts of the desk: with a fault that of its cause rose in this call, or
+-- for the watch above what the terms had at the start; with Over the last wait that was answered so
+-- is the last of all, and with Quiet it is that of before this call.
+abbrev pub LeadTells : {H M Q W V N E : Type 0} → Meaning H M Q W V N E → Desk H M Q W V N E
+    → Led H N E → Desk H M Q W V N E → Type 0
+LeadTells m old led.NetFault new =
+    Rose (m.facts (net_of (core_of old))).failed_waits (m.facts (net_of (core_of new))).failed_waits
+LeadTells m old led.VolumeFault new =
+    Rose (m.volumes (volumes_of (core_of old))).faults (m.volumes (volumes_of (core_of new))).faults
+LeadTells m old led.Broken new = FromDesk m new
+    (λ q F h. (before : ℕ) → q.run.output_faults ≡ Some before
+    → Rose before (m.faults (watch_of (core_of new))))
 LeadTells m old led.Quiet new = over_of (core_of new) ≡ over_of (core_of old)
-LeadTells m old led.Over new = FromDesk m new (λ q F h. over_of (core_of new) ≡ count is_polled (past_of h))
+LeadTells m old led.Over new = FromDesk m new
+    (λ q F h. over_of (core_of new) ≡ count is_polled (past_of h))
 LeadTells m old _ new = Unit {0}
 
+-- With every other answer than VolumeFault the count of faults of the volumes is what it was: so a
+-- volume that was not taken is told.
+abbrev pub TellsVolumeFault : {H M Q W V N E : Type 0} → Meaning H M Q W V N E → Desk H M Q W V N E
+    → Led H N E → Desk H M Q W V N E → Type 0
+TellsVolumeFault m old answer new = (answer ≡ led.VolumeFault → ⊥)
+    → (m.volumes (volumes_of (core_of new))).faults ≡ (m.volumes (volumes_of (core_of old))).faults
+
 -- the list that a lead left: with what was drained, what a wait brought, and the start
-abbrev pub history_on : {H M Q W V N E : Type 0} → (m : Meaning H M Q W V N E) (q : DeskTerms) (F : ℕ) (h : List (Entry N)) (most : Option ℕ) (before : NetFacts E) (l : Led H N E) (new : Desk H M Q W V N E) → DispatchGives m q F h most before l new → List (Entry N)
-history_on m q F h most before (led.Job job) new g = (h ++ g.waited) ++ entry.Started (job_event job) ∷ []
+abbrev pub history_on : {H M Q W V N E : Type 0}
+    → (m : Meaning H M Q W V N E) (q : DeskTerms) (F : ℕ) (h : List (Entry N)) (most : Option ℕ)
+    (before : NetFacts E) (l : Led H N E) (new : Desk H M Q W V N E)
+    → DispatchGives m q F h most before l new → List (Entry N)
+history_on m q F h most before (led.Job job) new g =
+    (h ++ g.waited) ++ entry.Started (job_event job) ∷ []
 history_on m q F h most before led.Quiet new g = h ++ g.entries
 history_on m q F h most before led.Over new g = h ++ g.entries
 history_on m q F h most before led.NetFault new g = h
@@ -180,12 +238,20 @@ history_on m q F h most before led.Stopped new g = h
 history_on m q F h most before led.Broken new g = h
 history_on m q F h most before led.VolumeFault new g = h
 
-abbrev pub history_left : {H M Q W V N E : Type 0} → (m : Meaning H M Q W V N E) (q : DeskTerms) (F : ℕ) (h : List (Entry N)) (most : Option ℕ) (old : Desk H M Q W V N E) (l : Led H N E) (new : Desk H M Q W V N E) → LeadGives m q F h most old l new → List (Entry N)
-history_left m q F h most old (led.Job job) new g = history_on m q g.1.first (h ++ g.1.notices) most g.1.net (led.Job job) new g.1.gives
-history_left m q F h most old led.Quiet new g = history_on m q g.1.first (h ++ g.1.notices) most g.1.net led.Quiet new g.1.gives
-history_left m q F h most old led.Over new g = history_on m q g.1.first (h ++ g.1.notices) most g.1.net led.Over new g.1.gives
-history_left m q F h most old led.NetFault new g = history_on m q g.1.first (h ++ g.1.notices) most g.1.net led.NetFault new g.1.gives
-history_left m q F h most old led.NoMemory new g = history_on m q g.1.first (h ++ g.1.notices) most g.1.net led.NoMemory new g.1.gives
+abbrev pub history_left : {H M Q W V N E : Type 0}
+    → (m : Meaning H M Q W V N E) (q : DeskTerms) (F : ℕ) (h : List (Entry N)) (most : Option ℕ)
+    (old : Desk H M Q W V N E) (l : Led H N E) (new : Desk H M Q W V N E)
+    → LeadGives m q F h most old l new → List (Entry N)
+history_left m q F h most old (led.Job job) new g =
+    history_on m q g.1.first (h ++ g.1.notices) most g.1.net (led.Job job) new g.1.gives
+history_left m q F h most old led.Quiet new g =
+    history_on m q g.1.first (h ++ g.1.notices) most g.1.net led.Quiet new g.1.gives
+history_left m q F h most old led.Over new g =
+    history_on m q g.1.first (h ++ g.1.notices) most g.1.net led.Over new g.1.gives
+history_left m q F h most old led.NetFault new g =
+    history_on m q g.1.first (h ++ g.1.notices) most g.1.net led.NetFault new g.1.gives
+history_left m q F h most old led.NoMemory new g =
+    history_on m q g.1.first (h ++ g.1.notices) most g.1.net led.NoMemory new g.1.gives
 history_left m q F h most old led.Stopped new g = h
 history_left m q F h most old led.Broken new g = h
 history_left m q F h most old led.VolumeFault new g = h

@@ -7,3 +7,6 @@ pub mod Leading
 pub mod Settling
 pub mod Asking
 pub mod Laws
+pub use Rattle.leader_token
+pub use Rattle.laws_by_turns
+pub use Rattle.leader_token.specs.list_lemmas

@@ -1,9 +1,11 @@
 //! The desk: what a leader's token keeps.
 ghost use Rattle.std.specs.Prelude.{◌≡◌};
 ghost use Rattle.reactor_core.specs.Stands.{meaning, From};
-ghost use Rattle.reactor_state.specs.State.{Shows, HasPlaces, IsPlaced};
+ghost use Rattle.reactor_core.specs.reactor_state.specs.State.{Shows, HasPlaces, IsPlaced};
+ghost use Rattle.reactor_core.specs.Views.{volume_of};
 ghost use Rattle.reactor_desk.specs.Begins.{CanShare, desk_terms};
-ghost use Rattle.reactor_desk.specs.Desks.{DeskStands, core_of, drainer_of, marks_of, no_terms};
+ghost use Rattle.reactor_desk.specs.Desks.{DeskStands, FillsVolume, core_of, drainer_of, marks_of};
+ghost use Rattle.reactor_desk.specs.Desks.{no_terms};
 
 use crate::DeskTerms;
 use ev_base::Net;
@@ -13,7 +15,8 @@ use reactor_core::{Core, Means};
 use reactor_model::{Entry, EventHandler, Volumes, Watch};
 use timer_queue::TimerQueue;
 
-/// A one-thread reactor and the drainer of its notifications, which whoever holds the token has alone.
+/// A one-thread reactor and the drainer of its notifications, which whoever holds the token has
+/// alone.
 pub struct Desk<
     H: EventHandler,
     M: Net<End = H::End>,
@@ -58,12 +61,15 @@ impl<
     W: Watch<H::Note>,
     V: Volumes<H::Note>,
 > Desk<H, M, Q, W, V> {
-    /// A desk of a reactor and the drainer of a ring that has taken nothing. It stands for the history of the reactor where that has
-    /// no notification and, where the terms name the entry from which on it goes by turns, that is the next.
+    /// A desk of a reactor and the drainer of a ring that has taken nothing. It stands for the
+    /// history of the reactor where that has no notification, where at least a volume was handed
+    /// over or nothing and, where the terms name the entry from which on it goes by turns, that is
+    /// the next.
     pub fn new(core: Core<H, M, Q, W, V>, drainer: Drainer) -> Self
         ensures parts { (core_of result ≡ core) × (drainer_of result ≡ drainer) }
         ensures stands { From ⟦<Self as Means>⟧.m core (λ t F h. CanShare t h drainer
-            → DeskStands ⟦<Self as Means>⟧.m (desk_terms t h drainer) F result h) }
+            → FillsVolume (volume_of core) F → DeskStands ⟦<Self as Means>⟧.m
+            (desk_terms t h (volume_of core) drainer) F result h) }
     {
         Desk { core, drainer }
     }
@@ -90,7 +96,7 @@ impl<
     type Terms = DeskTerms;
 
     ghost use Rattle.std.specs.Prelude.{refl};
-    ghost use Rattle.reactor_turns.specs.Opens.{opens_of};
+    ghost use Rattle.reactor_core.specs.laws_turns.specs.Opens.{opens_of};
     ghost use Rattle.reactor_desk.specs.OpensOnce.{opens_once};
 
     ghost stands = { λ q first desk h. DeskStands ⟦<Self as Means>⟧.m q first desk h };

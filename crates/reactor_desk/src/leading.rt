@@ -2,18 +2,21 @@
 ghost use Rattle.std.specs.Prelude.{◌≡◌, false, IfSome, IfNone};
 ghost use Rattle.std.specs.Option.{is_some};
 ghost use Rattle.notify_ring.specs.Words.{drainer_ring, id_of};
-ghost use Rattle.reactor_journal.specs.Past.{past_of};
-ghost use Rattle.reactor_summary.specs.Summary.{pick, summary};
+ghost use Rattle.reactor_model.specs.reactor_journal.specs.Past.{past_of};
+ghost use Rattle.reactor_core.specs.reactor_summary.specs.Summary.{pick, summary};
 ghost use Rattle.reactor_core.specs.HandingOver.{is_due};
 ghost use Rattle.reactor_core.specs.Polling.{FitsLimit};
-ghost use Rattle.reactor_core.specs.Views.{net_of};
-ghost use Rattle.reactor_desk.specs.Desks.{DeskWith, FromDesk, KeepsMarks, core_of, drainer_of, first_of};
-ghost use Rattle.reactor_desk.specs.Draining.{IsRunning, Drains, DrainsOne, HasLooked, LeavesDrained};
-ghost use Rattle.reactor_desk.specs.Leading.{DispatchGives, LeadGives, LeadTells, LeadsOn, MayNotLeadOn, StartsFrom, FromStart, GivesBehind};
+ghost use Rattle.reactor_core.specs.Views.{net_of, volumes_of};
+ghost use Rattle.reactor_desk.specs.Desks.{DeskWith, FromDesk, KeepsMarks, core_of, drainer_of};
+ghost use Rattle.reactor_desk.specs.Desks.{first_of};
+ghost use Rattle.reactor_desk.specs.Draining.{IsRunning, Drains, DrainsOne, HasLooked};
+ghost use Rattle.reactor_desk.specs.Draining.{LeavesDrained};
+ghost use Rattle.reactor_desk.specs.Leading.{DispatchGives, LeadGives, LeadTells, LeadsOn};
+ghost use Rattle.reactor_desk.specs.Leading.{MayNotLeadOn, StartsFrom, FromStart, GivesBehind};
+ghost use Rattle.reactor_desk.specs.Leading.{TellsVolumeFault};
 
 use crate::Desk;
-use ev_base::Net;
-use ev_types::NoMemory;
+use ev_base::{Net, NoMemory};
 use notify_ring::Ring;
 use reactor_core::{HandOverRefused, Job, Means, PollRefused, Polled};
 use reactor_model::{EventHandler, Volumes, Watch};
@@ -49,20 +52,24 @@ impl<
     W: Watch<H::Note>,
     V: Volumes<H::Note>,
 > Desk<H, M, Q, W, V> {
-    /// Leads: hands a volume over where one is due, takes the postings of the ring, and starts the next upcall. Where there is none to
-    /// start, waits once at the net, at most `most_ms` milliseconds, which is the limit of the terms where they have one, and looks
-    /// again (POSA2, Leader/Followers: the leader's wait for an event; ACE's `handle_events`).
+    /// Leads: hands a volume over where one is due, takes the postings of the ring, and starts the
+    /// next upcall. Where there is none to start, waits once at the net, at most `most_ms`
+    /// milliseconds, which is the limit of the terms where they have one, and looks again (POSA2,
+    /// Leader/Followers: the leader's wait for an event; ACE's `handle_events`).
     ///
-    /// `Stopped` comes exactly where the reactor was stopped, and `Broken` exactly where it was not and its watch failed; both leave
-    /// all as it was. `Quiet` and `Over` come where no upcall could be started before this call's wait nor behind it, and the wait
-    /// was answered so, `Quiet` also where its reports brought none. `VolumeFault` and `NetFault` come only where the count of faults
-    /// of the volumes, or of failed waits, rose in this call. `NoMemory` and `NetFault` leave recorded what this call drained and
-    /// waited for.
+    /// `Stopped` comes exactly where the reactor was stopped, and `Broken` exactly where it was not
+    /// and its watch failed; both leave all as it was. `Quiet` and `Over` come where no upcall
+    /// could be started before this call's wait nor behind it, and the wait was answered so,
+    /// `Quiet` also where its reports brought none. `VolumeFault` and `NetFault` come only where
+    /// the count of faults of the volumes, or of failed waits, rose in this call, and with every
+    /// other answer than `VolumeFault` that of the volumes is what it was. `NoMemory` and
+    /// `NetFault` leave recorded what this call drained and waited for.
     pub fn lead(&mut self, ring: &Ring, most_ms: Option<u64>) -> Led<H>
         requires stands { DeskWith ⟦<Self as Means>⟧.m (λ q h. FitsLimit q.run most_ms) self.old }
         requires ring { drainer_ring (drainer_of self.old) ≡ id_of ring.now }
         ensures gives { FromDesk ⟦<Self as Means>⟧.m self.old (λ q F h. FitsLimit q.run most_ms
             → LeadGives ⟦<Self as Means>⟧.m q F h most_ms self.old result self.new) }
+        ensures volumes { TellsVolumeFault ⟦<Self as Means>⟧.m self.old result self.new }
         ensures tells { LeadTells ⟦<Self as Means>⟧.m self.old result self.new }
         ensures marks { KeepsMarks ⟦<Self as Means>⟧.m self.old self.new }
     {
@@ -80,17 +87,20 @@ impl<
         self.go_on(ring, most_ms)
     }
 
-    /// Leads as `lead` does, in a hold of the token in which entries were appended before, and hands no volume over. None comes exactly where
-    /// one is due, where the reactor was stopped, and where its watch failed, and leaves all as it was.
+    /// Leads as `lead` does, in a hold of the token in which entries were appended before, and
+    /// hands no volume over. None comes exactly where one is due, where the reactor was stopped,
+    /// and where its watch failed, and leaves all as it was.
     pub fn lead_on(&mut self, ring: &Ring, most_ms: Option<u64>) -> Option<Led<H>>
         requires stands { DeskWith ⟦<Self as Means>⟧.m (λ q h. FitsLimit q.run most_ms) self.old }
         requires ring { drainer_ring (drainer_of self.old) ≡ id_of ring.now }
-        ensures gives { FromDesk ⟦<Self as Means>⟧.m self.old (λ q F h. FitsLimit q.run most_ms
-            → IfSome result (λ led. LeadGives ⟦<Self as Means>⟧.m q F h most_ms self.old led self.new)) }
+        ensures gives { FromDesk ⟦<Self as Means>⟧.m self.old
+            (λ q F h. FitsLimit q.run most_ms → IfSome result
+            (λ led. LeadGives ⟦<Self as Means>⟧.m q F h most_ms self.old led self.new)) }
         ensures none { FromDesk ⟦<Self as Means>⟧.m self.old (λ q F h. IfNone result
             (MayNotLeadOn ⟦<Self as Means>⟧.m F h self.old × (self.new ≡ self.old))) }
         ensures due { FromDesk ⟦<Self as Means>⟧.m self.old (λ q F h. IfSome result
             (λ led. is_due (core_of self.old) F h ≡ false)) }
+        ensures volumes { volumes_of (core_of self.new) ≡ volumes_of (core_of self.old) }
         ensures tells { IfSome result (λ led. LeadTells ⟦<Self as Means>⟧.m self.old led self.new) }
         ensures first { first_of self.new ≡ first_of self.old }
         ensures marks { KeepsMarks ⟦<Self as Means>⟧.m self.old self.new }
@@ -103,17 +113,21 @@ impl<
 
     /// Whether an upcall can be started without a wait (`Core::has_next`).
     pub fn has_next(&self) -> bool
-        ensures { FromDesk ⟦<Self as Means>⟧.m self.now (λ q F h. result ≡ is_some (pick (summary (past_of h)))) }
+        ensures { FromDesk ⟦<Self as Means>⟧.m self.now
+            (λ q F h. result ≡ is_some (pick (summary (past_of h)))) }
     {
         self.core.has_next()
     }
 
     /// Takes the postings of the ring, and starts the next upcall, or waits once and looks again.
     fn go_on(&mut self, ring: &Ring, most_ms: Option<u64>) -> Led<H>
-        requires stands { DeskWith ⟦<Self as Means>⟧.m (λ q h. IsRunning h × FitsLimit q.run most_ms) self.old }
+        requires stands { DeskWith ⟦<Self as Means>⟧.m (λ q h. IsRunning h
+            × FitsLimit q.run most_ms) self.old }
         requires ring { drainer_ring (drainer_of self.old) ≡ id_of ring.now }
-        ensures gives { FromDesk ⟦<Self as Means>⟧.m self.old (λ q F h. IsRunning h → FitsLimit q.run most_ms
+        ensures gives { FromDesk ⟦<Self as Means>⟧.m self.old
+            (λ q F h. IsRunning h → FitsLimit q.run most_ms
             → LeadsOn ⟦<Self as Means>⟧.m q F h most_ms self.old result self.new) }
+        ensures volumes { volumes_of (core_of self.new) ≡ volumes_of (core_of self.old) }
         ensures tells { LeadTells ⟦<Self as Means>⟧.m self.old result self.new }
         ensures first { first_of self.new ≡ first_of self.old }
         ensures marks { KeepsMarks ⟦<Self as Means>⟧.m self.old self.new }
@@ -132,6 +146,7 @@ impl<
             HasLooked q self.old h → IsRunning h → FitsLimit q.run most_ms
             → DispatchGives ⟦<Self as Means>⟧.m q F h most_ms
             (M.facts (net_of (core_of self.old))) result self.new) }
+        ensures volumes { volumes_of (core_of self.new) ≡ volumes_of (core_of self.old) }
         ensures tells { LeadTells ⟦<Self as Means>⟧.m self.old result self.new }
         ensures drainer { drainer_of self.new ≡ drainer_of self.old }
         ensures marks { KeepsMarks ⟦<Self as Means>⟧.m self.old self.new }
@@ -168,8 +183,9 @@ impl<
         }
     }
 
-    /// Takes the postings of a ring, at most 256, until the ring is found empty, and records each: as `Posted` where its handle is
-    /// alive, and else as `Stale`. The answer is how many it took. For want of memory it leaves what it recorded.
+    /// Takes the postings of a ring, at most 256, until the ring is found empty, and records each:
+    /// as `Posted` where its handle is alive, and else as `Stale`. The answer is how many it took.
+    /// For want of memory it leaves what it recorded.
     pub fn drain(&mut self, ring: &Ring) -> Result<u64, NoMemory>
         requires stands { DeskWith ⟦<Self as Means>⟧.m (λ q h. IsRunning h) self.old }
         requires ring { drainer_ring (drainer_of self.old) ≡ id_of ring.now }
@@ -187,7 +203,8 @@ impl<
         Ok(MOST_TAKEN)
     }
 
-    /// Takes one posting and records it, or says that the ring was found empty. Room is made only where a posting is there.
+    /// Takes one posting and records it, or says that the ring was found empty. Room is made only
+    /// where a posting is there.
     fn drain_one(&mut self, ring: &Ring) -> Result<bool, NoMemory>
         requires stands { DeskWith ⟦<Self as Means>⟧.m (λ q h. IsRunning h) self.old }
         requires ring { drainer_ring (drainer_of self.old) ≡ id_of ring.now }

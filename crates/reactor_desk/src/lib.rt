@@ -1,5 +1,6 @@
-//! The desk of a reactor that several threads call: the one-thread reactor and the drainer of its notifications, kept under a
-//! leader's token (POSA2, Leader/Followers: the thread pool's shared handle set). Whoever holds the token calls the desk alone.
+//! The desk of a reactor that several threads call: the one-thread reactor and the drainer of its
+//! notifications, kept under a leader's token (POSA2, Leader/Followers: the thread pool's shared
+//! handle set). Whoever holds the token calls the desk alone.
 #![tactic(auto)]
 
 mod asking;

@@ -1,5 +1,5 @@
 //! The settling of an upcall.
-ghost use Rattle.reactor_journal.specs.Past.{past_of};
+ghost use Rattle.reactor_model.specs.reactor_journal.specs.Past.{past_of};
 ghost use Rattle.reactor_core.specs.Upcalls.{DoneFits};
 ghost use Rattle.reactor_desk.specs.Desks.{DeskWith, FromDesk, KeepsMarks};
 ghost use Rattle.reactor_desk.specs.Settling.{SettlesDesk};
@@ -17,8 +17,8 @@ impl<
     W: Watch<H::Note>,
     V: Volumes<H::Note>,
 > Desk<H, M, Q, W, V> {
-    /// Settles an upcall that was made (`Core::settle`): its turn is recorded, its handler goes home or is closed, and its act is done.
-    /// It takes no memory and cannot fail.
+    /// Settles an upcall that was made (`Core::settle`): its turn is recorded, its handler goes
+    /// home or is closed, and its act is done. It takes no memory and cannot fail.
     pub fn settle(&mut self, done: Done<H>) -> Settled
         requires stands { DeskWith ⟦<Self as Means>⟧.m
             (λ q h. DoneFits H.means q.run (past_of h) done) self.old }

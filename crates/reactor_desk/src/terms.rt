@@ -6,9 +6,11 @@ ghost use base.Fml.{ftrue};
 
 use std::marker::Model;
 
-/// The terms of a desk: those of its run, which ring its drainer belongs to, and how many entries its history had when it was made.
+/// The terms of a desk: those of its run, which ring its drainer belongs to, how many entries its
+/// history had when it was made, and how many entries a volume has at least.
 pub struct DeskTerms {
     pub found: u64,
+    pub volume: u64,
     pub ghost run: { Terms } by { terms_coded },
     pub ghost ring: { TableId } by { table_id_coded },
 }

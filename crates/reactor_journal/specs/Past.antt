@@ -1,10 +1,12 @@
--- What a journal tells of its handles, timers and events: the reactor of C++NPv2 chapters 3 and 4 and of
--- POSA2's Reactor and Leader/Followers, with this project's own order of dispatch.
+-- What a journal tells of its handles, timers and events: the reactor of C++NPv2 chapters 3 and 4
+-- and of POSA2's Reactor and Leader/Followers, with this project's own order of dispatch.
 --
--- A journal is read backwards. A past is the entries so far, the latest first, so that each definition says
--- in one clause what one more entry changes. The number of an entry is how many entries stand before it.
--- Handles and timers are named by their numbers.
-use Rattle.std.specs.Prelude.{ℕ, zero, suc, ◌+◌, ◌-◌, ◌*◌, ◌/◌, ◌==◌, nat_lt, nat_le, Bool, true, false, not, ◌&&◌, ◌||◌, if◌then◌else◌, List, [], ◌∷◌, ◌++◌, length, reverse, filter, Option, Some, None, is_some, option_map}
+-- A journal is read backwards. A past is the entries so far, the latest first, so that each
+-- definition says in one clause what one more entry changes. The number of an entry is how many
+-- entries stand before it. Handles and timers are named by their numbers.
+use Rattle.std.specs.Prelude.{ℕ, zero, suc, ◌+◌, ◌-◌, ◌*◌, ◌/◌, ◌==◌, nat_lt, nat_le, Bool, true}
+use Rattle.std.specs.Prelude.{false, not, ◌&&◌, ◌||◌, if◌then◌else◌, List, [], ◌∷◌, ◌++◌, length}
+use Rattle.std.specs.Prelude.{reverse, filter, Option, Some, None, is_some, option_map}
 use Rattle.std.specs.List.{list_any, list_all}
 use Rattle.ev_types.specs.declared.upcall.Mask.{Mask}
 use Rattle.ev_types.specs.declared.upcall.Kind.{Kind}
@@ -12,12 +14,17 @@ use Rattle.ev_types.specs.declared.upcall.Kind.TheVariants.{Read, Write, Except}
 use Rattle.ev_types.specs.declared.upcall.Answer.{Answer}
 use Rattle.ev_types.specs.declared.upcall.Answer.TheVariants.{Again, Close}
 use Rattle.ev_types.specs.declared.upcall.Upcall.{Upcall}
-use Rattle.ev_types.specs.declared.upcall.Upcall.TheVariants.{Input, Output, Except as ExceptUp, Timeout, Notice}
+use Rattle.ev_types.specs.declared.upcall.Upcall.TheVariants.{Input, Output, Except as ExceptUp}
+use Rattle.ev_types.specs.declared.upcall.Upcall.TheVariants.{Timeout, Notice}
 use Rattle.ev_types.specs.declared.upcall.Why.{Why}
 use Rattle.ev_types.specs.declared.upcall.Why.TheVariants.{Own, Removed as RemovedBy}
 use Rattle.reactor_journal.specs.Event.{Timer, Event, Item, Origin}
 use Rattle.reactor_journal.specs.declared.entry.Entry.{Entry}
-use Rattle.reactor_journal.specs.declared.entry.Entry.TheVariants.{Opened, Scheduled, Cancelled, Polled, Due, Ready, Posted, Stale, Started, Returned, Masked, Suspended, Resumed, Refused, Removed, Closed, Ended}
+use Rattle.reactor_journal.specs.declared.entry.Entry.TheVariants.{Opened, Scheduled, Cancelled}
+use Rattle.reactor_journal.specs.declared.entry.Entry.TheVariants.{Polled, Due, Ready, Posted}
+use Rattle.reactor_journal.specs.declared.entry.Entry.TheVariants.{Stale, Started, Returned, Masked}
+use Rattle.reactor_journal.specs.declared.entry.Entry.TheVariants.{Suspended, Resumed, Refused}
+use Rattle.reactor_journal.specs.declared.entry.Entry.TheVariants.{Removed, Closed, Ended}
 
 -- the entries of a journal, the latest first
 abbrev pub past_of : {N : Type 0} → List (Entry N) → List (Entry N)
@@ -37,7 +44,8 @@ abbrev pub count_below : ℕ → (ℕ → Bool) → ℕ
 count_below zero test = 0
 count_below (suc n) test = if test n then suc (count_below n test) else count_below n test
 
--- how many pass the test (std's `count_by` is a fold from the front, which does not compute at one more entry)
+-- how many pass the test (std's `count_by` is a fold from the front, which does not compute at one
+-- more entry)
 abbrev pub count : {A : Type 0} → (A → Bool) → List A → ℕ
 count test [] = 0
 count test (x ∷ xs) = if test x then suc (count test xs) else count test xs
@@ -148,7 +156,8 @@ is_suspended (e ∷ past) x = held_after x e (is_suspended past x)
 -- the timer of that number, if it was set
 
 abbrev pub timer_after : {N : Type 0} → ℕ → Entry N → Option Timer → Option Timer
-timer_after t (Scheduled timer handle first every) before = if timer == t then Some (record { handle = handle.0; every = every }) else before
+timer_after t (Scheduled timer handle first every) before =
+    if timer == t then Some (record { handle = handle.0; every = every }) else before
 timer_after t _ before = before
 
 abbrev pub timer_of : {N : Type 0} → List (Entry N) → ℕ → Option Timer
@@ -163,8 +172,8 @@ upcall_of Read = Input
 upcall_of Write = Output
 upcall_of Except = ExceptUp
 
--- the class of an upcall. The smaller class goes first: timeouts, notifications, output, exceptional data,
--- input (this project's own order)
+-- the class of an upcall. The smaller class goes first: timeouts, notifications, output,
+-- exceptional data, input (this project's own order)
 abbrev pub class_of : Upcall → ℕ
 class_of (Timeout timer) = 0
 class_of (Notice kind) = 1
@@ -186,17 +195,22 @@ only_if_alive alive (Some event) = if alive event.handle then Some event else No
 abbrev pub timeout_of : ℕ → Timer → Event
 timeout_of t timer = record { handle = timer.handle; upcall = Timeout t }
 
--- the event that an entry is, by the timers, the events and the handles alive before it: a `Due`, `Ready` or
--- `Posted`; and a `Returned` with Again whose handle was alive, which asks for the same upcall once more
-abbrev pub event_made : {N : Type 0} → Entry N → (ℕ → Option Timer) → (ℕ → Option Event) → (ℕ → Bool) → Option Event
+-- the event that an entry is, by the timers, the events and the handles alive before it: a `Due`,
+-- `Ready` or `Posted`; and a `Returned` with Again whose handle was alive, which asks for the same
+-- upcall once more
+abbrev pub event_made : {N : Type 0} → Entry N → (ℕ → Option Timer) → (ℕ → Option Event)
+    → (ℕ → Bool) → Option Event
 event_made (Due timer) timers events alive = option_map (timeout_of timer) (timers timer)
-event_made (Ready handle kind) timers events alive = Some (record { handle = handle.0; upcall = upcall_of kind })
-event_made (Posted handle kind from seq) timers events alive = Some (record { handle = handle.0; upcall = Notice kind })
+event_made (Ready handle kind) timers events alive =
+    Some (record { handle = handle.0; upcall = upcall_of kind })
+event_made (Posted handle kind from seq) timers events alive =
+    Some (record { handle = handle.0; upcall = Notice kind })
 event_made (Returned event Again note) timers events alive = only_if_alive alive (events event)
 event_made _ timers events alive = None
 
--- whether the entry ends the handle's life, by the events before it: its `Removed`, or a `Returned` with Close
--- of one of its events (ACE's -1 ends the registration for one mask; here it ends the whole one)
+-- whether the entry ends the handle's life, by the events before it: its `Removed`, or a `Returned`
+-- with Close of one of its events (ACE's -1 ends the registration for one mask; here it ends the
+-- whole one)
 abbrev pub ends : {N : Type 0} → ℕ → (ℕ → Option Event) → Entry N → Bool
 ends x events (Removed handle) = handle.0 == x
 ends x events (Returned event Close note) = belongs_to x (events event)
@@ -204,12 +218,14 @@ ends x events _ = false
 
 module _ {N : Type 0} where
   abbrev mutual
-    -- the event that entry number i is, if it is one. An Again is followed to the report that it began with
+    -- the event that entry number i is, if it is one. An Again is followed to the report that it
+    -- began with
     pub event_at : List (Entry N) → ℕ → Option Event
     event_at [] i = None
     event_at (e ∷ past) i =
         elim (i == length past) [
-          | true ↦ event_made e (timer_of past) (event_at past) (λ x. was_opened past x && not (was_removed past x))
+          | true ↦ event_made e (timer_of past) (event_at past)
+              (λ x. was_opened past x && not (was_removed past x))
           | false ↦ event_at past i
         ]
 
@@ -234,9 +250,9 @@ abbrev pub is_timeout_of : ℕ → Upcall → Bool
 is_timeout_of t (Timeout timer) = timer == t
 is_timeout_of t _ = false
 
--- whether the entry drops this event, by the events before it. These are the four recorded removals: the
--- handle's `Removed`, a `Returned` with Close of one of its events, a `Masked` of it without the event's kind,
--- and a `Cancelled` of the event's timer
+-- whether the entry drops this event, by the events before it. These are the four recorded
+-- removals: the handle's `Removed`, a `Returned` with Close of one of its events, a `Masked` of it
+-- without the event's kind, and a `Cancelled` of the event's timer
 abbrev pub drops : {N : Type 0} → Event → (ℕ → Option Event) → Entry N → Bool
 drops event events (Removed handle) = handle.0 == event.handle
 drops event events (Returned other Close note) = belongs_to event.handle (events other)
@@ -253,8 +269,8 @@ abbrev pub was_taken : {N : Type 0} → List (Entry N) → ℕ → Bool
 was_taken [] i = false
 was_taken (e ∷ past) i = drops_it (event_at past i) (event_at past) e || was_taken past i
 
--- whether entry i is an event; whether that event is dropped, waits to be started, or is open. An event that
--- was started is not dropped
+-- whether entry i is an event; whether that event is dropped, waits to be started, or is open. An
+-- event that was started is not dropped
 abbrev pub is_event : {N : Type 0} → List (Entry N) → ℕ → Bool
 is_event past i = is_some (event_at past i)
 
@@ -274,7 +290,8 @@ is_busy past x = any_below (length past) (λ i. is_open past i && belongs_to x (
 -- whether an event may be started by its handle: that is alive, not busy and not suspended by hand
 abbrev pub may_run : {N : Type 0} → List (Entry N) → Option Event → Bool
 may_run past None = false
-may_run past (Some event) = is_alive past event.handle && (not (is_busy past event.handle) && not (is_suspended past event.handle))
+may_run past (Some event) = is_alive past event.handle
+    && (not (is_busy past event.handle) && not (is_suspended past event.handle))
 
 -- whether event i waits and may be started by its handle
 unfoldable pub is_able : {N : Type 0} → List (Entry N) → ℕ → Bool
@@ -293,7 +310,8 @@ goes_first past i j =
 
 -- whether i is the event to be started next: the able one that goes before every other
 unfoldable pub is_pick : {N : Type 0} → List (Entry N) → ℕ → Bool
-is_pick past i = is_able past i && all_below (length past) (λ j. not (is_able past j) || goes_first past i j)
+is_pick past i = is_able past i && all_below (length past)
+    (λ j. not (is_able past j) || goes_first past i j)
 
 -- ---- armed timers
 
@@ -315,8 +333,8 @@ abbrev pub period : Option Timer → ℕ
 period None = 0
 period (Some timer) = timer.every
 
--- the timer that is set again by the `Started` of its `Due`, which is so where it has a period. The `Started` of
--- an Again sets none
+-- the timer that is set again by the `Started` of its `Due`, which is so where it has a period. The
+-- `Started` of an Again sets none
 abbrev pub rearms : {N : Type 0} → List (Entry N) → Option ℕ → Option ℕ
 rearms past None = None
 rearms past (Some t) = if period (timer_of past t) == 0 then None else Some t
@@ -332,7 +350,8 @@ first_of t _ before = before
 
 abbrev pub moved : {N : Type 0} → List (Entry N) → ℕ → Option ℕ → ℕ → ℕ
 moved past t None before = before
-moved past t (Some timer) before = if timer == t then next_deadline before (period (timer_of past t)) (now past) else before
+moved past t (Some timer) before =
+    if timer == t then next_deadline before (period (timer_of past t)) (now past) else before
 
 abbrev pub deadline : {N : Type 0} → List (Entry N) → ℕ → ℕ
 deadline [] t = 0
@@ -357,17 +376,20 @@ is_timer_of x (Some timer) = timer.handle == x
 abbrev pub without_handle : {N : Type 0} → List (Entry N) → ℕ → List (ℕ × ℕ) → List (ℕ × ℕ)
 without_handle past x armed = filter (λ d. not (is_timer_of x (timer_of past d.1))) armed
 
-abbrev pub without_owner : {N : Type 0} → List (Entry N) → Option Event → List (ℕ × ℕ) → List (ℕ × ℕ)
+abbrev pub without_owner : {N : Type 0} → List (Entry N) → Option Event → List (ℕ × ℕ)
+    → List (ℕ × ℕ)
 without_owner past None armed = armed
 without_owner past (Some event) armed = without_handle past event.handle armed
 
 -- the list with a timer set again at the deadline after the one that came due
 abbrev pub with_rearmed : {N : Type 0} → List (Entry N) → Option ℕ → List (ℕ × ℕ) → List (ℕ × ℕ)
 with_rearmed past None armed = armed
-with_rearmed past (Some t) armed = with_deadline (next_deadline (deadline past t) (period (timer_of past t)) (now past), t) armed
+with_rearmed past (Some t) armed =
+    with_deadline (next_deadline (deadline past t) (period (timer_of past t)) (now past), t) armed
 
--- what one more entry changes: `Scheduled` adds a timer and `Due` takes it away, `Started` of a periodic timer's
--- `Due` sets it again, and `Cancelled` and the end of a handle's life take timers away
+-- what one more entry changes: `Scheduled` adds a timer and `Due` takes it away, `Started` of a
+-- periodic timer's `Due` sets it again, and `Cancelled` and the end of a handle's life take timers
+-- away
 abbrev pub armed_after : {N : Type 0} → List (Entry N) → Entry N → List (ℕ × ℕ) → List (ℕ × ℕ)
 armed_after past (Scheduled timer handle first every) armed = with_deadline (first, timer) armed
 armed_after past (Cancelled timer) armed = without_timer timer armed
@@ -377,7 +399,8 @@ armed_after past (Returned event Close note) armed = without_owner past (event_a
 armed_after past (Removed handle) armed = without_handle past handle.0 armed
 armed_after past _ armed = armed
 
--- the armed timers, as (deadline, timer) in rising order. Deadlines are whole numbers without an upper bound
+-- the armed timers, as (deadline, timer) in rising order. Deadlines are whole numbers without an
+-- upper bound
 abbrev pub armed : {N : Type 0} → List (Entry N) → List (ℕ × ℕ)
 armed [] = []
 armed (e ∷ past) = armed_after past e (armed past)
@@ -391,9 +414,11 @@ is_overdue past = list_any (λ d. nat_le d.0 (now past)) (armed past)
 
 -- ---- handles that wait for their `Closed`
 
--- whether the handle waits for its `Closed`: it was opened, is neither alive nor busy, and was not closed
+-- whether the handle waits for its `Closed`: it was opened, is neither alive nor busy, and was not
+-- closed
 unfoldable pub waits_for_closed : {N : Type 0} → List (Entry N) → ℕ → Bool
-waits_for_closed past x = was_opened past x && (not (is_alive past x) && (not (is_busy past x) && not (was_closed past x)))
+waits_for_closed past x = was_opened past x
+    && (not (is_alive past x) && (not (is_busy past x) && not (was_closed past x)))
 
 -- whether some handle does
 unfoldable pub some_wait : {N : Type 0} → List (Entry N) → Bool
@@ -409,10 +434,17 @@ started_at (e ∷ past) i = elim (starts i e) [ true ↦ now past | false ↦ st
 -- the turn that a `Returned` records, for the handle x
 abbrev pub item_of : {N : Type 0} → ℕ → Option Event → ℕ → Answer → N → List (Item N)
 item_of x None moment answer note = []
-item_of x (Some event) moment answer note = if event.handle == x then record { upcall = event.upcall; moment = moment; answer = answer; note = note } ∷ [] else []
+item_of x (Some event) moment answer note =
+    if event.handle == x then record {
+      upcall = event.upcall;
+      moment = moment;
+      answer = answer;
+      note = note;
+    } ∷ [] else []
 
 abbrev pub items_made : {N : Type 0} → List (Entry N) → ℕ → Entry N → List (Item N)
-items_made past x (Returned event answer note) = item_of x (event_at past event) (started_at past event) answer note
+items_made past x (Returned event answer note) =
+    item_of x (event_at past event) (started_at past event) answer note
 items_made past x _ = []
 
 -- the turns that the handler of x has had, in order of their `Returned`
@@ -424,11 +456,12 @@ had (e ∷ past) x = had past x ++ items_made past x e
 
 -- the turn that the last entry records, if it is a `Returned`
 abbrev pub turn_settled : {N : Type 0} → List (Entry N) → Option (Origin N)
-turn_settled (Returned event answer note ∷ past) = Some (record { note = note; moment = started_at past event })
+turn_settled (Returned event answer note ∷ past) =
+    Some (record { note = note; moment = started_at past event })
 turn_settled _ = None
 
--- the origin of a handler that is offered here: the turn that was settled just before, where one `Closed` may stand
--- between; or none
+-- the origin of a handler that is offered here: the turn that was settled just before, where one
+-- `Closed` may stand between; or none
 abbrev pub offered_here : {N : Type 0} → List (Entry N) → Option (Origin N)
 offered_here (Closed handle note ∷ past) = turn_settled past
 offered_here past = turn_settled past
@@ -455,7 +488,8 @@ closes_itself x events _ = false
 -- whether such an entry ended the life of x
 abbrev pub ended_itself : {N : Type 0} → List (Entry N) → ℕ → Bool
 ended_itself [] x = false
-ended_itself (e ∷ past) x = elim (was_removed past x) [ true ↦ ended_itself past x | false ↦ closes_itself x (event_at past) e ]
+ended_itself (e ∷ past) x = elim (was_removed past x)
+    [ true ↦ ended_itself past x | false ↦ closes_itself x (event_at past) e ]
 
 -- the reason for which the handler of x is closed
 abbrev pub reason_of : {N : Type 0} → List (Entry N) → ℕ → Why
@@ -498,7 +532,11 @@ is_stale _ = false
 -- the deadline that the entry adds to the armed ones
 abbrev pub with_next : {N : Type 0} → List (Entry N) → Option ℕ → Option (ℕ × ℕ)
 with_next past None = None
-with_next past (Some t) = Some (next_deadline (deadline past t) (period (timer_of past t)) (now past), t)
+with_next past (Some t) = Some (
+  next_deadline (deadline past t) (period (timer_of past t))
+      (now past),
+  t,
+)
 
 abbrev pub added : {N : Type 0} → List (Entry N) → Entry N → Option (ℕ × ℕ)
 added past (Scheduled timer handle first every) = Some (first, timer)

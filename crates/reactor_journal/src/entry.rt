@@ -2,8 +2,9 @@
 
 use ev_types::{Answer, Handle, Kind, Mask};
 
-/// One step of a reactor, as its journal records it. `N` is what a handler notes of its turns. The number of an
-/// entry is its place in the journal, from 0; moments, deadlines and periods are milliseconds.
+/// One step of a reactor, as its journal records it. `N` is what a handler notes of its turns. The
+/// number of an entry is its place in the journal, from 0; moments, deadlines and periods are
+/// milliseconds.
 #[derive(PartialEq, Eq, Debug, Drop)]
 pub enum Entry<N> {
     /// A handler was registered.

@@ -1,14 +1,15 @@
 //! The journal: a list of entries, with room for some more.
 
-ghost use Rattle.std.specs.Prelude.{◌≡◌, ◌≤◌, ◌<◌, ◌+◌, ◌++◌, ◌∷◌, [], length, OnOk, OnErr, IsOk, slice_get, Some, IsTrue, ◌↔◌};
+ghost use Rattle.std.specs.Prelude.{◌≡◌, ◌≤◌, ◌<◌, ◌+◌, ◌++◌, ◌∷◌, [], length, OnOk, OnErr, IsOk};
+ghost use Rattle.std.specs.Prelude.{slice_get, Some, IsTrue, ◌↔◌};
 
 use crate::entry::Entry;
 use ev_types::NoMemory;
 use std::alloc::Global;
 use std::marker::Model;
 
-/// The entries so far, in order, and room for some more, so that a step that must not fail can be recorded.
-/// Contracts see the entries and the number of spare places.
+/// The entries so far, in order, and room for some more, so that a step that must not fail can be
+/// recorded. Contracts see the entries and the number of spare places.
 #[derive(Drop)]
 pub struct Journal<N> {
     entries: Vec<Entry<N>>,
@@ -21,7 +22,10 @@ impl<N> Model for Journal<N> {
 
     ghost Value = { Held (Entry N) };
 
-    ghost view = { λ j. record { entries = j.entries.items; spare = vec_capacity j.entries - vec_len j.entries } };
+    ghost view = { λ j. record {
+      entries = j.entries.items;
+      spare = vec_capacity j.entries - vec_len j.entries;
+    } };
 }
 
 impl<N> Journal<N> {
@@ -34,8 +38,8 @@ impl<N> Journal<N> {
         }
     }
 
-    /// Makes the spare places at least `n`. Where there is that much room already it takes no memory and answers
-    /// Ok; after a refusal nothing has changed.
+    /// Makes the spare places at least `n`. Where there is that much room already it takes no
+    /// memory and answers Ok; after a refusal nothing has changed.
     pub fn reserve(&mut self, n: usize) -> Result<(), NoMemory>
         ensures entries { self.new.entries ≡ self.old.entries }
         ensures room { OnOk result (n ≤ self.new.spare) }

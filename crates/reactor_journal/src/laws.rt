@@ -1,16 +1,20 @@
-//! Laws of every legal journal. Each function has an empty body: what it says is its contract, over the
-//! definitions alone.
+//! Laws of every legal journal. Each function has an empty body: what it says is its contract, over
+//! the definitions alone.
 
-ghost use Rattle.reactor_journal.specs.Laws.{HasOneOpenUpcall, HasOneFate, StartsOnce, StartsEvents, ClosesOnce, OnlyStaleFollows, HasNoTurnMeanwhile, PicksOne, PicksSome, ReportsAreEvents, ArmedRises, ArmedOnce, IsAboveNow, IsOfTheRow, IsLeastAbove};
+ghost use Rattle.reactor_journal.specs.Laws.{HasOneOpenUpcall, HasOneFate, StartsOnce};
+ghost use Rattle.reactor_journal.specs.Laws.{StartsEvents, ClosesOnce, OnlyStaleFollows};
+ghost use Rattle.reactor_journal.specs.Laws.{HasNoTurnMeanwhile, PicksOne, PicksSome};
+ghost use Rattle.reactor_journal.specs.Laws.{ReportsAreEvents, ArmedRises, ArmedOnce, IsAboveNow};
+ghost use Rattle.reactor_journal.specs.Laws.{IsOfTheRow, IsLeastAbove};
 
-/// No handle has two open events, so no event handler is in two upcalls at once (POSA2, Leader/Followers; the
-/// suspended handle of `ACE_TP_Reactor`, C++NPv2 chapter 4).
+/// No handle has two open events, so no event handler is in two upcalls at once (POSA2,
+/// Leader/Followers; the suspended handle of `ACE_TP_Reactor`, C++NPv2 chapter 4).
 pub fn one_open_upcall<N>()
     ensures { HasOneOpenUpcall N }
 {}
 
-/// Each event is exactly one of started, dropped and waiting. None is started twice, and what is started is an
-/// event.
+/// Each event is exactly one of started, dropped and waiting. None is started twice, and what is
+/// started is an event.
 pub fn one_fate<N>()
     ensures one { HasOneFate N }
     ensures once { StartsOnce N }
@@ -45,8 +49,8 @@ pub fn armed_in_order<N>()
     ensures once { ArmedOnce N }
 {}
 
-/// The next deadline of a periodic timer is the least of d + every, d + 2 * every and so on that is above the
-/// moment.
+/// The next deadline of a periodic timer is the least of d + every, d + 2 * every and so on that is
+/// above the moment.
 pub fn next_is_least()
     ensures above { IsAboveNow }
     ensures of_the_row { IsOfTheRow }

@@ -3,3 +3,7 @@ pub mod Turns
 pub mod Attaching
 pub mod Volumes
 pub mod MemVolumes
+pub use Rattle.reactor_journal
+pub use Rattle.reactor_journal.specs.ev_types
+pub use Rattle.ev_base
+pub use Rattle.journal_check.specs.reactor_summary

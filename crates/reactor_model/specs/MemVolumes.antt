@@ -9,7 +9,12 @@ use Rattle.reactor_model.specs.declared.volumes.MemVolumes.{MemVolumes}
 
 -- it tells its entries, and counts those of the present journal; a volume has 65,536 entries
 abbrev pub mem_volumes_facts : {N : Type 0} → MemVolumes N → VolumesFacts N
-mem_volumes_facts volumes = record { faults = volumes.faults; taken = Some volumes.entries.items; next = Some volumes.next; size = 65536 }
+mem_volumes_facts volumes = record {
+  faults = volumes.faults;
+  taken = Some volumes.entries.items;
+  next = Some volumes.next;
+  size = 65536;
+}
 
 -- how many takes it was asked for, and the numbers of those that are to fail
 abbrev pub takes_of : {N : Type 0} → MemVolumes N → ℕ

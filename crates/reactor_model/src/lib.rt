@@ -1,5 +1,5 @@
-//! The reactor's model: the journal with its definitions and its checker, and what the reactor asks of event handlers, of
-//! watches and of keepers of volumes.
+//! The reactor's model: the journal with its definitions and its checker, and what the reactor asks
+//! of event handlers, of watches and of keepers of volumes.
 #![tactic(auto)]
 
 mod handler;

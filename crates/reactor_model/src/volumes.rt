@@ -1,9 +1,10 @@
-//! Keepers of volumes: a long run cannot keep its whole journal, so full parts of it are handed over.
+//! Keepers of volumes: a long run cannot keep its whole journal, so full parts of it are handed
+//! over.
 ghost use Rattle.std.specs.Prelude.{◌≡◌, [], Some, ◌↔◌};
 
+use ghost_log::Tally;
 use reactor_journal::{Entry, Journal};
 use std::alloc::Global;
-use tally::Tally;
 
 /// Why a volume was not taken.
 #[derive(Clone, Copy, PartialEq, Eq, Debug)]
@@ -14,10 +15,11 @@ pub enum TakeRefused {
     NoMemory,
 }
 
-/// Takes the volumes of a journal in order, and of another journal after it. It has a count of faults that never falls, and where
-/// it tells them, a list of all entries that it took.
+/// Takes the volumes of a journal in order, and of another journal after it. It has a count of
+/// faults that never falls, and where it tells them, a list of all entries that it took.
 pub trait Volumes<N> {
-    ghost use Rattle.reactor_model.specs.Volumes.{VolumesFacts, IsNext, IsSize, BeginsJournal, TakesVolume};
+    ghost use Rattle.reactor_model.specs.Volumes.{VolumesFacts, IsNext, IsSize, BeginsJournal};
+    ghost use Rattle.reactor_model.specs.Volumes.{TakesVolume};
 
     /// What contracts see of it.
     ghost facts: { Self → VolumesFacts N };
@@ -31,15 +33,16 @@ pub trait Volumes<N> {
     fn begin(&mut self)
         ensures { BeginsJournal (facts self.old) (facts self.new) };
 
-    /// Takes a volume whose first entry has the number `first` in its journal, which is that of the first entry not taken yet.
-    /// After a refusal nothing was taken, and the volume comes back; `Failed` comes only where the count of faults rose.
+    /// Takes a volume whose first entry has the number `first` in its journal, which is that of the
+    /// first entry not taken yet. After a refusal nothing was taken, and the volume comes back;
+    /// `Failed` comes only where the count of faults rose.
     fn take(&mut self, first: u64, volume: Journal<N>) -> Result<(), (Journal<N>, TakeRefused)>
         requires next { IsNext (facts self.old).next first }
         ensures takes { TakesVolume (facts self.old) volume result (facts self.new) };
 }
 
-/// A keeper in memory, which tells its entries. The takes that are named by their numbers, from 0, fail. A volume has 65,536
-/// entries.
+/// A keeper in memory, which tells its entries. The takes that are named by their numbers, from 0,
+/// fail. A volume has 65,536 entries.
 #[derive(Drop)]
 pub struct MemVolumes<N> {
     entries: Vec<Entry<N>>,
@@ -53,9 +56,15 @@ pub struct MemVolumes<N> {
 impl<N> MemVolumes<N> {
     ghost use Rattle.reactor_model.specs.MemVolumes.{mem_volumes_facts, takes_of, fails_of};
 
-    /// A keeper that has taken nothing. The takes whose numbers stand in `fails` are to fail. It takes no memory.
+    /// A keeper that has taken nothing. The takes whose numbers stand in `fails` are to fail. It
+    /// takes no memory.
     pub fn new(alloc: Global, fails: Vec<u64>) -> MemVolumes<N>
-        ensures facts { mem_volumes_facts result ≡ record { faults = 0; taken = Some []; next = Some 0; size = 65536 } }
+        ensures facts { mem_volumes_facts result ≡ record {
+          faults = 0;
+          taken = Some [];
+          next = Some 0;
+          size = 65536;
+        } }
         ensures takes { takes_of result ≡ 0 }
         ensures fails { fails_of result ≡ fails.items }
     {
@@ -79,7 +88,8 @@ impl<N> MemVolumes<N> {
 impl<N> Volumes<N> for MemVolumes<N> {
     ghost use Rattle.ev_base.specs.Counts.{counted};
     ghost use Rattle.reactor_model.specs.Volumes.{IsNext, BeginsJournal, TakesVolume};
-    ghost use Rattle.reactor_model.specs.MemVolumes.{mem_volumes_facts, takes_of, fails_of, FailsNow, IsFailure};
+    ghost use Rattle.reactor_model.specs.MemVolumes.{mem_volumes_facts, takes_of, fails_of};
+    ghost use Rattle.reactor_model.specs.MemVolumes.{FailsNow, IsFailure};
 
     ghost facts = { mem_volumes_facts };
 
@@ -97,7 +107,8 @@ impl<N> Volumes<N> for MemVolumes<N> {
 
     fn take(&mut self, _first: u64, volume: Journal<N>) -> Result<(), (Journal<N>, TakeRefused)>
         requires next { IsNext (mem_volumes_facts self.old).next _first }
-        ensures takes { TakesVolume (mem_volumes_facts self.old) volume result (mem_volumes_facts self.new) }
+        ensures takes { TakesVolume (mem_volumes_facts self.old) volume result
+            (mem_volumes_facts self.new) }
         ensures failed { IsFailure result ↔ FailsNow self.old }
         ensures number { takes_of self.new ≡ counted (takes_of self.old) }
         ensures fails { fails_of self.new ≡ fails_of self.old }
@@ -121,7 +132,8 @@ impl<N> Volumes<N> for MemVolumes<N> {
     }
 }
 
-/// A keeper that lets its volumes go. It tells nothing, counts nothing and never fails. A volume has 512 entries.
+/// A keeper that lets its volumes go. It tells nothing, counts nothing and never fails. A volume
+/// has 512 entries.
 #[derive(Clone, Copy, PartialEq, Eq, Debug)]
 pub struct DropVolumes;
 

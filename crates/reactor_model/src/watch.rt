@@ -6,7 +6,8 @@ ghost use Rattle.reactor_journal.specs.declared.entry.Entry.{Entry};
 
 use reactor_journal::Entry;
 
-/// Sees each entry of a journal in order, as it is appended. It takes no memory and refuses nothing.
+/// Sees each entry of a journal in order, as it is appended. It takes no memory and refuses
+/// nothing.
 pub trait Watch<N> {
     /// It has seen exactly these entries.
     ghost stands: { Terms → Self → List (Entry N) → Type 0 };
@@ -22,19 +23,22 @@ pub trait Watch<N> {
 
     /// Sees one more entry. No count falls, and it breaks only where that of its faults rose.
     fn saw(&mut self, entry: &Entry<N>)
-        ensures stands { (t : Terms) (h : List (Entry N)) → stands t self.old h → stands t self.new (h ++ entry.now ∷ []) }
+        ensures stands { (t : Terms) (h : List (Entry N)) → stands t self.old h
+            → stands t self.new (h ++ entry.now ∷ []) }
         ensures later { faults self.old ≤ faults self.new }
         ensures stays { is_broken self.old ≡ true → is_broken self.new ≡ true }
-        ensures breaks { is_broken self.old ≡ false → is_broken self.new ≡ true → Rose (faults self.old) (faults self.new) }
+        ensures breaks { is_broken self.old ≡ false → is_broken self.new ≡ true
+            → Rose (faults self.old) (faults self.new) }
         ensures whole { whole self.old ≤ whole self.new };
 
     /// Whether it failed.
     fn broken(&self) -> bool
         ensures { result ≡ is_broken self.now };
 
-    /// Where one that stands for a list is broken, its count is above that of the output at the start, if the terms have it.
-    ghost broke: { (t : Terms) (watch : Self) (h : List (Entry N)) (before : ℕ) → stands t watch h → is_broken watch ≡ true
-        → t.output_faults ≡ Some before → Rose before (faults watch) };
+    /// Where one that stands for a list is broken, its count is above that of the output at the
+    /// start, if the terms have it.
+    ghost broke: { (t : Terms) (watch : Self) (h : List (Entry N)) (before : ℕ) → stands t watch h
+        → is_broken watch ≡ true → t.output_faults ≡ Some before → Rose before (faults watch) };
 }
 
 /// A watch that sees nothing and never breaks.

@@ -1,10 +1,15 @@
--- What holds of each summary that a reactor reaches: what its tables are searched by, and that its numbers fit. Each
--- entry that fits keeps it.
-use Rattle.std.specs.Prelude.{ℕ, ◌≡◌, ◌≤◌, ◌<◌, ◌+◌, ◌^◌, ◌==◌, Bool, false, true, List, length, Option, Some, None}
+-- What holds of each summary that a reactor reaches: what its tables are searched by, and that its
+-- numbers fit. Each entry that fits keeps it.
+use Rattle.std.specs.Prelude.{ℕ, ◌≡◌, ◌≤◌, ◌<◌, ◌+◌, ◌^◌, ◌==◌, Bool, false, true, List, length}
+use Rattle.std.specs.Prelude.{Option, Some, None}
 use Rattle.std.specs.List.{list_any}
-use Rattle.reactor_journal.specs.declared.entry.Entry.{Entry}
-use Rattle.reactor_journal.specs.declared.entry.Entry.TheVariants.{Opened, Scheduled, Polled, Due, Closed}
-use Rattle.reactor_journal.specs.Past.{count}
+use Rattle.reactor_summary.specs.reactor_journal.specs.declared.entry.Entry.{Entry}
+use Rattle.reactor_summary.specs.reactor_journal.specs.declared.entry.Entry.TheVariants.{Opened}
+use Rattle.reactor_summary.specs.reactor_journal.specs.declared.entry.Entry.TheVariants.{Scheduled}
+use Rattle.reactor_summary.specs.reactor_journal.specs.declared.entry.Entry.TheVariants.{Polled}
+use Rattle.reactor_summary.specs.reactor_journal.specs.declared.entry.Entry.TheVariants.{Due}
+use Rattle.reactor_summary.specs.reactor_journal.specs.declared.entry.Entry.TheVariants.{Closed}
+use Rattle.reactor_summary.specs.reactor_journal.specs.Past.{count}
 use Rattle.reactor_summary.specs.declared.parts.LiveHandle.{LiveHandle}
 use Rattle.reactor_summary.specs.declared.parts.DueTimer.{DueTimer}
 use Rattle.reactor_summary.specs.declared.parts.WaitingEvent.{WaitingEvent}
@@ -31,7 +36,8 @@ is_due_of t (Some due) = due.timer == t
 
 -- how often the timer is armed or came due in an event that waits
 abbrev pub times : ℕ → List ArmedTimer → List WaitingEvent → ℕ
-times t armed waiting = count (λ (a : ArmedTimer). a.timer == t) armed + count (λ (w : WaitingEvent). is_due_of t w.due) waiting
+times t armed waiting = count (λ (a : ArmedTimer). a.timer == t) armed
+    + count (λ (w : WaitingEvent). is_due_of t w.due) waiting
 
 -- the deadline that was reached is not past the moment
 abbrev pub IsReached : ℕ → Option DueTimer → Type 0
@@ -63,7 +69,8 @@ pub record IsSound (s : Summary) : Type 0 where
 -- the premise under which an entry keeps that
 abbrev pub Fits : {N : Type 0} → Summary → Entry N → Type 0
 Fits s (Opened handle mask) = (handle.0 ≡ s.opened) × (s.opened < 4294967295)
-Fits s (Scheduled timer handle first every) = (timer ≡ s.scheduled) × (first ≤ 2 ^ 63) × (every ≤ 4294967295)
+Fits s (Scheduled timer handle first every) =
+    (timer ≡ s.scheduled) × (first ≤ 2 ^ 63) × (every ≤ 4294967295)
 Fits s (Polled now) = (s.moment ≤ now) × (now ≤ 2 ^ 62)
 Fits s (Due timer) = is_first_due s timer ≡ true
 Fits s (Closed handle note) = list_any (λ h. h.handle.0 == handle.0) s.handles ≡ true

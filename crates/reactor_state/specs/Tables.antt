@@ -1,12 +1,15 @@
--- The tables of a reactor's state, as the summary has what stands in them (POSA2, Reactor: the demultiplexing table
--- and the timer queue). The order of the classes is that of this project's journal.
-use Rattle.std.specs.Prelude.{ℕ, ◌≡◌, ◌≤◌, ◌<◌, ◌+◌, ◌==◌, Bool, not, ◌&&◌, if◌then◌else◌, List, [], ◌∷◌, ◌++◌, length, map, filter, vec_capacity, Option, Some, None}
+-- The tables of a reactor's state, as the summary has what stands in them (POSA2, Reactor: the
+-- demultiplexing table and the timer queue). The order of the classes is that of this project's
+-- journal.
+use Rattle.std.specs.Prelude.{ℕ, ◌≡◌, ◌≤◌, ◌<◌, ◌+◌, ◌==◌, Bool, not, ◌&&◌, if◌then◌else◌, List, []}
+use Rattle.std.specs.Prelude.{◌∷◌, ◌++◌, length, map, filter, vec_capacity, Option, Some, None}
 use Rattle.std.specs.List.{list_any}
 use Rattle.std.specs.VecDeque.{deque_items, deque_capacity}
 use Rattle.ev_types.specs.declared.upcall.Mask.{Mask}
 use Rattle.ev_types.specs.declared.upcall.Upcall.{Upcall}
-use Rattle.ev_types.specs.declared.upcall.Upcall.TheVariants.{Input, Output, Except, Timeout, Notice}
-use Rattle.reactor_journal.specs.Past.{class_of, count}
+use Rattle.ev_types.specs.declared.upcall.Upcall.TheVariants.{Input, Output, Except, Timeout}
+use Rattle.ev_types.specs.declared.upcall.Upcall.TheVariants.{Notice}
+use Rattle.reactor_summary.specs.reactor_journal.specs.Past.{class_of, count}
 use Rattle.reactor_summary.specs.declared.parts.LiveHandle.{LiveHandle}
 use Rattle.reactor_summary.specs.declared.parts.WaitingEvent.{WaitingEvent}
 use Rattle.reactor_summary.specs.declared.parts.OpenEvent.{OpenEvent}
@@ -25,7 +28,8 @@ alive_count handles = count (λ (h : LiveHandle). h.alive) handles
 
 -- whether an event of the handle may be started: it is alive and not suspended, and has none open
 abbrev pub is_free : List LiveHandle → List OpenEvent → ℕ → Bool
-is_free handles opens x = list_any (λ h. h.handle.0 == x && (h.alive && not h.suspended)) handles && not (list_any (λ o. o.handle.0 == x) opens)
+is_free handles opens x = list_any (λ h. h.handle.0 == x && (h.alive && not h.suspended)) handles
+    && not (list_any (λ o. o.handle.0 == x) opens)
 
 -- ---- waiting events
 
@@ -39,14 +43,26 @@ pub record Queues : Type 0 where
 
 -- those that stand in the table
 abbrev pub queues : Waiting → Queues
-queues w = record { timeouts = deque_items w.timeouts; notices = deque_items w.notices; outputs = deque_items w.outputs; excepts = deque_items w.excepts; inputs = deque_items w.inputs }
+queues w = record {
+  timeouts = deque_items w.timeouts;
+  notices = deque_items w.notices;
+  outputs = deque_items w.outputs;
+  excepts = deque_items w.excepts;
+  inputs = deque_items w.inputs;
+}
 
 -- a list of events by their classes
 abbrev pub of_class : ℕ → List WaitingEvent → List WaitingEvent
 of_class class waiting = filter (λ w. class_of w.upcall == class) waiting
 
 abbrev pub by_class : List WaitingEvent → Queues
-by_class waiting = record { timeouts = of_class 0 waiting; notices = of_class 1 waiting; outputs = of_class 2 waiting; excepts = of_class 3 waiting; inputs = of_class 4 waiting }
+by_class waiting = record {
+  timeouts = of_class 0 waiting;
+  notices = of_class 1 waiting;
+  outputs = of_class 2 waiting;
+  excepts = of_class 3 waiting;
+  inputs = of_class 4 waiting;
+}
 
 -- the queue in which an event with the upcall stands
 abbrev pub queue_of : Upcall → Queues → List WaitingEvent
@@ -70,7 +86,13 @@ with_event w q = with_queue w.upcall (queue_of w.upcall q ++ w ∷ []) q
 
 -- those that pass alone
 abbrev pub kept : (WaitingEvent → Bool) → Queues → Queues
-kept p q = record { timeouts = filter p q.timeouts; notices = filter p q.notices; outputs = filter p q.outputs; excepts = filter p q.excepts; inputs = filter p q.inputs }
+kept p q = record {
+  timeouts = filter p q.timeouts;
+  notices = filter p q.notices;
+  outputs = filter p q.outputs;
+  excepts = filter p q.excepts;
+  inputs = filter p q.inputs;
+}
 
 -- without the events of a handle, where that is asked for
 abbrev pub dropped : Bool → ℕ → List WaitingEvent → List WaitingEvent
@@ -78,7 +100,11 @@ dropped which x events = if which then filter (λ w. not (x == w.handle.0)) even
 
 -- without the reports of a handle that its mask lacks
 abbrev pub masked : ℕ → Mask → Queues → Queues
-masked x mask q = record q { outputs = dropped (not mask.write) x q.outputs; excepts = dropped (not mask.except) x q.excepts; inputs = dropped (not mask.read) x q.inputs }
+masked x mask q = record q {
+  outputs = dropped (not mask.write) x q.outputs;
+  excepts = dropped (not mask.except) x q.excepts;
+  inputs = dropped (not mask.read) x q.inputs;
+}
 
 -- how many places each queue has
 pub record Capacities : Type 0 where
@@ -89,7 +115,13 @@ pub record Capacities : Type 0 where
   pub inputs : ℕ
 
 abbrev pub capacities : Waiting → Capacities
-capacities w = record { timeouts = deque_capacity w.timeouts; notices = deque_capacity w.notices; outputs = deque_capacity w.outputs; excepts = deque_capacity w.excepts; inputs = deque_capacity w.inputs }
+capacities w = record {
+  timeouts = deque_capacity w.timeouts;
+  notices = deque_capacity w.notices;
+  outputs = deque_capacity w.outputs;
+  excepts = deque_capacity w.excepts;
+  inputs = deque_capacity w.inputs;
+}
 
 -- there is room for so many timeouts, and for so many events in each other queue
 pub record HasRoom (c : Capacities) (n m : ℕ) (q : Queues) : Type 0 where
@@ -126,26 +158,30 @@ first_deadline (a ∷ armed) = Some a.deadline
 abbrev pub timer_of : Owner → ℕ
 timer_of o = o.timer
 
--- the table of owners has the armed timers with their handles: whatever is asked of a timer's number and its handle
--- holds of as many there as here
+-- the table of owners has the armed timers with their handles: whatever is asked of a timer's
+-- number and its handle holds of as many there as here
 pub record HasOwners (owners : List Owner) (armed : List ArmedTimer) : Type 0 where
   pub bound : ℕ
   pub rising : RisesIn timer_of 0 bound owners
-  pub same : (p : ℕ → ℕ → Bool) → count (λ (o : Owner). p o.timer o.handle.0) owners ≡ count (λ (a : ArmedTimer). p a.timer a.handle.0) armed
+  pub same : (p : ℕ → ℕ → Bool) → count (λ (o : Owner). p o.timer o.handle.0) owners
+      ≡ count (λ (a : ArmedTimer). p a.timer a.handle.0) armed
 
 module _ {Q : Type 0} where
   -- the table has the armed timers
-  pub record HasArmed (timers : Q → List Timer) (table : Armed Q) (armed : List ArmedTimer) : Type 0 where
-    pub timers_are : map armed_of (timers table.timers) ≡ armed
-    pub owners : HasOwners table.owners.items armed
+  pub record HasArmed (timers : Q → List Timer) (table : Armed Q) (armed : List ArmedTimer) : Type 0
+    where
+      pub timers_are : map armed_of (timers table.timers) ≡ armed
+      pub owners : HasOwners table.owners.items armed
 
   -- P holds of the armed timers that the table has
   abbrev pub TellsArmed : (Q → List Timer) → Armed Q → (List ArmedTimer → Type 0) → Type 0
   TellsArmed timers table P = (armed : List ArmedTimer) → HasArmed timers table armed → P armed
 
   -- the new table has the next of what the old one has
-  abbrev pub TakesArmedTo : (Q → List Timer) → Armed Q → (List ArmedTimer → List ArmedTimer) → Armed Q → Type 0
-  TakesArmedTo timers old next new = (armed : List ArmedTimer) → HasArmed timers old armed → HasArmed timers new (next armed)
+  abbrev pub TakesArmedTo : (Q → List Timer) → Armed Q → (List ArmedTimer → List ArmedTimer)
+      → Armed Q → Type 0
+  TakesArmedTo timers old next new =
+      (armed : List ArmedTimer) → HasArmed timers old armed → HasArmed timers new (next armed)
 
   -- there is room for so many more
   pub record HasTimerRoom (spare : Q → ℕ) (n : ℕ) (table : Armed Q) : Type 0 where

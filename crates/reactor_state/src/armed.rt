@@ -1,14 +1,18 @@
 //! The armed timers: a timer queue, and beside it the handle of each timer by its number.
 
-ghost use Rattle.std.specs.Prelude.{◌≡◌, ◌≤◌, ◌<◌, ◌+◌, ◌-◌, ◌==◌, ◌^◌, ℕ, Bool, not, true, false, [], length, map, filter, vec_capacity, OnOk, IsOk, Some, IfSome, IfNone, MatchOption, if◌then◌else◌};
+ghost use Rattle.std.specs.Prelude.{◌≡◌, ◌≤◌, ◌<◌, ◌+◌, ◌-◌, ◌==◌, ◌^◌, ℕ, Bool, not, true, false};
+ghost use Rattle.std.specs.Prelude.{[], length, map, filter, vec_capacity, OnOk, IsOk, Some};
+ghost use Rattle.std.specs.Prelude.{IfSome, IfNone, MatchOption, if◌then◌else◌};
 ghost use Rattle.std.specs.List.{list_any, find, HoldsAt, AllWithin};
 ghost use Rattle.std.specs.Option.{option_map};
 ghost use Rattle.timer_queue.specs.Timers.{is_scheduled};
-ghost use Rattle.reactor_journal.specs.Past.{count, next_deadline};
+ghost use Rattle.reactor_summary.specs.reactor_journal.specs.Past.{count, next_deadline};
 ghost use Rattle.reactor_summary.specs.Summary as S;
 ghost use Rattle.reactor_state.specs.Rises.{RisesIn};
 ghost use Rattle.reactor_state.specs.Sound.{IsReached, is_due_of};
-ghost use Rattle.reactor_state.specs.Tables.{timer_of, armed_of, first_deadline, IsOnce, HasArmed, TellsArmed, TakesArmedTo, HasTimerRoom, KeepsTimerRoom};
+ghost use Rattle.reactor_state.specs.Tables.{timer_of, armed_of, first_deadline, IsOnce, HasArmed};
+ghost use Rattle.reactor_state.specs.Tables.{TellsArmed, TakesArmedTo, HasTimerRoom};
+ghost use Rattle.reactor_state.specs.Tables.{KeepsTimerRoom};
 
 use ev_types::{Handle, NoMemory};
 use reactor_summary::DueTimer;
@@ -33,16 +37,18 @@ pub struct Armed<Q> {
 /// The place of the first owner whose timer is not below this one.
 fn owner_from(owners: &[Owner], timer: u64) -> usize
     ensures bound { result ≤ length owners.now }
-    ensures below { (hi : ℕ) → RisesIn timer_of 0 hi owners.now → AllWithin (λ o. o.timer < timer) owners.now 0 result }
-    ensures above { (hi : ℕ) → RisesIn timer_of 0 hi owners.now → AllWithin (λ o. timer ≤ o.timer) owners.now result (length owners.now) }
+    ensures below { (hi : ℕ) → RisesIn timer_of 0 hi owners.now
+        → AllWithin (λ o. o.timer < timer) owners.now 0 result }
+    ensures above { (hi : ℕ) → RisesIn timer_of 0 hi owners.now
+        → AllWithin (λ o. timer ≤ o.timer) owners.now result (length owners.now) }
 {
     owners.partition_point(|o| o.timer < timer)
 }
 
 /// The place of the timer's owner.
 fn owner_of(owners: &[Owner], timer: u64) -> Option<usize>
-    ensures { MatchOption result
-        ((hi : ℕ) → RisesIn timer_of 0 hi owners.now → list_any (λ o. o.timer == timer) owners.now ≡ false)
+    ensures { MatchOption result ((hi : ℕ) → RisesIn timer_of 0 hi owners.now
+        → list_any (λ o. o.timer == timer) owners.now ≡ false)
         (λ place. (place < length owners.now) × HoldsAt (λ o. o.timer ≡ timer) owners.now place) }
 {
     let place = owner_from(owners, timer);
@@ -56,8 +62,12 @@ fn owner_of(owners: &[Owner], timer: u64) -> Option<usize>
 /// Adds an owner at its place.
 fn put(owners: &mut Vec<Owner>, owner: Owner)
     requires { length owners.old.items < vec_capacity owners.old }
-    ensures rising { (hi : ℕ) → RisesIn timer_of 0 hi owners.old.items → owner.timer < hi → list_any (λ o. o.timer == owner.timer) owners.old.items ≡ false → RisesIn timer_of 0 hi owners.new.items }
-    ensures counts { (p : ℕ → ℕ → Bool) → count (λ o. p o.timer o.handle.0) owners.new.items ≡ count (λ o. p o.timer o.handle.0) owners.old.items + (if p owner.timer owner.handle.0 then 1 else 0) }
+    ensures rising { (hi : ℕ) → RisesIn timer_of 0 hi owners.old.items → owner.timer < hi
+        → list_any (λ o. o.timer == owner.timer) owners.old.items ≡ false
+        → RisesIn timer_of 0 hi owners.new.items }
+    ensures counts { (p : ℕ → ℕ → Bool) → count (λ o. p o.timer o.handle.0) owners.new.items
+        ≡ count (λ o. p o.timer o.handle.0) owners.old.items
+        + (if p owner.timer owner.handle.0 then 1 else 0) }
     ensures len { length owners.new.items ≡ length owners.old.items + 1 }
     ensures capacity { vec_capacity owners.new ≡ vec_capacity owners.old }
 {
@@ -70,7 +80,8 @@ fn put(owners: &mut Vec<Owner>, owner: Owner)
 
 /// Takes the timer's owner out.
 fn take_out(owners: &mut Vec<Owner>, timer: u64)
-    ensures items { (hi : ℕ) → RisesIn timer_of 0 hi owners.old.items → owners.new.items ≡ filter (λ o. not (timer == o.timer)) owners.old.items }
+    ensures items { (hi : ℕ) → RisesIn timer_of 0 hi owners.old.items
+        → owners.new.items ≡ filter (λ o. not (timer == o.timer)) owners.old.items }
     ensures len { length owners.new.items ≤ length owners.old.items }
     ensures capacity { vec_capacity owners.new ≡ vec_capacity owners.old }
 {
@@ -129,8 +140,10 @@ impl<Q: TimerQueue> Armed<Q> {
     pub fn arm(&mut self, t: Timer)
         requires fresh { is_scheduled t.timer (Q.timers self.old.timers) ≡ false }
         requires room { HasTimerRoom Q.spare 1 self.old }
-        ensures armed { TakesArmedTo Q.timers self.old (λ armed. S.with_timer (armed_of t) armed) self.new }
-        ensures room { (n : ℕ) → HasTimerRoom Q.spare n self.old → HasTimerRoom Q.spare (n - 1) self.new }
+        ensures armed { TakesArmedTo Q.timers self.old (λ armed. S.with_timer (armed_of t) armed)
+            self.new }
+        ensures room { (n : ℕ) → HasTimerRoom Q.spare n self.old
+            → HasTimerRoom Q.spare (n - 1) self.new }
     {
         self.timers.schedule(t);
         put(
@@ -142,14 +155,18 @@ impl<Q: TimerQueue> Armed<Q> {
         );
     }
 
-    /// Arms a periodic timer that came due again, at the deadline of its row after the one that was reached.
+    /// Arms a periodic timer that came due again, at the deadline of its row after the one that was
+    /// reached.
     pub fn arm_again(&mut self, moment: u64, handle: Handle, due: Option<DueTimer>)
         requires moment { moment ≤ 2 ^ 62 }
         requires reached { IsReached moment due }
-        requires fresh { (t : ℕ) → is_due_of t due ≡ true → is_scheduled t (Q.timers self.old.timers) ≡ false }
+        requires fresh { (t : ℕ) → is_due_of t due ≡ true → is_scheduled t
+            (Q.timers self.old.timers) ≡ false }
         requires room { HasTimerRoom Q.spare 1 self.old }
-        ensures armed { TakesArmedTo Q.timers self.old (λ armed. S.with_next moment handle due armed) self.new }
-        ensures room { (n : ℕ) → HasTimerRoom Q.spare n self.old → HasTimerRoom Q.spare (n - 1) self.new }
+        ensures armed { TakesArmedTo Q.timers self.old (λ armed.
+            S.with_next moment handle due armed) self.new }
+        ensures room { (n : ℕ) → HasTimerRoom Q.spare n self.old
+            → HasTimerRoom Q.spare (n - 1) self.new }
     {
         match due {
             None => {}
@@ -169,7 +186,8 @@ impl<Q: TimerQueue> Armed<Q> {
 
     /// Takes a timer away.
     pub fn disarm(&mut self, timer: u64)
-        ensures armed { TakesArmedTo Q.timers self.old (λ armed. S.without_timer timer armed) self.new }
+        ensures armed { TakesArmedTo Q.timers self.old (λ armed. S.without_timer timer armed)
+            self.new }
         ensures room { KeepsTimerRoom Q.spare self.old self.new }
     {
         self.timers.cancel(timer);
@@ -178,7 +196,8 @@ impl<Q: TimerQueue> Armed<Q> {
 
     /// Takes the timers of a handle away.
     pub fn disarm_all(&mut self, handle: Handle)
-        ensures armed { TakesArmedTo Q.timers self.old (λ armed. filter (λ a. not (a.handle.0 == handle.0)) armed) self.new }
+        ensures armed { TakesArmedTo Q.timers self.old (λ armed.
+            filter (λ a. not (a.handle.0 == handle.0)) armed) self.new }
         ensures room { KeepsTimerRoom Q.spare self.old self.new }
     {
         self.timers.cancel_all(handle);
@@ -187,10 +206,15 @@ impl<Q: TimerQueue> Armed<Q> {
 
     /// Takes out the first timer, if its deadline is reached.
     pub fn pop_due(&mut self, now: u64) -> Option<Timer>
-        ensures due { IfSome result (λ t. TellsArmed Q.timers self.old (λ armed. IsOnce armed → HasArmed Q.timers self.new (S.without_timer t.timer armed))) }
-        ensures first { IfSome result (λ t. TellsArmed Q.timers self.old (λ armed. (S.is_first now t.timer armed ≡ true) × (find (λ a. a.timer == t.timer) armed ≡ Some (armed_of t)))) }
-        ensures none { IfNone result (TellsArmed Q.timers self.old (λ armed. S.is_reached now armed ≡ false)) }
-        ensures unchanged { IfNone result (TakesArmedTo Q.timers self.old (λ armed. armed) self.new) }
+        ensures due { IfSome result (λ t. TellsArmed Q.timers self.old
+            (λ armed. IsOnce armed → HasArmed Q.timers self.new (S.without_timer t.timer armed))) }
+        ensures first { IfSome result (λ t. TellsArmed Q.timers self.old
+            (λ armed. (S.is_first now t.timer armed ≡ true)
+            × (find (λ a. a.timer == t.timer) armed ≡ Some (armed_of t)))) }
+        ensures none { IfNone result (TellsArmed Q.timers self.old
+            (λ armed. S.is_reached now armed ≡ false)) }
+        ensures unchanged { IfNone result (TakesArmedTo Q.timers self.old (λ armed. armed)
+            self.new) }
         ensures room { KeepsTimerRoom Q.spare self.old self.new }
     {
         match self.timers.pop_due(now) {
@@ -211,7 +235,8 @@ impl<Q: TimerQueue> Armed<Q> {
 
     /// The handle of the timer, if it is armed.
     pub fn handle_of(&self, timer: u64) -> Option<Handle>
-        ensures { TellsArmed Q.timers self.now (λ armed. IsOnce armed → result ≡ option_map (λ a. a.handle) (find (λ a. a.timer == timer) armed)) }
+        ensures { TellsArmed Q.timers self.now (λ armed. IsOnce armed
+            → result ≡ option_map (λ a. a.handle) (find (λ a. a.timer == timer) armed)) }
     {
         match owner_of(&self.owners, timer) {
             Some(place) => Some(self.owners[place].handle),

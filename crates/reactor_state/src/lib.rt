@@ -1,6 +1,7 @@
-//! What a one-thread reactor keeps beside its journal, in tables that are fast to ask: the live handles, the waiting
-//! events in a queue for each class, the open events, the armed timers, and numbers (POSA2, Reactor, "demultiplexing
-//! table"; C++NPv2 chapter 3). It stands for a summary of the journal, and each step keeps it so.
+//! What a one-thread reactor keeps beside its journal, in tables that are fast to ask: the live
+//! handles, the waiting events in a queue for each class, the open events, the armed timers, and
+//! numbers (POSA2, Reactor, "demultiplexing table"; C++NPv2 chapter 3). It stands for a summary of
+//! the journal, and each step keeps it so.
 #![tactic(auto)]
 
 mod armed;

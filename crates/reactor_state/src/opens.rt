@@ -1,5 +1,5 @@
-//! The open events, in the order in which they were started. There are as many as upcalls are open at once, so they are
-//! searched from end to end.
+//! The open events, in the order in which they were started. There are as many as upcalls are open
+//! at once, so they are searched from end to end.
 
 ghost use Rattle.std.specs.Prelude.{◌≡◌, ◌≤◌, ◌==◌, not, length, filter, vec_capacity};
 ghost use Rattle.std.specs.List.{list_any, find};

@@ -1,14 +1,16 @@
 //! The state of a one-thread reactor: its parts, its room, and what is asked of it.
 
-ghost use Rattle.std.specs.Prelude.{◌≡◌, ◌≤◌, ◌+◌, ◌-◌, ◌*◌, ◌==◌, ◌&&◌, if◌then◌else◌, [], length, map, nat_le, OnOk, IsOk, IfSome};
+ghost use Rattle.std.specs.Prelude.{◌≡◌, ◌≤◌, ◌+◌, ◌-◌, ◌*◌, ◌==◌, ◌&&◌, if◌then◌else◌, [], length};
+ghost use Rattle.std.specs.Prelude.{map, nat_le, OnOk, IsOk, IfSome};
 ghost use Rattle.std.specs.List.{find};
 ghost use Rattle.std.specs.Option.{option_map};
-ghost use Rattle.reactor_journal.specs.Past as P;
+ghost use Rattle.reactor_summary.specs.reactor_journal.specs.Past as P;
 ghost use Rattle.reactor_summary.specs.Summary as S;
 ghost use Rattle.reactor_summary.specs.Summary.{Summary};
 ghost use Rattle.reactor_summary.specs.Rules as R;
 ghost use Rattle.reactor_state.specs.Tables.{alive_count, armed_of, first_deadline};
-ghost use Rattle.reactor_state.specs.State.{Shows, HasPlaces, KeepsPlaces, Tells, IsPlaced, owed, no_places};
+ghost use Rattle.reactor_state.specs.State.{Shows, HasPlaces, KeepsPlaces, Tells, IsPlaced, owed};
+ghost use Rattle.reactor_state.specs.State.{no_places};
 
 use crate::armed::Armed;
 use crate::handles::{find_live, is_alive, is_wanted, next_alive};
@@ -20,9 +22,9 @@ use reactor_summary::{LiveHandle, OpenEvent};
 use std::alloc::Global;
 use timer_queue::TimerQueue;
 
-/// What a one-thread reactor keeps beside its journal: the live handles, the waiting events, the open events, the armed
-/// timers, and numbers. Contracts say of it which summary it stands for (`Shows`), and for how many more of each it has
-/// room (`HasPlaces`). Only `reserve` takes memory.
+/// What a one-thread reactor keeps beside its journal: the live handles, the waiting events, the
+/// open events, the armed timers, and numbers. Contracts say of it which summary it stands for
+/// (`Shows`), and for how many more of each it has room (`HasPlaces`). Only `reserve` takes memory.
 #[derive(Drop)]
 pub struct ReactorState<Q> {
     pub(crate) entries: u64,
@@ -89,8 +91,8 @@ impl<Q: TimerQueue> ReactorState<Q> {
         timers
     }
 
-    /// Makes room for so many more. Where there is that much it answers Ok; after `NoMemory` it stands for what it did,
-    /// with at least the room that it had.
+    /// Makes room for so many more. Where there is that much it answers Ok; after `NoMemory` it
+    /// stands for what it did, with at least the room that it had.
     pub fn reserve(&mut self, more: Places) -> Result<(), NoMemory>
         ensures shows { (s : Summary) → Shows Q.timers self.old s → Shows Q.timers self.new s }
         ensures room { OnOk result (HasPlaces Q.spare more self.new) }
@@ -154,8 +156,9 @@ impl<Q: TimerQueue> ReactorState<Q> {
         self.ended
     }
 
-    /// How many places of the journal are owed: five for each open event, two for each alive handle, one for each other live
-    /// one, and one while the reactor was not stopped. It walks nothing.
+    /// How many places of the journal are owed: five for each open event, two for each alive
+    /// handle, one for each other live one, and one while the reactor was not stopped. It walks
+    /// nothing.
     pub fn owed(&self) -> usize
         ensures { Tells Q.timers self.now (λ s. result ≡ owed s) }
     {
@@ -178,7 +181,8 @@ impl<Q: TimerQueue> ReactorState<Q> {
 
     /// The handle, if it is live.
     pub fn live_handle(&self, handle: Handle) -> Option<LiveHandle>
-        ensures { Tells Q.timers self.now (λ s. result ≡ find (λ h. h.handle.0 == handle.0) s.handles) }
+        ensures { Tells Q.timers self.now (λ s. result
+            ≡ find (λ h. h.handle.0 == handle.0) s.handles) }
     {
         find_live(&self.handles, handle)
     }
@@ -206,7 +210,9 @@ impl<Q: TimerQueue> ReactorState<Q> {
 
     /// The first alive handle that is not below this one, for a walk in rising order.
     pub fn next_alive(&self, from: Handle) -> Option<Handle>
-        ensures { Tells Q.timers self.now (λ s. result ≡ option_map (λ h. h.handle) (find (λ h. nat_le from.0 h.handle.0 && h.alive) s.handles)) }
+        ensures { Tells Q.timers self.now (λ s. result
+            ≡ option_map (λ h. h.handle) (find (λ h. nat_le from.0 h.handle.0 && h.alive)
+            s.handles)) }
     {
         next_alive(&self.handles, from)
     }
@@ -220,22 +226,25 @@ impl<Q: TimerQueue> ReactorState<Q> {
 
     /// The handle of the timer, if it is armed.
     pub fn armed_handle(&self, timer: u64) -> Option<Handle>
-        ensures { Tells Q.timers self.now (λ s. result ≡ option_map (λ a. a.handle) (S.armed_timer s timer)) }
+        ensures { Tells Q.timers self.now (λ s. result
+            ≡ option_map (λ a. a.handle) (S.armed_timer s timer)) }
     {
         self.armed.handle_of(timer)
     }
 
     /// The handle of the first timeout of the timer that waits. It may walk all timeouts that wait.
     pub fn timeout_handle(&self, timer: u64) -> Option<Handle>
-        ensures { Tells Q.timers self.now (λ s. result ≡ option_map (λ w. w.handle) (find (λ w. P.is_timeout_of timer w.upcall) s.waiting)) }
+        ensures { Tells Q.timers self.now (λ s. result
+            ≡ option_map (λ w. w.handle) (find (λ w. P.is_timeout_of timer w.upcall) s.waiting)) }
     {
         self.waiting.timeout_handle(timer)
     }
 
-    /// How many milliseconds are left from the moment to the first deadline, 0 where it is reached; `None` where no timer is
-    /// armed.
+    /// How many milliseconds are left from the moment to the first deadline, 0 where it is reached;
+    /// `None` where no timer is armed.
     pub fn time_to_deadline(&self) -> Option<u64>
-        ensures { Tells Q.timers self.now (λ s. result ≡ option_map (λ d. d - s.moment) (first_deadline s.armed)) }
+        ensures { Tells Q.timers self.now (λ s. result
+            ≡ option_map (λ d. d - s.moment) (first_deadline s.armed)) }
     {
         match self.armed.earliest() {
             Some(deadline) => Some(deadline.saturating_sub(self.moment)),
@@ -243,8 +252,8 @@ impl<Q: TimerQueue> ReactorState<Q> {
         }
     }
 
-    /// The event to be started next: the first of the first class that has an event of a free handle. It goes past those
-    /// events alone whose handle is busy or suspended.
+    /// The event to be started next: the first of the first class that has an event of a free
+    /// handle. It goes past those events alone whose handle is busy or suspended.
     pub fn find_pick(&self) -> Option<Pick>
         ensures pick { Tells Q.timers self.now (λ s. option_map (λ p. p.event) result ≡ S.pick s) }
         ensures placed { Tells Q.timers self.now (λ s. IfSome result (λ p. IsPlaced self.now p)) }
@@ -253,9 +262,11 @@ impl<Q: TimerQueue> ReactorState<Q> {
     }
 }
 
-// Five for each open event, one for each handle and one more for each alive one, and one where it was not stopped.
+// Five for each open event, one for each handle and one more for each alive one, and one where it
+// was not stopped.
 fn owed_of(opens: &[OpenEvent], handles: &[LiveHandle], alive: usize, ended: bool) -> usize
-    ensures { alive ≤ length handles.now → result ≡ 5 * length opens.now + (alive + length handles.now) + (if ended then 0 else 1) }
+    ensures { alive ≤ length handles.now → result
+        ≡ 5 * length opens.now + (alive + length handles.now) + (if ended then 0 else 1) }
 {
     let last = if ended { 0 } else { 1 };
     (5 * opens.len() + handles.len() + last).saturating_add(alive)

@@ -1,14 +1,18 @@
 //! What each entry of a journal changes of the state.
 
-ghost use Rattle.std.specs.Prelude.{◌≡◌, ◌≤◌, ◌<◌, ◌+◌, ◌-◌, ◌==◌, ◌^◌, ℕ, Bool, true, Some, if◌then◌else◌, ◌++◌, length, IfSome, IfNone};
+ghost use Rattle.std.specs.Prelude.{◌≡◌, ◌≤◌, ◌<◌, ◌+◌, ◌-◌, ◌==◌, ◌^◌, ℕ, Bool, true, Some};
+ghost use Rattle.std.specs.Prelude.{if◌then◌else◌, ◌++◌, length, IfSome, IfNone};
 ghost use Rattle.std.specs.List.{list_any};
-ghost use Rattle.reactor_journal.specs.declared.entry.Entry.{Entry};
+ghost use Rattle.reactor_summary.specs.reactor_journal.specs.declared.entry.Entry.{Entry};
 ghost use Rattle.reactor_summary.specs.Summary as S;
 ghost use Rattle.reactor_summary.specs.Summary.{Summary};
 ghost use Rattle.reactor_state.specs.Rises.{RisesIn};
 ghost use Rattle.reactor_state.specs.Sound.{handle_number};
 ghost use Rattle.reactor_state.specs.Tables.{queues, capacities, HasRoom};
-ghost use Rattle.reactor_state.specs.State.{after, without_handle, answered, no_places, but_an_event, CanStep, TakesTo, Tells, HasTables, HasPlaces, KeepsPlaces, UsesPlaces, HasNumber, IsPlaced};
+ghost use Rattle.reactor_state.specs.State.{after, without_handle, answered, no_places};
+ghost use Rattle.reactor_state.specs.State.{but_an_event, CanStep, TakesTo, Tells, HasTables};
+ghost use Rattle.reactor_state.specs.State.{HasPlaces, KeepsPlaces, UsesPlaces, HasNumber};
+ghost use Rattle.reactor_state.specs.State.{IsPlaced};
 
 use crate::handles::{close, end_life, is_alive};
 use crate::opens::{find_open, settle};
@@ -30,13 +34,16 @@ fn fewer(alive: usize, was_alive: bool) -> usize
 }
 
 impl<Q: TimerQueue> ReactorState<Q> {
-    /// A handler is registered with this mask: `Opened`. It answers the handle, and uses a place for one.
+    /// A handler is registered with this mask: `Opened`. It answers the handle, and uses a place
+    /// for one.
     pub fn open(&mut self, mask: Mask) -> Handle
         requires can { CanStep Q.timers self.old (λ s. HasNumber s × (s.opened < 4294967295)) }
         requires room { HasPlaces Q.spare (record no_places { handles = 1 }) self.old }
         ensures number { Tells Q.timers self.old (λ s. result.0 ≡ s.opened) }
-        ensures steps { TakesTo Q.timers self.old (λ s. HasNumber s × (s.opened < 4294967295)) (λ s. after s (Entry.Opened result mask)) self.new }
-        ensures places { UsesPlaces Q.spare self.old (λ p. record p { handles = p.handles - 1 }) self.new }
+        ensures steps { TakesTo Q.timers self.old (λ s. HasNumber s × (s.opened < 4294967295))
+            (λ s. after s (Entry.Opened result mask)) self.new }
+        ensures places { UsesPlaces Q.spare self.old (λ p. record p { handles = p.handles - 1 })
+            self.new }
     {
         let handle = Handle(self.opened);
         self.handles.push_reserved(LiveHandle {
@@ -53,8 +60,10 @@ impl<Q: TimerQueue> ReactorState<Q> {
 
     /// The demultiplexer answered a wait at this moment, in milliseconds: `Polled`.
     pub fn poll(&mut self, now: u64)
-        requires { CanStep Q.timers self.old (λ s. HasNumber s × (s.moment ≤ now) × (now ≤ 2 ^ 62)) }
-        ensures steps { TakesTo Q.timers self.old (λ s. HasNumber s × (s.moment ≤ now) × (now ≤ 2 ^ 62)) (λ s. after s (Entry.Polled now)) self.new }
+        requires { CanStep Q.timers self.old (λ s. HasNumber s × (s.moment ≤ now)
+            × (now ≤ 2 ^ 62)) }
+        ensures steps { TakesTo Q.timers self.old (λ s. HasNumber s × (s.moment ≤ now)
+            × (now ≤ 2 ^ 62)) (λ s. after s (Entry.Polled now)) self.new }
         ensures places { KeepsPlaces Q.spare self.old self.new }
     {
         self.moment = now;
@@ -65,8 +74,10 @@ impl<Q: TimerQueue> ReactorState<Q> {
     pub fn ready(&mut self, handle: Handle, kind: Kind)
         requires can { CanStep Q.timers self.old HasNumber }
         requires room { HasPlaces Q.spare (record no_places { events = 1 }) self.old }
-        ensures steps { TakesTo Q.timers self.old HasNumber (λ s. after s (Entry.Ready handle kind)) self.new }
-        ensures places { UsesPlaces Q.spare self.old (λ p. record p { events = p.events - 1 }) self.new }
+        ensures steps { TakesTo Q.timers self.old HasNumber (λ s. after s (Entry.Ready handle kind))
+            self.new }
+        ensures places { UsesPlaces Q.spare self.old (λ p. record p { events = p.events - 1 })
+            self.new }
     {
         self.waiting.push(WaitingEvent {
             event: self.entries,
@@ -77,14 +88,18 @@ impl<Q: TimerQueue> ReactorState<Q> {
         self.entries += 1;
     }
 
-    /// The picked event is started: `Started`. It uses a place for an open event, and one for a timer where it is a
-    /// periodic timer that came due, which is armed again.
+    /// The picked event is started: `Started`. It uses a place for an open event, and one for a
+    /// timer where it is a periodic timer that came due, which is armed again.
     pub fn start(&mut self, pick: Pick)
         requires can { CanStep Q.timers self.old (λ s. HasNumber s × (S.pick s ≡ Some pick.event)) }
         requires placed { IsPlaced self.old pick }
         requires room { HasPlaces Q.spare (record no_places { opens = 1; timers = 1 }) self.old }
-        ensures steps { TakesTo Q.timers self.old (λ s. HasNumber s × (S.pick s ≡ Some pick.event)) (λ s. after s (Entry.Started pick.event.event)) self.new }
-        ensures places { UsesPlaces Q.spare self.old (λ p. record p { opens = p.opens - 1; timers = p.timers - 1 }) self.new }
+        ensures steps { TakesTo Q.timers self.old (λ s. HasNumber s × (S.pick s ≡ Some pick.event))
+            (λ s. after s (Entry.Started pick.event.event)) self.new }
+        ensures places { UsesPlaces Q.spare self.old (λ p. record p {
+          opens = p.opens - 1;
+          timers = p.timers - 1;
+        }) self.new }
     {
         let event = pick.event;
         self.waiting.take(event.upcall, pick.place);
@@ -100,7 +115,9 @@ impl<Q: TimerQueue> ReactorState<Q> {
 
     /// The life of the handle ends, and with it all that waits for it.
     fn end_of(&mut self, handle: Handle)
-        ensures tables { (s : Summary) (hi : ℕ) → HasTables Q.timers self.old s → RisesIn handle_number 0 hi s.handles → HasTables Q.timers self.new (without_handle handle s) }
+        ensures tables { (s : Summary) (hi : ℕ) → HasTables Q.timers self.old s
+            → RisesIn handle_number 0 hi s.handles
+            → HasTables Q.timers self.new (without_handle handle s) }
         ensures places { KeepsPlaces Q.spare self.old self.new }
     {
         let was_alive = end_life(&mut self.handles, handle);
@@ -112,7 +129,11 @@ impl<Q: TimerQueue> ReactorState<Q> {
     /// The event asks for its upcall once more, where the handle is alive.
     fn again(&mut self, event: OpenEvent)
         requires { HasRoom (capacities self.old.waiting) 1 1 (queues self.old.waiting) }
-        ensures tables { (s : Summary) (hi : ℕ) → HasTables Q.timers self.old s → RisesIn handle_number 0 hi s.handles → HasTables Q.timers self.new (record s { waiting = s.waiting ++ S.waiting_again s (Some event) }) }
+        ensures tables { (s : Summary) (hi : ℕ) → HasTables Q.timers self.old s
+            → RisesIn handle_number 0 hi s.handles
+            → HasTables Q.timers self.new (record s {
+              waiting = s.waiting ++ S.waiting_again s (Some event);
+            }) }
         ensures places { UsesPlaces Q.spare self.old but_an_event self.new }
     {
         if is_alive(&self.handles, event.handle) {
@@ -128,7 +149,9 @@ impl<Q: TimerQueue> ReactorState<Q> {
     /// What an answer makes of an event that was open.
     fn answered(&mut self, found: Option<OpenEvent>, answer: Answer)
         requires { HasRoom (capacities self.old.waiting) 1 1 (queues self.old.waiting) }
-        ensures tables { (s : Summary) (hi : ℕ) → HasTables Q.timers self.old s → RisesIn handle_number 0 hi s.handles → HasTables Q.timers self.new (answered found answer s) }
+        ensures tables { (s : Summary) (hi : ℕ) → HasTables Q.timers self.old s
+            → RisesIn handle_number 0 hi s.handles
+            → HasTables Q.timers self.new (answered found answer s) }
         ensures places { UsesPlaces Q.spare self.old but_an_event self.new }
     {
         match found {
@@ -143,12 +166,13 @@ impl<Q: TimerQueue> ReactorState<Q> {
         }
     }
 
-    /// An upcall is settled: `Returned`, whatever was noted. It uses a place for a timeout, or one for another event, where
-    /// the answer asks for the upcall once more.
+    /// An upcall is settled: `Returned`, whatever was noted. It uses a place for a timeout, or one
+    /// for another event, where the answer asks for the upcall once more.
     pub fn settle<N>(&mut self, event: u64, answer: Answer)
         requires can { CanStep Q.timers self.old HasNumber }
         requires room { HasPlaces Q.spare (record no_places { timeouts = 1; events = 1 }) self.old }
-        ensures steps { (note : N) → TakesTo Q.timers self.old HasNumber (λ s. S.step s (Entry.Returned event answer note)) self.new }
+        ensures steps { (note : N) → TakesTo Q.timers self.old HasNumber
+            (λ s. S.step s (Entry.Returned event answer note)) self.new }
         ensures places { UsesPlaces Q.spare self.old but_an_event self.new }
     {
         let entries = self.entries + 1;
@@ -160,8 +184,11 @@ impl<Q: TimerQueue> ReactorState<Q> {
 
     /// A live handle is closed: `Closed`, whatever was noted.
     pub fn close<N>(&mut self, handle: Handle)
-        requires { CanStep Q.timers self.old (λ s. HasNumber s × (list_any (λ h. h.handle.0 == handle.0) s.handles ≡ true)) }
-        ensures steps { (note : N) → TakesTo Q.timers self.old (λ s. HasNumber s × (list_any (λ h. h.handle.0 == handle.0) s.handles ≡ true)) (λ s. S.step s (Entry.Closed handle note)) self.new }
+        requires { CanStep Q.timers self.old (λ s. HasNumber s
+            × (list_any (λ h. h.handle.0 == handle.0) s.handles ≡ true)) }
+        ensures steps { (note : N) → TakesTo Q.timers self.old
+            (λ s. HasNumber s × (list_any (λ h. h.handle.0 == handle.0) s.handles ≡ true))
+            (λ s. S.step s (Entry.Closed handle note)) self.new }
         ensures places { KeepsPlaces Q.spare self.old self.new }
     {
         let was_alive = close(&mut self.handles, handle);
@@ -173,7 +200,8 @@ impl<Q: TimerQueue> ReactorState<Q> {
     /// The handler is removed: `Removed`.
     pub fn remove(&mut self, handle: Handle)
         requires { CanStep Q.timers self.old HasNumber }
-        ensures steps { TakesTo Q.timers self.old HasNumber (λ s. after s (Entry.Removed handle)) self.new }
+        ensures steps { TakesTo Q.timers self.old HasNumber (λ s. after s (Entry.Removed handle))
+            self.new }
         ensures places { KeepsPlaces Q.spare self.old self.new }
     {
         self.end_of(handle);
@@ -194,8 +222,10 @@ impl<Q: TimerQueue> ReactorState<Q> {
     pub fn post(&mut self, handle: Handle, kind: Kind)
         requires can { CanStep Q.timers self.old HasNumber }
         requires room { HasPlaces Q.spare (record no_places { events = 1 }) self.old }
-        ensures steps { (from seq : ℕ) → TakesTo Q.timers self.old HasNumber (λ s. after s (Entry.Posted handle kind from seq)) self.new }
-        ensures places { UsesPlaces Q.spare self.old (λ p. record p { events = p.events - 1 }) self.new }
+        ensures steps { (from seq : ℕ) → TakesTo Q.timers self.old HasNumber
+            (λ s. after s (Entry.Posted handle kind from seq)) self.new }
+        ensures places { UsesPlaces Q.spare self.old (λ p. record p { events = p.events - 1 })
+            self.new }
     {
         self.waiting.push(WaitingEvent {
             event: self.entries,
@@ -206,10 +236,12 @@ impl<Q: TimerQueue> ReactorState<Q> {
         self.entries += 1;
     }
 
-    /// A notification is for a handle that is not alive: `Stale`, whatever it is. There is one entry more, and nothing else.
+    /// A notification is for a handle that is not alive: `Stale`, whatever it is. There is one
+    /// entry more, and nothing else.
     pub fn skip(&mut self)
         requires { CanStep Q.timers self.old HasNumber }
-        ensures steps { (stale : Handle) (from seq : ℕ) → TakesTo Q.timers self.old HasNumber (λ s. after s (Entry.Stale stale from seq)) self.new }
+        ensures steps { (stale : Handle) (from seq : ℕ) → TakesTo Q.timers self.old HasNumber
+            (λ s. after s (Entry.Stale stale from seq)) self.new }
         ensures places { KeepsPlaces Q.spare self.old self.new }
     {
         self.entries += 1;
@@ -218,7 +250,9 @@ impl<Q: TimerQueue> ReactorState<Q> {
     /// A handler that an upcall offered is not registered: `Refused`, whatever was noted.
     pub fn refuse<N>(&mut self)
         requires { CanStep Q.timers self.old HasNumber }
-        ensures steps { (live : ℕ) (fault : Bool) (note : N) → TakesTo Q.timers self.old HasNumber (λ s. S.step s (Entry.Refused live fault note)) self.new }
+        ensures steps { (live : ℕ) (fault : Bool) (note : N)
+            → TakesTo Q.timers self.old HasNumber (λ s. S.step s (Entry.Refused live fault note))
+            self.new }
         ensures places { KeepsPlaces Q.spare self.old self.new }
     {
         self.refused += 1;

@@ -1,14 +1,17 @@
 //! The waiting events, in a queue for each class.
 
-ghost use Rattle.std.specs.Prelude.{◌≡◌, ◌<◌, ◌≤◌, ◌==◌, ◌+◌, not, true, ℕ, [], length, filter, OnOk, IsOk, IfSome, slice_get, Some};
+ghost use Rattle.std.specs.Prelude.{◌≡◌, ◌<◌, ◌≤◌, ◌==◌, ◌+◌, not, true, ℕ, [], length, filter};
+ghost use Rattle.std.specs.Prelude.{OnOk, IsOk, IfSome, slice_get, Some};
 ghost use Rattle.std.specs.List.{list_any, find, remove};
 ghost use Rattle.std.specs.Option.{option_map};
 ghost use Rattle.std.specs.VecDeque.{deque_items, deque_capacity};
-ghost use Rattle.reactor_journal.specs.Past as P;
+ghost use Rattle.reactor_summary.specs.reactor_journal.specs.Past as P;
 ghost use Rattle.reactor_summary.specs.Summary as S;
 ghost use Rattle.reactor_state.specs.Rises.{RisesIn};
 ghost use Rattle.reactor_state.specs.Sound.{handle_number, IfRising};
-ghost use Rattle.reactor_state.specs.Tables.{is_free, queues, by_class, queue_of, with_queue, with_event, kept, dropped, masked, capacities, HasRoom, HasRoomFor};
+ghost use Rattle.reactor_state.specs.Tables.{is_free, queues, by_class, queue_of, with_queue};
+ghost use Rattle.reactor_state.specs.Tables.{with_event, kept, dropped, masked, capacities};
+ghost use Rattle.reactor_state.specs.Tables.{HasRoom, HasRoomFor};
 
 use crate::handles::is_resumed;
 use crate::opens::is_busy;
@@ -35,13 +38,15 @@ fn is_free(handles: &[LiveHandle], opens: &[OpenEvent], handle: Handle) -> bool
     is_resumed(handles, handle) && !is_busy(opens, handle)
 }
 
-/// The first event of a queue whose handle is free. It goes past those alone whose handle is busy or suspended.
+/// The first event of a queue whose handle is free. It goes past those alone whose handle is busy
+/// or suspended.
 fn first_free(
     queue: &VecDeque<WaitingEvent>,
     handles: &[LiveHandle],
     opens: &[OpenEvent],
 ) -> Option<Pick>
-    ensures first { IfRising handles.now (option_map (λ p. p.event) result ≡ find (λ w. is_free handles.now opens.now w.handle.0) (deque_items queue.now)) }
+    ensures first { IfRising handles.now (option_map (λ p. p.event) result
+        ≡ find (λ w. is_free handles.now opens.now w.handle.0) (deque_items queue.now)) }
     ensures placed { IfSome result (λ p. slice_get (deque_items queue.now) p.place ≡ Some p.event) }
 {
     for place in 0..queue.len() {
@@ -62,7 +67,8 @@ fn is_empty(queue: &VecDeque<WaitingEvent>) -> bool
 
 /// Takes the events of the handle out of a queue.
 fn drop_of(queue: &mut VecDeque<WaitingEvent>, handle: Handle)
-    ensures items { deque_items queue.new ≡ filter (λ w. not (handle.0 == w.handle.0)) (deque_items queue.old) }
+    ensures items { deque_items queue.new ≡ filter (λ w. not (handle.0 == w.handle.0))
+        (deque_items queue.old) }
     ensures capacity { deque_capacity queue.new ≡ deque_capacity queue.old }
 {
     queue.retain(|w| handle.0 != w.handle.0);
@@ -70,7 +76,8 @@ fn drop_of(queue: &mut VecDeque<WaitingEvent>, handle: Handle)
 
 /// Takes the timeouts of the timer out of a queue.
 fn drop_timeouts(queue: &mut VecDeque<WaitingEvent>, timer: u64)
-    ensures items { deque_items queue.new ≡ filter (λ w. not (P.is_timeout_of timer w.upcall)) (deque_items queue.old) }
+    ensures items { deque_items queue.new ≡ filter (λ w. not (P.is_timeout_of timer w.upcall))
+        (deque_items queue.old) }
     ensures capacity { deque_capacity queue.new ≡ deque_capacity queue.old }
 {
     queue.retain(|w| !is_timeout_of(timer, w.upcall));
@@ -89,7 +96,8 @@ fn drop_if(queue: &mut VecDeque<WaitingEvent>, which: bool, handle: Handle)
 /// The handle of the first timeout of the timer in a queue.
 #[tactic(auto, using(crate::proofs::Lists::find_more))]
 fn first_timeout(queue: &VecDeque<WaitingEvent>, timer: u64) -> Option<Handle>
-    ensures { result ≡ option_map (λ w. w.handle) (find (λ w. P.is_timeout_of timer w.upcall) (deque_items queue.now)) }
+    ensures { result ≡ option_map (λ w. w.handle)
+        (find (λ w. P.is_timeout_of timer w.upcall) (deque_items queue.now)) }
 {
     for place in 0..queue.len() {
         let event = queue[place];
@@ -137,9 +145,12 @@ impl Waiting {
     /// Makes room for so many more timeouts, and for so many more events in each other queue.
     pub fn reserve(&mut self, timeouts: usize, events: usize) -> Result<(), NoMemory>
         ensures queues { queues self.new ≡ queues self.old }
-        ensures room { OnOk result (HasRoom (capacities self.new) timeouts events (queues self.new)) }
-        ensures kept { (n m : ℕ) → HasRoom (capacities self.old) n m (queues self.old) → HasRoom (capacities self.new) n m (queues self.new) }
-        ensures at_once { HasRoom (capacities self.old) timeouts events (queues self.old) → IsOk result }
+        ensures room { OnOk result (HasRoom (capacities self.new) timeouts events
+            (queues self.new)) }
+        ensures kept { (n m : ℕ) → HasRoom (capacities self.old) n m (queues self.old)
+            → HasRoom (capacities self.new) n m (queues self.new) }
+        ensures at_once { HasRoom (capacities self.old) timeouts events (queues self.old)
+            → IsOk result }
     {
         if self.has_room(timeouts, events) {
             return Ok(());
@@ -152,7 +163,8 @@ impl Waiting {
         Ok(())
     }
 
-    /// Whether there is room for so many more timeouts, and for so many more events in each other queue.
+    /// Whether there is room for so many more timeouts, and for so many more events in each other
+    /// queue.
     fn has_room(&self, timeouts: usize, events: usize) -> bool
         ensures { result ≡ true → HasRoom (capacities self.now) timeouts events (queues self.now) }
     {
@@ -180,8 +192,12 @@ impl Waiting {
 
     /// The first event of the first class that has one of a free handle.
     pub fn find_pick(&self, handles: &[LiveHandle], opens: &[OpenEvent]) -> Option<Pick>
-        ensures first { (s : S.Summary) (hi : ℕ) → RisesIn handle_number 0 hi handles.now → s.handles ≡ handles.now → s.opens ≡ opens.now → queues self.now ≡ by_class s.waiting → option_map (λ p. p.event) result ≡ S.pick s }
-        ensures placed { (s : S.Summary) → queues self.now ≡ by_class s.waiting → IfSome result (λ p. slice_get (queue_of p.event.upcall (queues self.now)) p.place ≡ Some p.event) }
+        ensures first { (s : S.Summary) (hi : ℕ) → RisesIn handle_number 0 hi handles.now
+            → s.handles ≡ handles.now → s.opens ≡ opens.now → queues self.now ≡ by_class s.waiting
+            → option_map (λ p. p.event) result ≡ S.pick s }
+        ensures placed { (s : S.Summary) → queues self.now ≡ by_class s.waiting
+            → IfSome result (λ p. slice_get (queue_of p.event.upcall (queues self.now)) p.place
+            ≡ Some p.event) }
     {
         if !is_empty(&self.timeouts) {
             if let Some(p) = first_free(&self.timeouts, handles, opens) {
@@ -209,7 +225,8 @@ impl Waiting {
     /// Takes the event at a place out of the queue of a class.
     pub fn take(&mut self, upcall: Upcall, place: usize)
         requires { place < length (queue_of upcall (queues self.old)) }
-        ensures queues { queues self.new ≡ with_queue upcall (remove (queue_of upcall (queues self.old)) place) (queues self.old) }
+        ensures queues { queues self.new ≡ with_queue upcall
+            (remove (queue_of upcall (queues self.old)) place) (queues self.old) }
         ensures capacities { capacities self.new ≡ capacities self.old }
     {
         match upcall {
@@ -223,7 +240,8 @@ impl Waiting {
 
     /// Takes the events of the handle away.
     pub fn drop_of(&mut self, handle: Handle)
-        ensures queues { queues self.new ≡ kept (λ w. not (handle.0 == w.handle.0)) (queues self.old) }
+        ensures queues { queues self.new ≡ kept (λ w. not (handle.0 == w.handle.0))
+            (queues self.old) }
         ensures capacities { capacities self.new ≡ capacities self.old }
     {
         drop_of(&mut self.timeouts, handle);
@@ -235,7 +253,9 @@ impl Waiting {
 
     /// Takes the timeouts of the timer away.
     pub fn drop_timeouts(&mut self, timer: u64)
-        ensures queues { queues self.new ≡ record (queues self.old) { timeouts = filter (λ w. not (P.is_timeout_of timer w.upcall)) (queues self.old).timeouts } }
+        ensures queues { queues self.new ≡ record (queues self.old) {
+          timeouts = filter (λ w. not (P.is_timeout_of timer w.upcall)) (queues self.old).timeouts;
+        } }
         ensures capacities { capacities self.new ≡ capacities self.old }
     {
         drop_timeouts(&mut self.timeouts, timer);
@@ -253,7 +273,8 @@ impl Waiting {
 
     /// The handle of the first timeout of the timer.
     pub fn timeout_handle(&self, timer: u64) -> Option<Handle>
-        ensures { result ≡ option_map (λ w. w.handle) (find (λ w. P.is_timeout_of timer w.upcall) (queues self.now).timeouts) }
+        ensures { result ≡ option_map (λ w. w.handle)
+            (find (λ w. P.is_timeout_of timer w.upcall) (queues self.now).timeouts) }
     {
         first_timeout(&self.timeouts, timer)
     }

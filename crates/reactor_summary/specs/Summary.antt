@@ -1,5 +1,8 @@
--- What a reactor keeps of its journal: data that each entry changes by a small step, and what is read off it.
-use Rattle.std.specs.Prelude.{ℕ, suc, ◌==◌, nat_lt, nat_le, Bool, true, false, not, ◌&&◌, ◌||◌, if◌then◌else◌, List, [], ◌∷◌, ◌++◌, map, Option, Some, None, option_map}
+-- What a reactor keeps of its journal: data that each entry changes by a small step, and what is
+-- read off it.
+use Rattle.std.specs.Prelude.{ℕ, suc, ◌==◌, nat_lt, nat_le, Bool, true, false, not, ◌&&◌, ◌||◌}
+use Rattle.std.specs.Prelude.{if◌then◌else◌, List, [], ◌∷◌, ◌++◌, map, Option, Some, None}
+use Rattle.std.specs.Prelude.{option_map}
 use Rattle.std.specs.List.{list_any, filter, find}
 use Rattle.ev_types.specs.declared.upcall.Mask.{Mask}
 use Rattle.ev_types.specs.declared.upcall.Handle.{Handle}
@@ -8,8 +11,13 @@ use Rattle.ev_types.specs.declared.upcall.Kind.{Kind}
 use Rattle.ev_types.specs.declared.upcall.Upcall.TheVariants.{Timeout, Notice}
 use Rattle.reactor_journal.specs.Event.{Event}
 use Rattle.reactor_journal.specs.declared.entry.Entry.{Entry}
-use Rattle.reactor_journal.specs.declared.entry.Entry.TheVariants.{Opened, Scheduled, Cancelled, Due, Ready, Posted, Started, Returned, Masked, Suspended, Resumed, Refused, Removed, Closed, Ended}
-use Rattle.reactor_journal.specs.Past.{has_kind, upcall_of, class_of, is_without, is_timeout_of, belongs_to, next_deadline, now_after}
+use Rattle.reactor_journal.specs.declared.entry.Entry.TheVariants.{Opened, Scheduled, Cancelled}
+use Rattle.reactor_journal.specs.declared.entry.Entry.TheVariants.{Due, Ready, Posted, Started}
+use Rattle.reactor_journal.specs.declared.entry.Entry.TheVariants.{Returned, Masked, Suspended}
+use Rattle.reactor_journal.specs.declared.entry.Entry.TheVariants.{Resumed, Refused, Removed}
+use Rattle.reactor_journal.specs.declared.entry.Entry.TheVariants.{Closed, Ended}
+use Rattle.reactor_journal.specs.Past.{has_kind, upcall_of, class_of, is_without, is_timeout_of}
+use Rattle.reactor_journal.specs.Past.{belongs_to, next_deadline, now_after}
 use Rattle.reactor_summary.specs.declared.parts.LiveHandle.{LiveHandle}
 use Rattle.reactor_summary.specs.declared.parts.DueTimer.{DueTimer}
 use Rattle.reactor_summary.specs.declared.parts.WaitingEvent.{WaitingEvent}
@@ -27,8 +35,8 @@ pub record Summary : Type 0 where
   pub refused : ℕ
   -- whether the reactor was stopped
   pub ended : Bool
-  -- the live handles by number, the waiting events by number, the open events in the order in which they were
-  -- started, and the armed timers in the order in which they come due
+  -- the live handles by number, the waiting events by number, the open events in the order in which
+  -- they were started, and the armed timers in the order in which they come due
   pub handles : List LiveHandle
   pub waiting : List WaitingEvent
   pub opens : List OpenEvent
@@ -36,7 +44,19 @@ pub record Summary : Type 0 where
 
 -- that of no entries
 abbrev pub nothing : Summary
-nothing = record { entries = 0; moment = 0; opened = 0; closed = 0; scheduled = 0; refused = 0; ended = false; handles = []; waiting = []; opens = []; armed = [] }
+nothing = record {
+  entries = 0;
+  moment = 0;
+  opened = 0;
+  closed = 0;
+  scheduled = 0;
+  refused = 0;
+  ended = false;
+  handles = [];
+  waiting = [];
+  opens = [];
+  armed = [];
+}
 
 -- ---- what is read off a summary
 
@@ -102,7 +122,8 @@ else_ None other = other
 else_ (Some w) other = Some w
 
 unfoldable pub pick : Summary → Option WaitingEvent
-pick s = else_ (first_free s 0) (else_ (first_free s 1) (else_ (first_free s 2) (else_ (first_free s 3) (first_free s 4))))
+pick s = else_ (first_free s 0) (else_ (first_free s 1)
+    (else_ (first_free s 2) (else_ (first_free s 3) (first_free s 4))))
 
 abbrev pub is_number : ℕ → Option WaitingEvent → Bool
 is_number i None = false
@@ -140,7 +161,8 @@ abbrev pub of_handle : Handle → Option Event
 of_handle handle = Some (record { handle = handle.0; upcall = Timeout 0 })
 
 abbrev pub handles_after : {N : Type 0} → Summary → Entry N → List LiveHandle
-handles_after s (Opened handle mask) = s.handles ++ record { handle = handle; mask = mask; suspended = false; alive = true } ∷ []
+handles_after s (Opened handle mask) =
+    s.handles ++ record { handle = handle; mask = mask; suspended = false; alive = true } ∷ []
 handles_after s (Masked handle mask) = map (with_mask handle.0 mask) s.handles
 handles_after s (Suspended handle) = map (with_suspended handle.0 true) s.handles
 handles_after s (Resumed handle) = map (with_suspended handle.0 false) s.handles
@@ -152,7 +174,12 @@ handles_after s _ = s.handles
 -- open events
 abbrev pub opens_from : ℕ → Option WaitingEvent → List OpenEvent
 opens_from moment None = []
-opens_from moment (Some w) = record { event = w.event; handle = w.handle; upcall = w.upcall; moment = moment } ∷ []
+opens_from moment (Some w) = record {
+  event = w.event;
+  handle = w.handle;
+  upcall = w.upcall;
+  moment = moment;
+} ∷ []
 
 abbrev pub opens_after : {N : Type 0} → Summary → Entry N → List OpenEvent
 opens_after s (Started event) = s.opens ++ opens_from s.moment (waiting_event s event)
@@ -169,7 +196,12 @@ due_of a = record { timer = a.timer; deadline = a.deadline; every = a.every }
 
 abbrev pub waiting_due : ℕ → Option ArmedTimer → List WaitingEvent
 waiting_due i None = []
-waiting_due i (Some a) = record { event = i; handle = a.handle; upcall = Timeout a.timer; due = Some (due_of a) } ∷ []
+waiting_due i (Some a) = record {
+  event = i;
+  handle = a.handle;
+  upcall = Timeout a.timer;
+  due = Some (due_of a);
+} ∷ []
 
 abbrev pub armed_timer : Summary → ℕ → Option ArmedTimer
 armed_timer s t = find (λ a. a.timer == t) s.armed
@@ -177,23 +209,34 @@ armed_timer s t = find (λ a. a.timer == t) s.armed
 -- an event that asks for the same upcall once more, where the handle is alive
 abbrev pub waiting_again : Summary → Option OpenEvent → List WaitingEvent
 waiting_again s None = []
-waiting_again s (Some o) = if is_alive s o.handle.0 then record { event = s.entries; handle = o.handle; upcall = o.upcall; due = None } ∷ [] else []
+waiting_again s (Some o) = if is_alive s o.handle.0 then record {
+  event = s.entries;
+  handle = o.handle;
+  upcall = o.upcall;
+  due = None;
+} ∷ [] else []
 
 abbrev pub waiting_after : {N : Type 0} → Summary → Entry N → List WaitingEvent
 waiting_after s (Due timer) = s.waiting ++ waiting_due s.entries (armed_timer s timer)
-waiting_after s (Ready handle kind) = s.waiting ++ record { event = s.entries; handle = handle; upcall = upcall_of kind; due = None } ∷ []
-waiting_after s (Posted handle kind from seq) = s.waiting ++ record { event = s.entries; handle = handle; upcall = Notice kind; due = None } ∷ []
+waiting_after s (Ready handle kind) =
+    s.waiting ++ record { event = s.entries; handle = handle; upcall = upcall_of kind; due = None }
+    ∷ []
+waiting_after s (Posted handle kind from seq) =
+    s.waiting ++ record { event = s.entries; handle = handle; upcall = Notice kind; due = None }
+    ∷ []
 waiting_after s (Returned event Again note) = s.waiting ++ waiting_again s (open_event s event)
 waiting_after s (Returned event Close note) = without_events_of (event_open s event) s.waiting
 waiting_after s (Removed handle) = without_events_of (of_handle handle) s.waiting
-waiting_after s (Masked handle mask) = filter (λ w. not (handle.0 == w.handle.0 && is_without mask w.upcall)) s.waiting
+waiting_after s (Masked handle mask) =
+    filter (λ w. not (handle.0 == w.handle.0 && is_without mask w.upcall)) s.waiting
 waiting_after s (Cancelled timer) = filter (λ w. not (is_timeout_of timer w.upcall)) s.waiting
 waiting_after s (Started event) = filter (λ w. not (event == w.event)) s.waiting
 waiting_after s _ = s.waiting
 
 -- armed timers
 abbrev pub comes_before : ArmedTimer → ArmedTimer → Bool
-comes_before a b = nat_lt a.deadline b.deadline || (a.deadline == b.deadline && nat_lt a.timer b.timer)
+comes_before a b = nat_lt a.deadline b.deadline
+    || (a.deadline == b.deadline && nat_lt a.timer b.timer)
 
 abbrev pub with_timer : ArmedTimer → List ArmedTimer → List ArmedTimer
 with_timer a [] = a ∷ []
@@ -209,14 +252,22 @@ without_timers_of (Some event) armed = filter (λ a. not (a.handle.0 == event.ha
 -- a periodic timer is armed again, at the deadline after the one that was reached
 abbrev pub with_next : ℕ → Handle → Option DueTimer → List ArmedTimer → List ArmedTimer
 with_next moment handle None armed = armed
-with_next moment handle (Some due) armed = if due.every == 0 then armed else with_timer (record { deadline = next_deadline due.deadline due.every moment; timer = due.timer; handle = handle; every = due.every }) armed
+with_next moment handle (Some due) armed =
+    if due.every == 0 then armed else with_timer
+    (record {
+      deadline = next_deadline due.deadline due.every moment;
+      timer = due.timer;
+      handle = handle;
+      every = due.every;
+    }) armed
 
 abbrev pub with_started : ℕ → Option WaitingEvent → List ArmedTimer → List ArmedTimer
 with_started moment None armed = armed
 with_started moment (Some w) armed = with_next moment w.handle w.due armed
 
 abbrev pub armed_after : {N : Type 0} → Summary → Entry N → List ArmedTimer
-armed_after s (Scheduled timer handle first every) = with_timer (record { deadline = first; timer = timer; handle = handle; every = every }) s.armed
+armed_after s (Scheduled timer handle first every) =
+    with_timer (record { deadline = first; timer = timer; handle = handle; every = every }) s.armed
 armed_after s (Cancelled timer) = without_timer timer s.armed
 armed_after s (Due timer) = without_timer timer s.armed
 armed_after s (Started event) = with_started s.moment (waiting_event s event) s.armed

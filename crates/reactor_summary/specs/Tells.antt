@@ -1,5 +1,6 @@
 -- What a summary tells of the past that it stands for.
-use Rattle.std.specs.Prelude.{ℕ, zero, suc, ◌≡◌, ◌==◌, Bool, true, false, if◌then◌else◌, List, [], ◌∷◌, ◌++◌, length, map, Option, Some, None, option_map}
+use Rattle.std.specs.Prelude.{ℕ, zero, suc, ◌≡◌, ◌==◌, Bool, true, false, if◌then◌else◌, List, []}
+use Rattle.std.specs.Prelude.{◌∷◌, ◌++◌, length, map, Option, Some, None, option_map}
 use Rattle.std.specs.List.{list_any}
 use Rattle.std.specs.Option.{option_to_list}
 use Rattle.reactor_journal.specs.Event.{Event, Timer}
@@ -25,24 +26,46 @@ Each P (x ∷ xs) = P x × Each P xs
 
 -- the handle x, where it is live
 abbrev pub live_handle : {N : Type 0} → List (Entry N) → ℕ → Option LiveHandle
-live_handle past x = if P.was_closed past x then None else Some (record { handle = record { 0 = x }; mask = P.mask_of past x; suspended = P.is_suspended past x; alive = P.is_alive past x })
+live_handle past x = if P.was_closed past x then None else Some
+    (record {
+      handle = record { 0 = x };
+      mask = P.mask_of past x;
+      suspended = P.is_suspended past x;
+      alive = P.is_alive past x;
+    })
 
 -- the event i, where it waits
 abbrev pub due_timer : {N : Type 0} → List (Entry N) → ℕ → DueTimer
-due_timer past t = record { timer = t; deadline = P.deadline past t; every = P.period (P.timer_of past t) }
+due_timer past t = record {
+  timer = t;
+  deadline = P.deadline past t;
+  every = P.period (P.timer_of past t);
+}
 
 abbrev pub as_waiting : {N : Type 0} → List (Entry N) → ℕ → Event → WaitingEvent
-as_waiting past i event = record { event = i; handle = record { 0 = event.handle }; upcall = event.upcall; due = option_map (due_timer past) (P.due_at past i) }
+as_waiting past i event = record {
+  event = i;
+  handle = record { 0 = event.handle };
+  upcall = event.upcall;
+  due = option_map (due_timer past) (P.due_at past i);
+}
 
 abbrev pub waiting_event : {N : Type 0} → List (Entry N) → ℕ → Option WaitingEvent
-waiting_event past i = if P.is_waiting past i then option_map (as_waiting past i) (P.event_at past i) else None
+waiting_event past i = if P.is_waiting past i then option_map (as_waiting past i)
+    (P.event_at past i) else None
 
 -- the event i, where it is open
 abbrev pub as_open : {N : Type 0} → List (Entry N) → ℕ → Event → OpenEvent
-as_open past i event = record { event = i; handle = record { 0 = event.handle }; upcall = event.upcall; moment = P.started_at past i }
+as_open past i event = record {
+  event = i;
+  handle = record { 0 = event.handle };
+  upcall = event.upcall;
+  moment = P.started_at past i;
+}
 
 abbrev pub open_event : {N : Type 0} → List (Entry N) → ℕ → Option OpenEvent
-open_event past i = if P.is_open past i then option_map (as_open past i) (P.event_at past i) else None
+open_event past i = if P.is_open past i then option_map (as_open past i) (P.event_at past i)
+    else None
 
 -- a timer that is armed at a deadline
 abbrev pub owner : Option Timer → ℕ
@@ -50,7 +73,12 @@ owner None = 0
 owner (Some timer) = timer.handle
 
 abbrev pub armed_timer : {N : Type 0} → List (Entry N) → ℕ × ℕ → ArmedTimer
-armed_timer past d = record { deadline = d.0; timer = d.1; handle = record { 0 = owner (P.timer_of past d.1) }; every = P.period (P.timer_of past d.1) }
+armed_timer past d = record {
+  deadline = d.0;
+  timer = d.1;
+  handle = record { 0 = owner (P.timer_of past d.1) };
+  every = P.period (P.timer_of past d.1);
+}
 
 abbrev pub is_refused : {N : Type 0} → Entry N → Bool
 is_refused (Refused live fault note) = true

@@ -1,5 +1,5 @@
-//! Laws of the summary of a legal journal. Each function has an empty body: what it says is its contract, over
-//! the definitions alone.
+//! Laws of the summary of a legal journal. Each function has an empty body: what it says is its
+//! contract, over the definitions alone.
 
 ghost use Rattle.reactor_summary.specs.Laws.{IsKept, IsTold, PicksThat, PicksNone, SaysWhatFollows};
 
@@ -9,8 +9,8 @@ pub fn summary_tells<N>()
     ensures told { IsTold N }
 {}
 
-/// The first event of the first class that has one of a free handle is the event to be started next; where there is
-/// none, no event may be started.
+/// The first event of the first class that has one of a free handle is the event to be started
+/// next; where there is none, no event may be started.
 pub fn summary_picks<N>()
     ensures that { PicksThat N }
     ensures none { PicksNone N }

@@ -3,7 +3,7 @@
 ghost use Rattle.std.specs.Prelude.{ℕ};
 
 use ev_types::{Handle, Mask, Upcall};
-use sorted_handles::HasHandle;
+use handle_search::HasHandle;
 
 /// A registration that was opened and not closed.
 #[derive(Clone, Copy, PartialEq, Eq, Debug)]
@@ -46,7 +46,8 @@ pub struct WaitingEvent {
     pub handle: Handle,
     /// The upcall that it asks for.
     pub upcall: Upcall,
-    /// The timer whose coming due the event is. An event that asks for a timeout once more has none.
+    /// The timer whose coming due the event is. An event that asks for a timeout once more has
+    /// none.
     pub due: Option<DueTimer>,
 }
 

@@ -1,5 +1,5 @@
--- The summary of a journal: how many connections were accepted, how many records and bytes its notes have, and how many lines (this
--- project's own).
+-- The summary of a journal: how many connections were accepted, how many records and bytes its
+-- notes have, and how many lines (this project's own).
 use Rattle.std.specs.Prelude.{◌≡◌, ℕ, ◌-◌, ◌^◌, ◌==◌, min, List, ◌++◌, length, codes, decimal}
 use Rattle.std.specs.List.{sum_by, count_by}
 use Rattle.reactor_journal.specs.declared.entry.Entry.{Entry}
@@ -61,14 +61,16 @@ pub record Tells (summary : Summary) (c r b l : ℕ) : Type 0 where
 
 -- the summary is that of these entries
 abbrev pub Summarizes : Summary → List (Entry ServerNote) → Type 0
-Summarizes summary entries = Tells summary (connections_in entries) (records_in entries) (bytes_in entries) (lines_in entries)
+Summarizes summary entries = Tells summary (connections_in entries) (records_in entries)
+    (bytes_in entries) (lines_in entries)
 
 -- a line of a word and a number, and the four lines of these numbers
 abbrev pub line_of : List ℕ → ℕ → List ℕ
 line_of word number = word ++ decimal number ++ codes "\n"
 
 abbrev pub four_lines : ℕ → ℕ → ℕ → ℕ → List ℕ
-four_lines c r b l = line_of (codes "connections ") c ++ line_of (codes "records ") r ++ line_of (codes "bytes ") b ++ line_of (codes "lines ") l
+four_lines c r b l = line_of (codes "connections ") c ++ line_of (codes "records ") r
+    ++ line_of (codes "bytes ") b ++ line_of (codes "lines ") l
 
 -- the lines of a summary
 abbrev pub summary_text : Summary → List ℕ

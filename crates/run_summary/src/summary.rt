@@ -20,7 +20,8 @@ pub struct Summary {
     pub records: u64,
     /// How many bytes were taken.
     pub bytes: u64,
-    /// How many lines the notes have: one for each record, and one for each connection that was closed.
+    /// How many lines the notes have: one for each record, and one for each connection that was
+    /// closed.
     pub lines: u64,
 }
 
@@ -81,8 +82,8 @@ impl Summary {
         }
     }
 
-    /// Writes the four lines `connections A`, `records R`, `bytes T` and `lines L`, and gives the sink back, and whether no write failed:
-    /// then it took all four, and else a front of them.
+    /// Writes the four lines `connections A`, `records R`, `bytes T` and `lines L`, and gives the
+    /// sink back, and whether no write failed: then it took all four, and else a front of them.
     pub fn write<K: Sink>(&self, output: K) -> (K, bool)
         ensures { WritesAll (K.facts output) (summary_text self.now) result.1 (K.facts result.0) }
     {

@@ -1,5 +1,6 @@
 -- The bytes of a record are bytes.
-use Rattle.std.proofs.Common.{ℕ, zero, suc, ◌+◌, ◌%◌, ◌^◌, ◌<◌, List, [], ◌∷◌, take, drop, length, sym, subst, arith}
+use Rattle.std.proofs.Common.{ℕ, zero, suc, ◌+◌, ◌%◌, ◌^◌, ◌<◌, List, [], ◌∷◌, take, drop, length}
+use Rattle.std.proofs.Common.{sym, subst, arith}
 use Rattle.std.specs.Prelude.{map}
 use Rattle.std.specs.List.{range_with_len}
 use Rattle.cdr_record.specs.declared.record.Order.{Order}
@@ -27,14 +28,23 @@ fields_are order seed r c =
     let n = length (message seed r c) in
     let letters = map (letter r c) (range_with_len 0 (letter_count seed r c)) in
     bytes_append (number_bytes order 4 (20 + n)) _ (number_are order (20 + n))
-    (bytes_append (number_bytes order 4 (2 ^ ((r + c) % 11))) _ (number_are order (2 ^ ((r + c) % 11)))
+    (bytes_append (number_bytes order 4 (2 ^ ((r + c) % 11))) _
+    (number_are order (2 ^ ((r + c) % 11)))
     (bytes_append (number_bytes order 4 (1000 + c)) _ (number_are order (1000 + c))
     (bytes_append (number_bytes order 4 r) _ (number_are order r)
     (bytes_append (number_bytes order 4 (seed % 1000000)) _ (number_are order (seed % 1000000))
-    (bytes_append (number_bytes order 4 n) (message seed r c) (number_are order n) (bytes_append letters (0 ∷ []) (letters_are r c 0 (letter_count seed r c)) (omega arith, tt)))))))
+    (bytes_append (number_bytes order 4 n) (message seed r c) (number_are order n)
+    (bytes_append letters (0 ∷ []) (letters_are r c 0 (letter_count seed r c))
+    (omega arith, tt)))))))
 
 pub record_bytes : (seed r c : ℕ) → AreBytes (bytes_of seed r c)
-record_bytes seed r c = subst AreBytes (sym (bytes_are seed r c)) (octet_is (order_of r c), (omega arith, (omega arith, (omega arith, fields_are (order_of r c) seed r c))))
+record_bytes seed r c = subst AreBytes (sym (bytes_are seed r c)) (
+  octet_is (order_of r c),
+  (
+    omega arith,
+    (omega arith, (omega arith, fields_are (order_of r c) seed r c)),
+  ),
+)
 
 bytes_take : (k : ℕ) (xs : List ℕ) → AreBytes xs → AreBytes (take k xs)
 bytes_take zero xs a = tt

@@ -1,5 +1,7 @@
 -- The words of lines: which bytes they have, and how they are cut and read.
-use Rattle.std.proofs.Common.{◌≡◌, ◌∙◌, ℕ, zero, suc, ◌+◌, ◌-◌, ◌*◌, ◌/◌, ◌%◌, ◌^◌, ◌<◌, ◌≤◌, ◌==◌, nat_le, true, false, List, [], ◌∷◌, ◌++◌, length, get_or, decimal, Option, Some, None, refl, ap, arith}
+use Rattle.std.proofs.Common.{◌≡◌, ◌∙◌, ℕ, zero, suc, ◌+◌, ◌-◌, ◌*◌, ◌/◌, ◌%◌, ◌^◌, ◌<◌, ◌≤◌, ◌==◌}
+use Rattle.std.proofs.Common.{nat_le, true, false, List, [], ◌∷◌, ◌++◌, length, get_or, decimal}
+use Rattle.std.proofs.Common.{Option, Some, None, refl, ap, arith}
 use Rattle.std.specs.Prelude.{option_and_then}
 use Rattle.std.specs.List.{AllByRecursion}
 use Rattle.std.proofs.lemmas.Bool.Decides.{nat_tests}
@@ -7,8 +9,9 @@ use Rattle.std.proofs.lemmas.Fmt.{decimal_by_steps, decimal_digit, decimal_nonem
 use Rattle.hex.specs.Hex.{IsBytes, encode_lower, encode_with, lower_digits, hex_digit_value}
 use Rattle.hex.proofs.HexLemmas.{IsDigits-lower_digits, decode_of-encode_lower}
 use Rattle.std.specs.Prelude.{slice_index}
-use Rattle.text_parts.proofs.Cuts.{Free, first_one}
-use Rattle.event_script.specs.Grammar.{digit, digits_from, number, hex_bytes, value_of, raw_lines, without_last_empty}
+use Rattle.event_script.specs.text_parts.proofs.Cuts.{Free, first_one}
+use Rattle.event_script.specs.Grammar.{digit, digits_from, number, hex_bytes, value_of, raw_lines}
+use Rattle.event_script.specs.Grammar.{without_last_empty}
 use Rattle.event_script.proofs.Lines.{more_lines}
 
 -- ---- bytes
@@ -48,12 +51,15 @@ free_above k sep (x ∷ xs) le a =
 
 -- ---- numbers
 
-by_digit : (k m : ℕ) (ds ys : List ℕ) → ((j : ℕ) → digits_from j ds ≡ Some m → digits_from j (ds ++ ys) ≡ digits_from m ys)
-    → (o : Option ℕ) → option_and_then (λ v. digits_from (k * 10 + v) ds) o ≡ Some m → option_and_then (λ v. digits_from (k * 10 + v) (ds ++ ys)) o ≡ digits_from m ys
+by_digit : (k m : ℕ) (ds ys : List ℕ)
+    → ((j : ℕ) → digits_from j ds ≡ Some m → digits_from j (ds ++ ys) ≡ digits_from m ys)
+    → (o : Option ℕ) → option_and_then (λ v. digits_from (k * 10 + v) ds) o ≡ Some m
+    → option_and_then (λ v. digits_from (k * 10 + v) (ds ++ ys)) o ≡ digits_from m ys
 by_digit k m ds ys rest None h = cc h
 by_digit k m ds ys rest (Some v) h = rest (k * 10 + v) h
 
-digits_behind : (k m : ℕ) (ds ys : List ℕ) → digits_from k ds ≡ Some m → digits_from k (ds ++ ys) ≡ digits_from m ys
+digits_behind : (k m : ℕ) (ds ys : List ℕ) → digits_from k ds ≡ Some m
+    → digits_from k (ds ++ ys) ≡ digits_from m ys
 digits_behind k m [] ys h = let same : k ≡ m = cc in ap (λ j. digits_from j ys) same
 digits_behind k m (d ∷ ds) ys h = by_digit k m ds ys (λ j. digits_behind j m ds ys) (digit d) h
 
@@ -73,20 +79,26 @@ digits_of_decimal n small = decimal_by_steps (λ n ds. digits_from 0 ds ≡ Some
     one : (n : ℕ) → n < 10 → digits_from 0 ((48 + n) ∷ []) ≡ Some n
     one n lt = one_digit 0 n lt ∙ ap Some (omega arith)
 
-    more : (n : ℕ) (ds : List ℕ) → 10 ≤ n → digits_from 0 ds ≡ Some (n / 10) → digits_from 0 (ds ++ ((48 + n % 10) ∷ [])) ≡ Some n
-    more n ds ge ih = digits_behind 0 (n / 10) ds ((48 + n % 10) ∷ []) ih ∙ one_digit (n / 10) (n % 10) (omega arith) ∙ ap Some (omega arith)
+    more : (n : ℕ) (ds : List ℕ) → 10 ≤ n → digits_from 0 ds ≡ Some (n / 10)
+        → digits_from 0 (ds ++ ((48 + n % 10) ∷ [])) ≡ Some n
+    more n ds ge ih = digits_behind 0 (n / 10) ds ((48 + n % 10) ∷ []) ih
+        ∙ one_digit (n / 10) (n % 10) (omega arith) ∙ ap Some (omega arith)
 
-number_plain : (word : List ℕ) → 0 < length word → 48 < get_or word 0 0 → number word ≡ digits_from 0 word
+number_plain : (word : List ℕ) → 0 < length word → 48 < get_or word 0 0
+    → number word ≡ digits_from 0 word
 number_plain [] some first = absurd (omega arith)
-number_plain (b ∷ bs) some first = let other : (b == 48) ≡ false = grind (arith, nat_tests) in rw other refl
+number_plain (b ∷ bs) some first = let other : (b == 48) ≡ false = grind (arith, nat_tests) in
+    rw other refl
 
 pub number_of_decimal : (n : ℕ) → n < 2 ^ 64 → number (decimal n) ≡ Some n
 number_of_decimal zero small = ap number (decimal_digit 0 (omega arith))
 number_of_decimal (suc n) small =
-    number_plain (decimal (suc n)) (decimal_nonempty (suc n) small) (first_decimal (suc n) (omega arith) small) ∙ digits_of_decimal (suc n) small
+    number_plain (decimal (suc n)) (decimal_nonempty (suc n) small)
+    (first_decimal (suc n) (omega arith) small) ∙ digits_of_decimal (suc n) small
 
 pub decimal_above : (n : ℕ) → n < 2 ^ 64 → Above 32 (decimal n)
-decimal_above n small = decimal_by_steps (λ n ds. Above 32 ds) (λ n lt. (omega arith, tt)) (λ n ds ge ih. above_append 32 ds ((48 + n % 10) ∷ []) ih (omega arith, tt)) n small
+decimal_above n small = decimal_by_steps (λ n ds. Above 32 ds) (λ n lt. (omega arith, tt))
+    (λ n ds ge ih. above_append 32 ds ((48 + n % 10) ∷ []) ih (omega arith, tt)) n small
 
 -- ---- hexadecimal digits
 
@@ -100,9 +112,11 @@ hex_above (b ∷ bytes) a =
     let byte : b < 256 = a.0 in
     let high : b / 16 < 16 = omega arith in
     let low : b % 16 < 16 = omega arith in (
-      digit_above (slice_index lower_digits (b / 16)) (b / 16) (IsDigits-lower_digits (b / 16) high),
+      digit_above (slice_index lower_digits (b / 16)) (b / 16)
+          (IsDigits-lower_digits (b / 16) high),
       (
-        digit_above (slice_index lower_digits (b % 16)) (b % 16) (IsDigits-lower_digits (b % 16) low),
+        digit_above (slice_index lower_digits (b % 16)) (b % 16)
+            (IsDigits-lower_digits (b % 16) low),
         hex_above bytes a.1,
       ),
     )
@@ -113,5 +127,7 @@ hex_of_bytes bytes a = ap value_of (decode_of-encode_lower bytes (is_bytes bytes
 -- ---- lines of a text
 
 -- a line with its line feed before a text
-pub line_before : (line rest : List ℕ) → Above 10 line → raw_lines (line ++ 10 ∷ rest) ≡ line ∷ raw_lines rest
-line_before line rest above = ap without_last_empty (first_one 10 line rest (free_above 10 10 line (omega arith) above)) ∙ more_lines line rest
+pub line_before : (line rest : List ℕ) → Above 10 line
+    → raw_lines (line ++ 10 ∷ rest) ≡ line ∷ raw_lines rest
+line_before line rest above = ap without_last_empty
+    (first_one 10 line rest (free_above 10 10 line (omega arith) above)) ∙ more_lines line rest

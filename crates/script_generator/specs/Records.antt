@@ -1,5 +1,7 @@
--- The records of the generator, one of each round r and each connection c, and their bytes (this project's own).
-use Rattle.std.specs.Prelude.{ℕ, ◌+◌, ◌*◌, ◌^◌, ◌%◌, ◌==◌, if◌then◌else◌, List, [], ◌∷◌, ◌++◌, drop, map, pos}
+-- The records of the generator, one of each round r and each connection c, and their bytes (this
+-- project's own).
+use Rattle.std.specs.Prelude.{ℕ, ◌+◌, ◌*◌, ◌^◌, ◌%◌, ◌==◌, if◌then◌else◌, List, [], ◌∷◌, ◌++◌, drop}
+use Rattle.std.specs.Prelude.{map, pos}
 use Rattle.std.specs.List.{range_with_len}
 use Rattle.cdr_record.specs.declared.record.Order.{Order}
 use Rattle.cdr_record.specs.declared.record.Order.TheVariants.{Big, Little}
@@ -34,7 +36,9 @@ order_of r c = if (r + c) % 2 == 1 then Little else Big
 abbrev pub padding : ℕ → ℕ → ℕ
 padding r c = (r + c) % 256
 
--- The bytes of the record: its canonical spelling of version 1, but for the padding behind the order octet.
+-- The bytes of the record: its canonical spelling of version 1, but for the padding behind the
+-- order octet.
 unfoldable pub bytes_of : ℕ → ℕ → ℕ → List ℕ
 bytes_of seed r c =
-    octet_1 (order_of r c) ∷ padding r c ∷ padding r c ∷ padding r c ∷ drop 4 (canon (record_of seed r c) (order_of r c))
+    octet_1 (order_of r c) ∷ padding r c ∷ padding r c ∷ padding r c
+    ∷ drop 4 (canon (record_of seed r c) (order_of r c))

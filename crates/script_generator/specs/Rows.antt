@@ -5,7 +5,8 @@ use Rattle.event_script.specs.Script.{steps_of}
 use Rattle.script_generator.specs.Scripts.{generated}
 use Rattle.script_generator.specs.Laws.{all_bytes}
 
--- The first record of one connection and seed 0 is big-endian, with padding 0 and a payload of 21 bytes.
+-- The first record of one connection and seed 0 is big-endian, with padding 0 and a payload of 21
+-- bytes.
 abbrev pub first_lines : List ℕ
 first_lines = codes "open 0\nat 0\ndata 0 0000000000\n"
 

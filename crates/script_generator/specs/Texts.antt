@@ -1,4 +1,5 @@
--- How the generator writes lines: numbers in decimal digits, bytes in lower-case hexadecimal digits, and a line feed behind each line.
+-- How the generator writes lines: numbers in decimal digits, bytes in lower-case hexadecimal
+-- digits, and a line feed behind each line.
 use Rattle.std.specs.Prelude.{ℕ, List, ◌++◌, codes, decimal, flat_map}
 use Rattle.hex.specs.Hex.{encode_lower}
 use Rattle.event_script.specs.Script.{ScriptStep, Opens, Brings, Shuts, Fails, ListenerFails}

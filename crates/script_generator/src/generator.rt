@@ -68,7 +68,8 @@ fn push_piece(
     requires seed { seed ≤ 4294967295 }
     requires round { round < 1000 }
     requires conn { conn < 1000 }
-    ensures { OnOk result (out.new.items ≡ out.old.items ++ text_of (Stepping (piece_of piece seed round conn) ∷ [])) }
+    ensures { OnOk result (out.new.items ≡ out.old.items
+        ++ text_of (Stepping (piece_of piece seed round conn) ∷ [])) }
 {
     spell_record(spelled, seed, round, conn)?;
     match piece {
@@ -89,7 +90,8 @@ fn push_pieces(
     requires n { n ≤ 1000 }
     requires seed { seed ≤ 4294967295 }
     requires round { round < 1000 }
-    ensures { OnOk result (out.new.items ≡ out.old.items ++ text_of (map Stepping (map (piece_of piece seed round) (range_with_len 0 n)))) }
+    ensures { OnOk result (out.new.items ≡ out.old.items
+        ++ text_of (map Stepping (map (piece_of piece seed round) (range_with_len 0 n)))) }
 {
     for conn in 0..n {
         push_piece(out, spelled, piece, seed, round, conn)?;
@@ -126,7 +128,8 @@ fn push_rounds(
     requires n { n ≤ 1000 }
     requires seed { seed ≤ 4294967295 }
     requires rounds { rounds ≤ 1000 }
-    ensures { OnOk result (out.new.items ≡ out.old.items ++ text_of (flat_map (round_lines n seed) (range_with_len 0 rounds))) }
+    ensures { OnOk result (out.new.items ≡ out.old.items
+        ++ text_of (flat_map (round_lines n seed) (range_with_len 0 rounds))) }
 {
     for round in 0..rounds {
         push_round(out, spelled, n, seed, round)?;
@@ -134,10 +137,12 @@ fn push_rounds(
     Ok(())
 }
 
-/// The text of the script that the generator makes of `n` connections and a seed: 125 rounds, in each of which each connection
-/// brings one record in two pieces, and 252 steps for each connection. Digits are in lower case, and a line feed ends each line.
+/// The text of the script that the generator makes of `n` connections and a seed: 125 rounds, in
+/// each of which each connection brings one record in two pieces, and 252 steps for each
+/// connection. Digits are in lower case, and a line feed ends each line.
 ///
-/// `NoMemory` comes where there is no memory for the text. It is taken as the text grows, and not for each line.
+/// `NoMemory` comes where there is no memory for the text. It is taken as the text grows, and not
+/// for each line.
 pub fn gen_script(alloc: Global, n: u64, seed: u64) -> Result<Bytes, NoMemory>
     requires some { 1 ≤ n }
     requires within { n ≤ 1000 }

@@ -27,7 +27,8 @@ pub fn bytes_are_those_of_records()
     ensures { L.BytesAreThoseOfRecords }
 {}
 
-/// Worked rows: the first lines of one connection and seed 0, and how many bytes some scripts bring.
+/// Worked rows: the first lines of one connection and seed 0, and how many bytes some scripts
+/// bring.
 pub fn rows()
     ensures { HasRows }
 {}

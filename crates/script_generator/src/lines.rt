@@ -63,7 +63,8 @@ pub(crate) fn push_open(out: &mut Vec<u8>, conn: u64) -> Result<(), NoMemory>
 /// Appends the line `data C HEX`.
 pub(crate) fn push_data(out: &mut Vec<u8>, conn: u64, bytes: &[u8]) -> Result<(), NoMemory>
     requires { length bytes.now ≤ 64 }
-    ensures { OnOk result (out.new.items ≡ out.old.items ++ line_text (Stepping (Brings conn bytes.now))) }
+    ensures { OnOk result (out.new.items ≡ out.old.items
+        ++ line_text (Stepping (Brings conn bytes.now))) }
 {
     push_word_and_number(out, b"data ", conn)?;
     out.push(b' ')?;

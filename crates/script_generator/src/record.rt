@@ -2,13 +2,15 @@
 ghost use Rattle.std.specs.Prelude.{◌≡◌, ◌≤◌, ◌<◌, ◌+◌, ◌++◌, ◌∷◌, [], ◌^◌, ◌%◌, length, map, OnOk};
 ghost use Rattle.std.specs.List.{range_with_len};
 ghost use Rattle.cdr_record.specs.Spelling.{bytes_of as number_bytes, octet_1};
-ghost use Rattle.script_generator.specs.Records.{letter, letter_count, message, order_of, padding, bytes_of};
+ghost use Rattle.script_generator.specs.Records.{letter, letter_count, message, order_of, padding};
+ghost use Rattle.script_generator.specs.Records.{bytes_of};
 
 use byteorder::{BigEndian, ByteOrder, LittleEndian};
 use cdr_record::Order;
 use ev_types::NoMemory;
 
-/// How many bytes the fields of a record have that stand before its message: the payload's length counts them.
+/// How many bytes the fields of a record have that stand before its message: the payload's length
+/// counts them.
 const FIELDS: u32 = 20;
 
 /// The byte order of the record of a round and a connection.
@@ -73,7 +75,8 @@ fn push_letters(out: &mut Vec<u8>, round: u64, conn: u64, count: u64) -> Result<
     requires round { round < 1000 }
     requires conn { conn < 1000 }
     requires count { count < 40 }
-    ensures { OnOk result (out.new.items ≡ out.old.items ++ map (letter round conn) (range_with_len 0 count)) }
+    ensures { OnOk result (out.new.items ≡ out.old.items
+        ++ map (letter round conn) (range_with_len 0 count)) }
 {
     for j in 0..count {
         out.push(b'a' + ((round + conn + j) % 26) as u8)?;
@@ -81,7 +84,8 @@ fn push_letters(out: &mut Vec<u8>, round: u64, conn: u64, count: u64) -> Result<
     Ok(())
 }
 
-/// Puts the bytes of the record of a round and a connection into a vector, in place of what it had. After `NoMemory` it is not to be used.
+/// Puts the bytes of the record of a round and a connection into a vector, in place of what it had.
+/// After `NoMemory` it is not to be used.
 pub(crate) fn spell_record(
     out: &mut Vec<u8>,
     seed: u64,

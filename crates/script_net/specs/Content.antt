@@ -8,8 +8,9 @@ pub record ConnectionContent : Type 0 where
   pub parts : List Part
   pub room : ℕ
 
--- The end of a connection: its number, how far its story was told, how many bytes it takes and those that it holds, and its calls: how
--- many reads and writes there were, what the last of each came to, and how often a call failed.
+-- The end of a connection: its number, how far its story was told, how many bytes it takes and
+-- those that it holds, and its calls: how many reads and writes there were, what the last of each
+-- came to, and how often a call failed.
 pub record PeerContent : Type 0 where
   pub serial : ℕ
   pub telling : Telling

@@ -1,7 +1,9 @@
 -- What the ends of a script tell, and what their calls do to them.
-use Rattle.std.specs.Prelude.{◌≡◌, ◌<◌, ◌≤◌, if◌then◌else◌, ◌-◌, ℕ, min, nat_lt, Bool, true, false, List, [], ◌∷◌, ◌++◌, length, take, drop, flat_map, Option, Some, None}
+use Rattle.std.specs.Prelude.{◌≡◌, ◌<◌, ◌≤◌, if◌then◌else◌, ◌-◌, ℕ, min, nat_lt, Bool, true, false}
+use Rattle.std.specs.Prelude.{List, [], ◌∷◌, ◌++◌, length, take, drop, flat_map, Option, Some, None}
 use Rattle.ev_base.specs.Counts.{counted}
-use Rattle.ev_base.specs.Story.{Part, Piece, Pausing, Ending, Failing, Telling, Offering, Offer, AreNumbered, read_answer, told_after}
+use Rattle.ev_base.specs.Story.{Part, Piece, Pausing, Ending, Failing, Telling, Offering, Offer}
+use Rattle.ev_base.specs.Story.{AreNumbered, read_answer, told_after}
 use Rattle.ev_base.specs.End.{EndFacts, Try, Moved, Paused, WasOver, Faulted}
 use Rattle.ev_base.specs.declared.source.Got.{Got}
 use Rattle.ev_base.specs.declared.source.Got.TheVariants as got
@@ -26,7 +28,8 @@ abbrev pub front_bytes : ℕ → List Part → List ℕ
 front_bytes at [] = []
 front_bytes at (part ∷ left) = take at (part_bytes part)
 
--- the bytes that parts will give: nothing is given behind the end or a failure, which are told from then on
+-- the bytes that parts will give: nothing is given behind the end or a failure, which are told from
+-- then on
 abbrev pub bytes_of : List Part → List ℕ
 bytes_of [] = []
 bytes_of (Piece bytes ∷ left) = bytes ++ bytes_of left
@@ -60,10 +63,15 @@ peer_facts c = record {
   last_read = c.last_read;
   writes = c.writes;
   last_write = c.last_write;
+  finishes = 0;
+  last_finish = None;
   faults = c.faults;
   gave = length (given_bytes c.telling);
   over = is_over c.last_read;
-  bytes = Some (record { given = given_bytes c.telling; left = rest_bytes c.telling.at c.telling.left });
+  bytes = Some (record {
+    given = given_bytes c.telling;
+    left = rest_bytes c.telling.at c.telling.left;
+  });
   written = Some c.held;
   serial = Some c.serial;
   telling = Some c.telling;
@@ -78,6 +86,8 @@ listener_facts l = record {
   last_read = l.last_accept;
   writes = 0;
   last_write = None;
+  finishes = 0;
+  last_finish = None;
   faults = l.faults;
   gave = 0;
   over = false;
@@ -137,14 +147,19 @@ starts_over _ = false
 
 -- ---- how the code keeps the ends
 
--- how far the story of some parts was told: those in front of a place whole, and so many bytes of the one there
+-- how far the story of some parts was told: those in front of a place whole, and so many bytes of
+-- the one there
 abbrev pub telling_at : List Part → ℕ → ℕ → Telling
 telling_at parts next at = record { given = take next parts; at = at; left = drop next parts }
 
 -- how far a story was told behind a read that told its next part whole, or told so many bytes of it
 abbrev pub told_part : Part → List Part → List Part → Bool → ℕ → Telling
 told_part part given left whole at =
-    if whole then record { given = given ++ part ∷ []; at = 0; left = left } else record { given = given; at = at; left = part ∷ left }
+    if whole then record { given = given ++ part ∷ []; at = 0; left = left } else record {
+      given = given;
+      at = at;
+      left = part ∷ left;
+    }
 
 -- the end of a connection has room for what it takes, and its pieces have bytes
 pub record IsPeer (parts : List Part) (next at held room capacity : ℕ) (over : Bool) : Type 0 where
@@ -160,14 +175,17 @@ try_of_write (sent.Bytes n) = Moved n
 try_of_write sent.Pause = Paused
 try_of_write sent.Failed = Faulted
 
--- what an end answers to a write of so many bytes, and what it holds behind it: it takes bytes until it holds as many as it takes
+-- what an end answers to a write of so many bytes, and what it holds behind it: it takes bytes
+-- until it holds as many as it takes
 abbrev pub write_answer : ℕ → PeerContent → Sent
-write_answer many c = if nat_lt (length c.held) c.room then sent.Bytes (min many (c.room - length c.held)) else sent.Pause
+write_answer many c = if nat_lt (length c.held) c.room then sent.Bytes
+    (min many (c.room - length c.held)) else sent.Pause
 
 abbrev pub after_write : List ℕ → PeerContent → PeerContent
 after_write piece c =
     record c {
-      held = if nat_lt (length c.held) c.room then c.held ++ take (min (length piece) (c.room - length c.held)) piece else c.held;
+      held = if nat_lt (length c.held) c.room then c.held
+          ++ take (min (length piece) (c.room - length c.held)) piece else c.held;
       writes = counted c.writes;
       last_write = Some (try_of_write (write_answer (length piece) c));
     }
@@ -192,20 +210,28 @@ new_peer number connection = record {
 abbrev pub offering_at : List Offer → ℕ → Offering
 offering_at offers next = record { given = take next offers; left = drop next offers }
 
--- The connections that did not come yet are offered by rising number, from as many as were offered before.
+-- The connections that did not come yet are offered by rising number, from as many as were offered
+-- before.
 pub record IsListener (offering : Offering) (connections : List ConnectionContent) : Type 0 where
   pub numbered : AreNumbered (many_offered offering.given) offering.left
   pub all_offered : many_offered offering.left ≡ length connections
 
 abbrev pub new_listener : List Offer → List ConnectionContent → ListenerContent
-new_listener offers connections = record { offering = offering_at offers 0; connections = connections; accepts = 0; last_accept = None; faults = 0 }
+new_listener offers connections = record {
+  offering = offering_at offers 0;
+  connections = connections;
+  accepts = 0;
+  last_accept = None;
+  faults = 0;
+}
 
 -- an accept gives the end of the next connection that did not come yet
-pub record GivesNext (old : ListenerContent) (end : PeerContent) (new : ListenerContent) : Type 0 where
-  pub number : end.serial ≡ many_offered old.offering.given
-  pub connection : ConnectionContent
-  pub was_next : old.connections ≡ connection ∷ new.connections
-  pub end_is : end ≡ new_peer end.serial connection
+pub record GivesNext (old : ListenerContent) (end : PeerContent) (new : ListenerContent) : Type 0
+  where
+    pub number : end.serial ≡ many_offered old.offering.given
+    pub connection : ConnectionContent
+    pub was_next : old.connections ≡ connection ∷ new.connections
+    pub end_is : end ≡ new_peer end.serial connection
 
 abbrev pub AcceptsNext : ListenerContent → Taken PeerContent → ListenerContent → Type 0
 AcceptsNext old (taken.One end) new = GivesNext old end new

@@ -1,5 +1,6 @@
 -- What contracts see of a host that listens by a script.
-use Rattle.std.specs.Prelude.{◌≡◌, ℕ, Bool, true, false, Option, Some, None, Result, Ok, Err}
+use Rattle.std.specs.Prelude.{◌≡◌, ℕ, Bool, true, false, List, Option, Some, None, Result, Ok}
+use Rattle.std.specs.Prelude.{Err}
 use Rattle.ev_base.specs.Counts.{counted}
 use Rattle.ev_base.specs.declared.host.ListenRefused.{ListenRefused}
 use Rattle.ev_base.specs.declared.host.ListenRefused.TheVariants.{Failed}
@@ -18,6 +19,10 @@ host_faults host = host.faults
 abbrev pub host_fails : ScriptHost → Bool
 host_fails host = host.fails
 
+-- the ports on which it was asked to listen
+abbrev pub host_ports : ScriptHost → List ℕ
+host_ports host = host.ports
+
 -- the parts that it has to give, if it has some
 abbrev pub host_parts : ScriptHost → Option PartsContent
 host_parts host = host.parts
@@ -35,11 +40,18 @@ abbrev pub ArePartsOf : Option ScriptContent → Option PartsContent → Type 0
 ArePartsOf None None = Unit {0}
 ArePartsOf None (Some parts) = ⊥
 ArePartsOf (Some script) None = ⊥
-ArePartsOf (Some script) (Some parts) = (parts.net ≡ new_net script.groups) × (script_end_facts parts.end ≡ listener_facts (new_listener script.offers script.connections))
+ArePartsOf (Some script) (Some parts) =
+    (parts.net ≡ new_net script.groups)
+    × (script_end_facts parts.end ≡ listener_facts (new_listener script.offers script.connections))
 
--- What a `listen` gives: it fails where the host is to fail or has nothing to give, which is counted, and else it gives the parts, once.
-abbrev pub HostGives : Bool → Option PartsContent → ℕ → Result (NetContent × ScriptEnd × ScriptWake) ListenRefused → Option PartsContent → ℕ → Type 0
-HostGives true parts faults result parts' faults' = (result ≡ Err Failed) × (parts' ≡ parts) × (faults' ≡ counted faults)
-HostGives false None faults result parts' faults' = (result ≡ Err Failed) × (parts' ≡ None) × (faults' ≡ counted faults)
-HostGives false (Some parts) faults (Ok given) parts' faults' = (given.0 ≡ parts.net) × (given.1 ≡ parts.end) × (parts' ≡ None) × (faults' ≡ faults)
+-- What a `listen` gives: it fails where the host is to fail or has nothing to give, which is
+-- counted, and else it gives the parts, once.
+abbrev pub HostGives : Bool → Option PartsContent → ℕ
+    → Result (NetContent × ScriptEnd × ScriptWake) ListenRefused → Option PartsContent → ℕ → Type 0
+HostGives true parts faults result parts' faults' =
+    (result ≡ Err Failed) × (parts' ≡ parts) × (faults' ≡ counted faults)
+HostGives false None faults result parts' faults' =
+    (result ≡ Err Failed) × (parts' ≡ None) × (faults' ≡ counted faults)
+HostGives false (Some parts) faults (Ok given) parts' faults' =
+    (given.0 ≡ parts.net) × (given.1 ≡ parts.end) × (parts' ≡ None) × (faults' ≡ faults)
 HostGives false (Some parts) faults (Err refused) parts' faults' = ⊥

@@ -16,7 +16,8 @@ pub record ScriptContent : Type 0 where
   pub offers : List Offer
   pub connections : List ConnectionContent
 
--- a net that has made no call, with nothing attached, retired or turned away, for which no call was named
+-- a net that has made no call, with nothing attached, retired or turned away, for which no call was
+-- named
 abbrev pub new_net : List Group → NetContent
 new_net groups = record {
   groups = groups;
@@ -33,13 +34,15 @@ new_net groups = record {
   failed_attaches = 0;
 }
 
--- where the terms lay down the groups, the listener's story and the stories of the connections, these are the script's
+-- where the terms lay down the groups, the listener's story and the stories of the connections,
+-- these are the script's
 pub record LaysDown (t : Terms) (s : ScriptContent) : Type 0 where
   pub groups : (groups : List Group) → t.groups ≡ Some groups → groups ≡ s.groups
   pub offers : (offers : List Offer) → t.offers ≡ Some offers → offers ≡ s.offers
   pub stories : AreStories t 0 s.connections
 
--- a net and a listener that a host gives: the net has made no call, and the listener has given nothing and made no call
+-- a net and a listener that a host gives: the net has made no call, and the listener has given
+-- nothing and made no call
 pub record AreUnused (net : NetContent) (end : ScriptEnd) : Type 0 where
   pub new : IsNew (script_net_facts net)
   pub listener : (script_end_facts end).listener ≡ true

@@ -7,10 +7,13 @@ use Rattle.script_net.specs.Content.{ConnectionContent, PeerContent, ListenerCon
 use Rattle.script_net.specs.Playable.{many_offered}
 use Rattle.script_net.specs.Ends.{peer_facts, listener_facts}
 
--- these connections, which have the numbers from this one on, tell the stories that the terms have of them
+-- these connections, which have the numbers from this one on, tell the stories that the terms have
+-- of them
 abbrev pub AreStories : Terms → ℕ → List ConnectionContent → Type 0
 AreStories t from connections =
-    (k : ℕ) (connection : ConnectionContent) (story : Story) → slice_get connections k ≡ Some connection → story_of t (from + k) ≡ Some story → story ≡ OfParts connection.parts
+    (k : ℕ) (connection : ConnectionContent) (story : Story)
+    → slice_get connections k ≡ Some connection → story_of t (from + k) ≡ Some story
+    → story ≡ OfParts connection.parts
 
 -- a listener keeps its own story and those of the connections that did not come yet
 pub record ListenerKeeps (t : Terms) (l : ListenerContent) : Type 0 where

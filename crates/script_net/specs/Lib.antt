@@ -17,3 +17,4 @@ pub mod NetLaws
 pub mod Hosts
 pub mod Host
 pub mod HostLaws
+pub use Rattle.event_script

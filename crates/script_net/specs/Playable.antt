@@ -1,13 +1,15 @@
 -- What holds of every script that can be played.
 use Rattle.std.specs.Prelude.{◌≤◌, ◌<◌, ◌+◌, ℕ, List, [], ◌∷◌, length}
-use Rattle.ev_base.specs.Story.{Part, Piece, Pausing, Ending, Failing, Offer, Connection, NoneThere, OneFailure}
+use Rattle.ev_base.specs.Story.{Part, Piece, Pausing, Ending, Failing, Offer, Connection, NoneThere}
+use Rattle.ev_base.specs.Story.{OneFailure}
 use Rattle.ev_base.specs.Terms.{StepEnd, AtListener, AtConnection, Step, Group}
 use Rattle.event_script.specs.Grammar.{last_moment}
 
 -- the moments do not go back, from this one on, and none is beyond the last that a script may name
 abbrev pub AreInOrder : ℕ → List Group → Type 0
 AreInOrder from [] = Unit {0}
-AreInOrder from (group ∷ groups) = (from ≤ group.moment) × (group.moment ≤ last_moment) × AreInOrder group.moment groups
+AreInOrder from (group ∷ groups) =
+    (from ≤ group.moment) × (group.moment ≤ last_moment) × AreInOrder group.moment groups
 
 -- the part is no piece without a byte
 abbrev pub IsFilled : Part → Type 0

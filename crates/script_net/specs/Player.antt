@@ -1,5 +1,6 @@
 -- What the player of a script stands for.
-use Rattle.std.specs.Prelude.{◌≡◌, ◌≤◌, ◌+◌, ℕ, false, Option, List, [], ◌++◌, length, drop, vec_capacity}
+use Rattle.std.specs.Prelude.{◌≡◌, ◌≤◌, ◌+◌, ℕ, false, Option, List, [], ◌++◌, length, drop}
+use Rattle.std.specs.Prelude.{vec_capacity}
 use Rattle.ev_base.specs.Terms.{Group}
 use Rattle.ev_base.specs.Playing.{Playing, given, left, without, waited, most_reports}
 use Rattle.ev_base.specs.declared.net.Waited.{Waited}
@@ -14,15 +15,17 @@ use Rattle.script_net.specs.Sorting.{AreMarks}
 abbrev pub connections_of : Player → ℕ
 connections_of player = length player.seats.marks.connections
 
--- the steps that are held back, with some whose ends are gone: those that nobody wanted, and those that are still to be looked at
+-- the steps that are held back, with some whose ends are gone: those that nobody wanted, and those
+-- that are still to be looked at
 abbrev pub fresh_of : Player → List End
 fresh_of player = drop player.first player.held.items
 
 abbrev pub held_of : Player → List End
 held_of player = player.unwanted.items ++ fresh_of player
 
--- It has played the script so far. The moments that are left come in order, the steps are at ends of the script, and there is room for all that
--- may have to be held back. While no end was attached and no mask set since, nobody wants the steps that nobody wanted.
+-- It has played the script so far. The moments that are left come in order, the steps are at ends
+-- of the script, and there is room for all that may have to be held back. While no end was attached
+-- and no mask set since, nobody wants the steps that nobody wanted.
 pub record Stands (player : Player) (p : Playing) : Type 0 where
   pub moment : player.now ≡ p.moment
   pub groups : drop player.next (group_views player.groups.items) ≡ p.groups
@@ -33,7 +36,8 @@ pub record Stands (player : Player) (p : Playing) : Type 0 where
   pub last : p.moment ≤ last_moment
   pub within : AllWithin (connections_of player) p.groups
   pub held_within : AreWithin (connections_of player) (steps_at (held_of player))
-  pub unwanted : player.changed ≡ false → given p.seats most_reports (without p.gone (steps_at player.unwanted.items)) ≡ []
+  pub unwanted : player.changed ≡ false
+      → given p.seats most_reports (without p.gone (steps_at player.unwanted.items)) ≡ []
   pub behind : length player.unwanted.items ≤ player.first
   pub unwanted_room : length (held_of player) + many_steps p.groups ≤ vec_capacity player.unwanted
   pub first : player.first ≤ length player.held.items
@@ -48,12 +52,18 @@ pub record GivesHeld (p : Playing) (new : Player) : Type 0 where
   pub stands : Stands new (record p { held = left p.seats most_reports p.held })
 
 -- the next group came
-pub record GivesGroup (p : Playing) (group : Group) (groups : List Group) (new : Player) : Type 0 where
-  pub reports : new.reports.items ≡ given p.seats most_reports (without p.gone group.steps)
-  pub stands : Stands new (record p { moment = group.moment; groups = groups; held = p.held ++ left p.seats most_reports (without p.gone group.steps) })
+pub record GivesGroup (p : Playing) (group : Group) (groups : List Group) (new : Player) : Type 0
+  where
+    pub reports : new.reports.items ≡ given p.seats most_reports (without p.gone group.steps)
+    pub stands : Stands new (record p {
+      moment = group.moment;
+      groups = groups;
+      held = p.held ++ left p.seats most_reports (without p.gone group.steps);
+    })
 
 -- a wait has the answer and the reports of the rules
-pub record PlayerWaits (p : Playing) (most : Option ℕ) (answer : Waited) (new : Player) : Type 0 where
-  pub answers : answer ≡ (waited most p).answer
-  pub reports : new.reports.items ≡ (waited most p).reports
-  pub stands : Stands new (waited most p).next
+pub record PlayerWaits (p : Playing) (most : Option ℕ) (answer : Waited) (new : Player) : Type 0
+  where
+    pub answers : answer ≡ (waited most p).answer
+    pub reports : new.reports.items ≡ (waited most p).reports
+    pub stands : Stands new (waited most p).next

@@ -9,7 +9,8 @@ use Rattle.ev_base.specs.declared.end.Sent.{Sent}
 use Rattle.ev_base.specs.declared.end.Taken.{Taken}
 use Rattle.ev_base.specs.declared.end.Taken.TheVariants as taken
 use Rattle.script_net.specs.Content.{ListenerContent}
-use Rattle.script_net.specs.Ends.{peer_facts, listener_facts, after_read, after_write, write_answer, GivesNext}
+use Rattle.script_net.specs.Ends.{peer_facts, listener_facts, after_read, after_write, write_answer}
+use Rattle.script_net.specs.Ends.{GivesNext}
 use Rattle.script_net.specs.Keeps.{ListenerKeeps, PeerKeeps}
 
 abbrev pub role_facts : Role → EndFacts
@@ -24,7 +25,8 @@ abbrev pub RoleKeeps : Terms → Role → Type 0
 RoleKeeps t (role.Listener listener) = ListenerKeeps t listener
 RoleKeeps t (role.Connection peer) = PeerKeeps t peer
 
--- what it keeps under the terms: its story, and a listener also the stories of the connections that did not come yet
+-- what it keeps under the terms: its story, and a listener also the stories of the connections that
+-- did not come yet
 abbrev pub ScriptEndKeeps : Terms → ScriptEnd → Type 0
 ScriptEndKeeps t end = RoleKeeps t end.role
 
@@ -41,11 +43,13 @@ RoleReads (role.Connection old) room (role.Listener new) = ⊥
 RoleReads (role.Listener old) room new = ⊥
 
 abbrev pub RoleWrites : Role → List ℕ → Sent → Role → Type 0
-RoleWrites (role.Connection old) piece answer (role.Connection new) = (answer ≡ write_answer (length piece) old) × (new ≡ after_write piece old)
+RoleWrites (role.Connection old) piece answer (role.Connection new) =
+    (answer ≡ write_answer (length piece) old) × (new ≡ after_write piece old)
 RoleWrites (role.Connection old) piece answer (role.Listener new) = ⊥
 RoleWrites (role.Listener old) piece answer new = ⊥
 
--- what an accept of a listener gives, by its answer: the end of the next connection that did not come yet, or none
+-- what an accept of a listener gives, by its answer: the end of the next connection that did not
+-- come yet, or none
 abbrev pub GivesRole : ListenerContent → Role → ListenerContent → Type 0
 GivesRole old (role.Connection peer) new = GivesNext old peer new
 GivesRole old (role.Listener listener) new = ⊥

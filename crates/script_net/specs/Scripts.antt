@@ -1,6 +1,6 @@
 -- A script as the code keeps it, and what it is in the definitions of scripts.
 use Rattle.std.specs.Prelude.{List, map}
-use Rattle.ev_types.specs.declared.upcall.Kind.TheVariants.{Read}
+use Rattle.ev_base.specs.ev_types.specs.declared.upcall.Kind.TheVariants.{Read}
 use Rattle.ev_base.specs.Story as story
 use Rattle.ev_base.specs.Terms as terms
 use Rattle.script_net.specs.declared.script.End.{End}

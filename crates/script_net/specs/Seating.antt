@@ -1,6 +1,8 @@
 -- The ends that a net watches: the places in which they were attached, one behind the other.
-use Rattle.std.specs.Prelude.{◌≡◌, ℕ, zero, suc, Bool, true, false, ◌&&◌, if◌then◌else◌, List, [], ◌∷◌, length, slice_get, slice_set, Option, Some, None, unwrap_or, replicate}
-use Rattle.ev_types.specs.declared.upcall.Kind.TheVariants.{Read}
+use Rattle.std.specs.Prelude.{◌≡◌, ℕ, zero, suc, Bool, true, false, ◌&&◌, if◌then◌else◌, List, []}
+use Rattle.std.specs.Prelude.{◌∷◌, length, slice_get, slice_set, Option, Some, None, unwrap_or}
+use Rattle.std.specs.Prelude.{replicate}
+use Rattle.ev_base.specs.ev_types.specs.declared.upcall.Kind.TheVariants.{Read}
 use Rattle.ev_base.specs.Terms.{StepEnd, AtListener, AtConnection}
 use Rattle.ev_base.specs.Playing.{Seat, is_end}
 use Rattle.ev_base.specs.declared.net.Report.{Report}
@@ -35,11 +37,13 @@ is_place_of (Some p) end = is_end (end_view p.end) end
 -- the last of the first n places in which an end was attached
 abbrev pub last_to : List Place → StepEnd → ℕ → Option ℕ
 last_to places end zero = None
-last_to places end (suc n) = if is_place_of (slice_get places n) end then Some n else last_to places end n
+last_to places end (suc n) = if is_place_of (slice_get places n) end then Some n else last_to places
+    end n
 
 -- the report of a place whose end is attached with Read in its mask
 abbrev pub own_report : Place → Option Report
-own_report p = if p.attached && p.mask.read then Some (record { handle = record { 0 = p.handle }; kind = Read }) else None
+own_report p = if p.attached && p.mask.read then Some
+    (record { handle = record { 0 = p.handle }; kind = Read }) else None
 
 -- the same, where it is a place of this end
 abbrev pub report_of : Option Place → StepEnd → Option Report
@@ -69,7 +73,8 @@ latest_of l (AtConnection serial) = unwrap_or (slice_get l.connections serial) N
 -- an end of the script has this last place; any other is not noted
 abbrev pub with_latest : StepEnd → ℕ → Latest → Latest
 with_latest AtListener place l = record l { listener = Some place }
-with_latest (AtConnection serial) place l = record l { connections = slice_set l.connections serial (Some place) }
+with_latest (AtConnection serial) place l =
+    record l { connections = slice_set l.connections serial (Some place) }
 
 -- whether the listener, and each connection by number, is gone for good
 pub record Marks : Type 0 where
@@ -87,7 +92,8 @@ with_mark (AtConnection serial) m = record m { connections = slice_set m.connect
 
 -- ---- what contracts see of it
 
--- The ends that are attached, the latest first; those that are gone; how many were attached in all, and for how many there is room.
+-- The ends that are attached, the latest first; those that are gone; how many were attached in all,
+-- and for how many there is room.
 pub record SeatsContent : Type 0 where
   pub seats : List Seat
   pub marks : Marks
@@ -101,16 +107,19 @@ handles_of (seat ∷ seats) = seat.handle ∷ handles_of seats
 -- no two places that are attached have the same handle
 abbrev pub AreOnce : List Place → Type 0
 AreOnce places =
-    (i j : ℕ) (p q : Place) → slice_get places i ≡ Some p → slice_get places j ≡ Some q → p.attached ≡ true → q.attached ≡ true → p.handle ≡ q.handle → i ≡ j
+    (i j : ℕ) (p q : Place) → slice_get places i ≡ Some p → slice_get places j ≡ Some q
+    → p.attached ≡ true → q.attached ≡ true → p.handle ≡ q.handle → i ≡ j
 
 -- each place of an end of the script knows the one before it
 abbrev pub AreChained : ℕ → List Place → Type 0
-AreChained many places = (k : ℕ) (p : Place) → slice_get places k ≡ Some p → IsWithin many (end_view p.end) → p.earlier ≡ last_to places (end_view p.end) k
+AreChained many places = (k : ℕ) (p : Place) → slice_get places k ≡ Some p
+    → IsWithin many (end_view p.end) → p.earlier ≡ last_to places (end_view p.end) k
 
 pub record IsSeating (places : List Place) (latest : Latest) (marks : Marks) : Type 0 where
   pub once : AreOnce places
   pub chained : AreChained (length latest.connections) places
-  pub latest_are : (e : StepEnd) → IsWithin (length latest.connections) e → latest_of latest e ≡ last_to places e (length places)
+  pub latest_are : (e : StepEnd) → IsWithin (length latest.connections) e
+      → latest_of latest e ≡ last_to places e (length places)
   pub same : length marks.connections ≡ length latest.connections
 
 -- a place in which an end is attached under this handle
@@ -122,4 +131,9 @@ pub record IsPlaceOf (places : List Place) (handle at : ℕ) : Type 0 where
 
 -- no end was attached, and none is gone, of a script with so many connections
 abbrev pub new_seats : ℕ → SeatsContent
-new_seats connections = record { seats = []; marks = record { listener = false; connections = replicate connections false }; made = 0; room = 0 }
+new_seats connections = record {
+  seats = [];
+  marks = record { listener = false; connections = replicate connections false };
+  made = 0;
+  room = 0;
+}

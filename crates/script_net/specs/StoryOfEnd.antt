@@ -10,5 +10,6 @@ role_keeps_story : (t : Terms) (r : Role) → RoleKeeps t r → KeepsStory t (ro
 role_keeps_story t (role.Listener listener) keeps = keeps.own
 role_keeps_story t (role.Connection peer) keeps = keeps
 
-pub keeps_its_story : (t : Terms) (end : ScriptEnd) → ScriptEndKeeps t end → KeepsStory t (script_end_facts end)
+pub keeps_its_story : (t : Terms) (end : ScriptEnd) → ScriptEndKeeps t end
+    → KeepsStory t (script_end_facts end)
 keeps_its_story t end keeps = role_keeps_story t end.role keeps

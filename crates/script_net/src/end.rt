@@ -17,12 +17,14 @@ enum Role {
     Connection(Peer),
 }
 
-/// The listener of a script, or the end of one of its connections. It owns all that it has to tell from the start: the listener also
-/// owns the ends of the connections that did not come yet.
+/// The listener of a script, or the end of one of its connections. It owns all that it has to tell
+/// from the start: the listener also owns the ends of the connections that did not come yet.
 ///
-/// A read gives the front of the next piece, as many bytes as the buffer takes, and the rest stays. Behind a piece comes one pause. The
-/// end of the input and a failure are told from then on, a failure of the listener once. Where nothing is left to tell, each read and
-/// accept pauses. A write takes bytes until as many are held as the script has room for, and then pauses; it never fails.
+/// A read gives the front of the next piece, as many bytes as the buffer takes, and the rest stays.
+/// Behind a piece comes one pause. The end of the input and a failure are told from then on, a
+/// failure of the listener once. Where nothing is left to tell, each read and accept pauses. A
+/// write takes bytes until as many are held as the script has room for, and then pauses; it never
+/// fails.
 #[derive(Drop)]
 pub struct ScriptEnd {
     role: Role,
@@ -82,7 +84,8 @@ impl ScriptEnd {
 impl PeerEnd for ScriptEnd {
     ghost use Rattle.ev_base.specs.Terms.{Terms};
     ghost use Rattle.ev_base.specs.End.{EndReads, EndWrites, Accepts, KeptByGiven};
-    ghost use Rattle.script_net.specs.ScriptEnd.{script_end_facts, ScriptEndKeeps, RoleReads, RoleWrites, RoleAccepts};
+    ghost use Rattle.script_net.specs.ScriptEnd.{script_end_facts, ScriptEndKeeps, RoleReads};
+    ghost use Rattle.script_net.specs.ScriptEnd.{RoleWrites, RoleAccepts};
     ghost use Rattle.script_net.specs.StoryOfEnd.{keeps_its_story};
 
     ghost tells = { script_end_facts };
@@ -99,7 +102,8 @@ impl PeerEnd for ScriptEnd {
     fn read(&mut self, buf: &mut [u8]) -> Got
         requires reader { (script_end_facts self.old).listener ≡ false }
         requires room { 0 < length buf.old }
-        ensures reads { EndReads (script_end_facts self.old) buf.new result (script_end_facts self.new) }
+        ensures reads { EndReads (script_end_facts self.old) buf.new result
+            (script_end_facts self.new) }
         ensures kept { (t : Terms) → ScriptEndKeeps t self.old → ScriptEndKeeps t self.new }
         ensures exactly { RoleReads self.old.role (length buf.old) self.new.role }
     {
@@ -112,7 +116,8 @@ impl PeerEnd for ScriptEnd {
     fn write(&mut self, piece: &[u8]) -> Sent
         requires writer { (script_end_facts self.old).listener ≡ false }
         requires some { 0 < length piece.now }
-        ensures writes { EndWrites (script_end_facts self.old) piece.now result (script_end_facts self.new) }
+        ensures writes { EndWrites (script_end_facts self.old) piece.now result
+            (script_end_facts self.new) }
         ensures kept { (t : Terms) → ScriptEndKeeps t self.old → ScriptEndKeeps t self.new }
         ensures exactly { RoleWrites self.old.role piece.now result self.new.role }
     {
@@ -124,9 +129,11 @@ impl PeerEnd for ScriptEnd {
 
     fn accept(&mut self) -> Taken<ScriptEnd>
         requires { (script_end_facts self.old).listener ≡ true }
-        ensures accepts { Accepts script_end_facts (script_end_facts self.old) result (script_end_facts self.new) }
+        ensures accepts { Accepts script_end_facts (script_end_facts self.old) result
+            (script_end_facts self.new) }
         ensures kept { (t : Terms) → ScriptEndKeeps t self.old → ScriptEndKeeps t self.new }
-        ensures given { (t : Terms) → ScriptEndKeeps t self.old → KeptByGiven (ScriptEndKeeps t) result }
+        ensures given { (t : Terms) → ScriptEndKeeps t self.old
+            → KeptByGiven (ScriptEndKeeps t) result }
         ensures exactly { RoleAccepts self.old.role result self.new.role }
     {
         match &mut self.role {

@@ -43,9 +43,16 @@ impl Model for Listener {
     ghost use Rattle.script_net.specs.Listeners.{try_of_accept};
     ghost use Rattle.script_net.specs.Ends.{offering_at, IsListener};
 
-    ghost view = { λ l. record { offering = offering_at (offer_views l.offers.items) l.next; connections = into_iter_items l.connections; accepts = l.accepts; last_accept = option_map try_of_accept l.last_accept; faults = l.faults } };
+    ghost view = { λ l. record {
+      offering = offering_at (offer_views l.offers.items) l.next;
+      connections = into_iter_items l.connections;
+      accepts = l.accepts;
+      last_accept = option_map try_of_accept l.last_accept;
+      faults = l.faults;
+    } };
 
-    ghost invariant = { λ l. IsListener (offering_at (offer_views l.offers.items) l.next) (into_iter_items l.connections) };
+    ghost invariant = { λ l. IsListener (offering_at (offer_views l.offers.items) l.next)
+        (into_iter_items l.connections) };
 }
 
 impl Listener {
@@ -76,7 +83,8 @@ impl Listener {
 
     /// Takes the next of its story.
     pub(crate) fn accept(&mut self) -> Taken<Peer>
-        ensures accepts { Accepts peer_facts (listener_facts self.old) result (listener_facts self.new) }
+        ensures accepts { Accepts peer_facts (listener_facts self.old) result
+            (listener_facts self.new) }
         ensures next { AcceptsNext self.old result self.new }
     {
         self.accepts = self.accepts.saturating_add(1);

@@ -1,32 +1,33 @@
 //! A demultiplexer that plays a script.
-ghost use Rattle.std.specs.Prelude.{◌≡◌, ◌≤◌, ◌<◌, ◌+◌, ◌-◌, ◌∷◌, ℕ, [], length, option_map, reverse, Some, None, OnOk, IsOk, IfOk, Contains};
+ghost use Rattle.std.specs.Prelude.{◌≡◌, ◌≤◌, ◌<◌, ◌+◌, ◌-◌, ◌∷◌, ℕ, [], length, option_map};
+ghost use Rattle.std.specs.Prelude.{reverse, Some, None, OnOk, IsOk, IfOk, Contains};
 ghost use Rattle.ev_base.specs.Counts.{counted};
 ghost use Rattle.ev_base.specs.Playing.{waited};
 ghost use Rattle.script_net.specs.Scripts.{group_views};
 ghost use Rattle.script_net.specs.Playable.{AreInOrder, AllWithin, many_steps};
-ghost use Rattle.script_net.specs.NetContent.{script_net_facts, script_net_keeps, playing_of, after_failed_wait, after_wait, retired_of};
+ghost use Rattle.script_net.specs.NetContent.{script_net_facts, script_net_keeps, playing_of};
+ghost use Rattle.script_net.specs.NetContent.{after_failed_wait, after_wait, retired_of};
 
 use crate::end::ScriptEnd;
 use crate::player::Player;
 use crate::script::Group;
 use crate::seats::Seats;
-use crate::sorting::MOST_REPORTS;
-use ev_base::{Net, Report, Waited};
-use ev_types::{Handle, Mask, NetFailed, NoMemory};
-use net_calls::{Calls, Made};
+use ev_base::{Calls, Handle, MOST_REPORTS, Made, Mask, Net, NetFailed, NoMemory, Report, Waited};
 use std::alloc::Global;
 use std::marker::Model;
 
 /// A demultiplexer that plays the groups of a script. It takes no memory but in `reserve`.
 ///
-/// A wait reports the steps that are held back and can be reported now, at most 256, at the present moment, which is 0 at first. Where there is
-/// none, and no group is left, it answers `Over`. Where the next group comes later than the wait may last, the time passes and the answer is
-/// `Quiet`. Else the moment of that group comes: its steps at ends that are attached with their kind in the mask are reported in
-/// order, at most 256; the others are held back, and those of ends that were retired or turned away are dropped; where nothing is
-/// reported the answer is `Quiet`. Reports are not merged. Moments are milliseconds.
+/// A wait reports the steps that are held back and can be reported now, at most 256, at the present
+/// moment, which is 0 at first. Where there is none, and no group is left, it answers `Over`. Where
+/// the next group comes later than the wait may last, the time passes and the answer is `Quiet`.
+/// Else the moment of that group comes: its steps at ends that are attached with their kind in the
+/// mask are reported in order, at most 256; the others are held back, and those of ends that were
+/// retired or turned away are dropped; where nothing is reported the answer is `Quiet`. Reports are
+/// not merged. Moments are milliseconds.
 ///
-/// A wait costs what it reports. A step that is held back is looked at when it comes and by the next wait, and from then on only by a wait
-/// before which an end was attached or a mask set.
+/// A wait costs what it reports. A step that is held back is looked at when it comes and by the
+/// next wait, and from then on only by a wait before which an end was attached or a mask set.
 #[derive(Drop)]
 pub struct ScriptNet {
     player: Player,
@@ -52,7 +53,20 @@ impl Model for ScriptNet {
     ghost use Rattle.script_net.specs.Scripts.{group_views};
     ghost use Rattle.script_net.specs.NetRoom.{IsNet};
 
-    ghost view = { λ n. record { groups = group_views n.player.groups.items; calls = n.calls; reports = n.player.reports.items; retired = reverse n.retired.items; turned_away = reverse n.turned_away.items; spare = n.spare; waits = n.waits; attaches = n.attaches; fail_waits = n.fail_waits.items; fail_attaches = n.fail_attaches.items; failed_waits = n.failed_waits; failed_attaches = n.failed_attaches } };
+    ghost view = { λ n. record {
+      groups = group_views n.player.groups.items;
+      calls = n.calls;
+      reports = n.player.reports.items;
+      retired = reverse n.retired.items;
+      turned_away = reverse n.turned_away.items;
+      spare = n.spare;
+      waits = n.waits;
+      attaches = n.attaches;
+      fail_waits = n.fail_waits.items;
+      fail_attaches = n.fail_attaches.items;
+      failed_waits = n.failed_waits;
+      failed_attaches = n.failed_attaches;
+    } };
 
     ghost invariant = { λ n. IsNet n.player n.calls n.retired n.turned_away n.spare };
 }
@@ -105,14 +119,16 @@ impl ScriptNet {
         last_of(&self.retired, handle.0)
     }
 
-    /// Names the waits that fail, by their numbers from 0, in the place of those that were named before.
+    /// Names the waits that fail, by their numbers from 0, in the place of those that were named
+    /// before.
     pub fn fail_waits(&mut self, numbers: Vec<u64>)
         ensures { self.new ≡ record self.old { fail_waits = numbers.items } }
     {
         self.fail_waits = numbers;
     }
 
-    /// Names the attaches that fail, by their numbers from 0, in the place of those that were named before.
+    /// Names the attaches that fail, by their numbers from 0, in the place of those that were named
+    /// before.
     pub fn fail_attaches(&mut self, numbers: Vec<u64>)
         ensures { self.new ≡ record self.old { fail_attaches = numbers.items } }
     {
@@ -122,7 +138,8 @@ impl ScriptNet {
 
 impl Net for ScriptNet {
     ghost use Rattle.ev_base.specs.Terms.{Terms, KeepsOn, KeepsOnWith};
-    ghost use Rattle.ev_base.specs.Net.{NetWaits, Reserves, NetAttaches, SetsMaskOf, RetiresEnd, TurnsAwayEnd, Attaches, SetsMask, Retires, TurnsAway};
+    ghost use Rattle.ev_base.specs.Net.{NetWaits, Reserves, NetAttaches, SetsMaskOf, RetiresEnd};
+    ghost use Rattle.ev_base.specs.Net.{TurnsAwayEnd, Attaches, SetsMask, Retires, TurnsAway};
     ghost use Rattle.script_net.specs.ScriptEnd.{script_end_facts, ScriptEndKeeps};
     ghost use Rattle.script_net.specs.NetLaws.{net_is_sound, net_follows_groups};
 
@@ -133,10 +150,14 @@ impl Net for ScriptNet {
     ghost keeps = { script_net_keeps };
 
     fn wait(&mut self, most_ms: Option<u64>) -> Waited
-        ensures waits { NetWaits (script_net_facts self.old) most_ms result (script_net_facts self.new) }
+        ensures waits { NetWaits (script_net_facts self.old) most_ms result
+            (script_net_facts self.new) }
         ensures kept { KeepsOn script_net_keeps self.old self.new }
-        ensures fails { Contains self.old.fail_waits self.old.waits → (result ≡ Waited.Failed) × (self.new ≡ after_failed_wait self.old) }
-        ensures plays { (Contains self.old.fail_waits self.old.waits → ⊥) → (result ≡ (waited most_ms (playing_of self.old)).answer) × (self.new ≡ after_wait most_ms self.old) }
+        ensures fails { Contains self.old.fail_waits self.old.waits → (result ≡ Waited.Failed)
+            × (self.new ≡ after_failed_wait self.old) }
+        ensures plays { (Contains self.old.fail_waits self.old.waits → ⊥)
+            → (result ≡ (waited most_ms (playing_of self.old)).answer)
+            × (self.new ≡ after_wait most_ms self.old) }
     {
         let number = self.waits;
         self.waits = number.saturating_add(1);
@@ -177,13 +198,25 @@ impl Net for ScriptNet {
     fn attach(&mut self, end: &mut ScriptEnd, handle: Handle, mask: Mask) -> Result<(), NetFailed>
         requires place { 1 ≤ (script_net_facts self.old).spare }
         requires absent { Contains (script_net_facts self.old).attached handle.0 → ⊥ }
-        ensures attaches { NetAttaches (script_net_facts self.old) handle.0 mask (script_end_facts end.old).serial result (script_net_facts self.new) }
+        ensures attaches { NetAttaches (script_net_facts self.old) handle.0 mask
+            (script_end_facts end.old).serial result (script_net_facts self.new) }
         ensures end { script_end_facts end.new ≡ script_end_facts end.old }
         ensures kept { KeepsOnWith script_net_keeps ScriptEndKeeps end.old self.old self.new }
-        ensures end_kept { (t : Terms) → script_net_keeps t self.old → ScriptEndKeeps t end.old → ScriptEndKeeps t end.new }
+        ensures end_kept { (t : Terms) → script_net_keeps t self.old → ScriptEndKeeps t end.old
+            → ScriptEndKeeps t end.new }
         ensures same_end { end.new ≡ end.old }
-        ensures fails { Contains self.old.fail_attaches self.old.attaches → (result ≡ Err record {}) × (self.new ≡ record self.old { attaches = counted self.old.attaches; failed_attaches = counted self.old.failed_attaches }) }
-        ensures exactly { (Contains self.old.fail_attaches self.old.attaches → ⊥) → (result ≡ Ok tt) × (self.new ≡ record self.old { attaches = counted self.old.attaches; spare = self.old.spare - 1; calls = Attaches handle.0 mask (script_end_facts end.old).serial ∷ self.old.calls }) }
+        ensures fails { Contains self.old.fail_attaches self.old.attaches → (result ≡ Err record {})
+            × (self.new ≡ record self.old {
+              attaches = counted self.old.attaches;
+              failed_attaches = counted self.old.failed_attaches;
+            }) }
+        ensures exactly { (Contains self.old.fail_attaches self.old.attaches → ⊥) → (result ≡ Ok tt)
+            × (self.new ≡ record self.old {
+              attaches = counted self.old.attaches;
+              spare = self.old.spare - 1;
+              calls = Attaches handle.0 mask (script_end_facts end.old).serial
+                  ∷ self.old.calls;
+            }) }
     {
         let number = self.attaches;
         self.attaches = number.saturating_add(1);
@@ -200,9 +233,12 @@ impl Net for ScriptNet {
 
     fn set_mask(&mut self, handle: Handle, mask: Mask)
         requires { Contains (script_net_facts self.old).attached handle.0 }
-        ensures sets { SetsMaskOf (script_net_facts self.old) handle.0 mask (script_net_facts self.new) }
+        ensures sets { SetsMaskOf (script_net_facts self.old) handle.0 mask
+            (script_net_facts self.new) }
         ensures kept { KeepsOn script_net_keeps self.old self.new }
-        ensures exactly { self.new ≡ record self.old { calls = SetsMask handle.0 mask ∷ self.old.calls } }
+        ensures exactly { self.new ≡ record self.old {
+          calls = SetsMask handle.0 mask ∷ self.old.calls;
+        } }
     {
         self.player.seats.set_mask(handle, mask);
         self.player.changed = true;
@@ -211,9 +247,13 @@ impl Net for ScriptNet {
 
     fn retire(&mut self, handle: Handle, end: ScriptEnd)
         requires { Contains (script_net_facts self.old).attached handle.0 }
-        ensures retires { RetiresEnd (script_net_facts self.old) handle.0 end (script_net_facts self.new) }
+        ensures retires { RetiresEnd (script_net_facts self.old) handle.0 end
+            (script_net_facts self.new) }
         ensures kept { KeepsOnWith script_net_keeps ScriptEndKeeps end self.old self.new }
-        ensures exactly { self.new ≡ record self.old { retired = (handle.0, end) ∷ self.old.retired; calls = Retires handle.0 ∷ self.old.calls } }
+        ensures exactly { self.new ≡ record self.old {
+          retired = (handle.0, end) ∷ self.old.retired;
+          calls = Retires handle.0 ∷ self.old.calls;
+        } }
     {
         let place = self.player.seats.retire(handle);
         self.player.seats.mark(place);
@@ -226,9 +266,14 @@ impl Net for ScriptNet {
 
     fn turn_away(&mut self, end: ScriptEnd)
         requires { 1 ≤ (script_net_facts self.old).spare }
-        ensures turns_away { TurnsAwayEnd (script_net_facts self.old) (script_end_facts end).serial end (script_net_facts self.new) }
+        ensures turns_away { TurnsAwayEnd (script_net_facts self.old) (script_end_facts end).serial
+            end (script_net_facts self.new) }
         ensures kept { KeepsOnWith script_net_keeps ScriptEndKeeps end self.old self.new }
-        ensures exactly { self.new ≡ record self.old { turned_away = end ∷ self.old.turned_away; spare = self.old.spare - 1; calls = TurnsAway (script_end_facts end).serial ∷ self.old.calls } }
+        ensures exactly { self.new ≡ record self.old {
+          turned_away = end ∷ self.old.turned_away;
+          spare = self.old.spare - 1;
+          calls = TurnsAway (script_end_facts end).serial ∷ self.old.calls;
+        } }
     {
         let serial = end.serial();
         self.player.seats.mark(end.place());

@@ -4,13 +4,15 @@ ghost use Rattle.ev_base.specs.Story as story;
 ghost use Rattle.ev_base.specs.End.{EndReads, EndWrites};
 ghost use Rattle.ev_base.specs.Story.{read_answer, read_bytes, told_after};
 ghost use Rattle.script_net.specs.Scripts.{part_view, part_views};
-ghost use Rattle.script_net.specs.Ends.{peer_facts, after_read, got_bytes, telling_at, told_part, faults_after, IsInside, write_answer, after_write};
+ghost use Rattle.script_net.specs.Ends.{peer_facts, after_read, got_bytes, telling_at, told_part};
+ghost use Rattle.script_net.specs.Ends.{faults_after, IsInside, write_answer, after_write};
 
 use crate::script::{Connection, Part};
 use ev_base::{Got, Sent};
 use std::marker::Model;
 
-/// The end of a connection: it tells the parts of its story, and takes bytes until it holds as many as it has room for.
+/// The end of a connection: it tells the parts of its story, and takes bytes until it holds as many
+/// as it has room for.
 #[derive(Drop)]
 pub(crate) struct Peer {
     number: u64,
@@ -36,9 +38,20 @@ impl Model for Peer {
     ghost use Rattle.script_net.specs.Scripts.{part_views};
     ghost use Rattle.script_net.specs.Ends.{telling_at, try_of, try_of_write, is_over, IsPeer};
 
-    ghost view = { λ p. record { serial = p.number; telling = telling_at (part_views p.parts.items) p.next p.at; room = p.room; held = p.held.items; reads = p.reads; last_read = option_map try_of p.last_read; writes = p.writes; last_write = option_map try_of_write p.last_write; faults = p.faults } };
+    ghost view = { λ p. record {
+      serial = p.number;
+      telling = telling_at (part_views p.parts.items) p.next p.at;
+      room = p.room;
+      held = p.held.items;
+      reads = p.reads;
+      last_read = option_map try_of p.last_read;
+      writes = p.writes;
+      last_write = option_map try_of_write p.last_write;
+      faults = p.faults;
+    } };
 
-    ghost invariant = { λ p. IsPeer (part_views p.parts.items) p.next p.at (length p.held.items) p.room (vec_capacity p.held) (is_over (option_map try_of p.last_read)) };
+    ghost invariant = { λ p. IsPeer (part_views p.parts.items) p.next p.at (length p.held.items)
+        p.room (vec_capacity p.held) (is_over (option_map try_of p.last_read)) };
 }
 
 impl Peer {
@@ -84,7 +97,8 @@ impl Peer {
         requires { 0 < length buf.old }
         ensures reads { EndReads (peer_facts self.old) buf.new result (peer_facts self.new) }
         ensures after { self.new ≡ after_read (length buf.old) self.old }
-        ensures answer { result ≡ read_answer (length buf.old) self.old.telling.at self.old.telling.left }
+        ensures answer { result ≡ read_answer (length buf.old) self.old.telling.at
+            self.old.telling.left }
     {
         let (got, next, at) = tell(&self.parts, self.next, self.at, buf);
         self.next = next;
@@ -128,13 +142,16 @@ fn faults_after(got: Got, faults: u64) -> u64
     }
 }
 
-// Tells the next of some parts, of which so many were told whole and of the next one so many bytes. It answers what a read comes
-// to, and how far the parts are told then.
+// Tells the next of some parts, of which so many were told whole and of the next one so many bytes.
+// It answers what a read comes to, and how far the parts are told then.
 fn tell(parts: &[Part], next: usize, at: usize, buf: &mut [u8]) -> (Got, usize, usize)
     requires { IsInside at (drop next (part_views parts.now)) }
     ensures answer { result.0 ≡ read_answer (length buf.old) at (drop next (part_views parts.now)) }
-    ensures bytes { got_bytes result.0 buf.new ≡ read_bytes (length buf.old) at (drop next (part_views parts.now)) }
-    ensures told { telling_at (part_views parts.now) result.1 result.2 ≡ told_after (length buf.old) (take next (part_views parts.now)) at (drop next (part_views parts.now)) }
+    ensures bytes { got_bytes result.0 buf.new ≡ read_bytes (length buf.old) at
+        (drop next (part_views parts.now)) }
+    ensures told { telling_at (part_views parts.now) result.1 result.2
+        ≡ told_after (length buf.old) (take next (part_views parts.now)) at
+        (drop next (part_views parts.now)) }
 {
     if next >= parts.len() {
         return (Got::Pause, next, at);
@@ -147,13 +164,16 @@ fn tell(parts: &[Part], next: usize, at: usize, buf: &mut [u8]) -> (Got, usize, 
     }
 }
 
-// Tells the next of a part of which so many bytes were given. It answers what a read comes to, whether the part is told whole then, and
-// else how many of its bytes are given.
+// Tells the next of a part of which so many bytes were given. It answers what a read comes to,
+// whether the part is told whole then, and else how many of its bytes are given.
 fn tell_part(part: &Part, at: usize, buf: &mut [u8]) -> (Got, bool, usize)
     requires { IsInside at (part_view part.now ∷ []) }
-    ensures answer { (left : List story.Part) → result.0 ≡ read_answer (length buf.old) at (part_view part.now ∷ left) }
-    ensures bytes { (left : List story.Part) → got_bytes result.0 buf.new ≡ read_bytes (length buf.old) at (part_view part.now ∷ left) }
-    ensures told { (given left : List story.Part) → told_part (part_view part.now) given left result.1 result.2 ≡ told_after (length buf.old) given at (part_view part.now ∷ left) }
+    ensures answer { (left : List story.Part) → result.0
+        ≡ read_answer (length buf.old) at (part_view part.now ∷ left) }
+    ensures bytes { (left : List story.Part) → got_bytes result.0 buf.new
+        ≡ read_bytes (length buf.old) at (part_view part.now ∷ left) }
+    ensures told { (given left : List story.Part) → told_part (part_view part.now) given left
+        result.1 result.2 ≡ told_after (length buf.old) given at (part_view part.now ∷ left) }
 {
     match part {
         Part::Piece(bytes) => {
@@ -170,7 +190,8 @@ fn tell_part(part: &Part, at: usize, buf: &mut [u8]) -> (Got, bool, usize)
     }
 }
 
-// Copies the bytes from a place on, as many as a buffer takes, to its front, and tells how many that is.
+// Copies the bytes from a place on, as many as a buffer takes, to its front, and tells how many
+// that is.
 fn copy_from(bytes: &[u8], at: usize, buf: &mut [u8]) -> usize
     requires { at ≤ length bytes.now }
     ensures count { result ≡ min (length buf.old) (length bytes.now - at) }

@@ -1,5 +1,6 @@
 //! How a net plays the groups of a script.
-ghost use Rattle.std.specs.Prelude.{◌≡◌, ◌≤◌, ◌<◌, ◌+◌, ◌-◌, ◌++◌, ◌∷◌, [], List, length, drop, vec_len, vec_capacity, if◌then◌else◌, Some, None, false};
+ghost use Rattle.std.specs.Prelude.{◌≡◌, ◌≤◌, ◌<◌, ◌+◌, ◌-◌, ◌++◌, ◌∷◌, [], List, length, drop};
+ghost use Rattle.std.specs.Prelude.{vec_len, vec_capacity, if◌then◌else◌, Some, None, false};
 ghost use Rattle.ev_base.specs.Terms as terms;
 ghost use Rattle.ev_base.specs.Playing.{Playing, given, most_reports, answer_at, is_late, time_up};
 ghost use Rattle.script_net.specs.Player.{Stands, GivesHeld, GivesGroup, PlayerWaits};
@@ -9,15 +10,17 @@ use crate::seats::Seats;
 use crate::sorting::sort_out;
 use ev_base::{Report, Waited};
 
-/// The groups of a script, the moment and the steps that are held back. The steps of a group whose ends are gone may be held too: they are
-/// dropped once a wait comes to them. A step that nobody wants is looked at again only where an end was attached or a mask set since.
+/// The groups of a script, the moment and the steps that are held back. The steps of a group whose
+/// ends are gone may be held too: they are dropped once a wait comes to them. A step that nobody
+/// wants is looked at again only where an end was attached or a mask set since.
 #[derive(Drop)]
 pub(crate) struct Player {
     pub(crate) groups: Vec<Group>,
     // The number of the next group, and the present moment.
     pub(crate) next: usize,
     pub(crate) now: u64,
-    // The steps that are held back: those that nobody wanted when they were looked at, and behind them those of the other list from a place on.
+    // The steps that are held back: those that nobody wanted when they were looked at, and behind
+    // them those of the other list from a place on.
     pub(crate) unwanted: Vec<End>,
     pub(crate) held: Vec<End>,
     pub(crate) first: usize,
@@ -31,7 +34,8 @@ pub(crate) struct Player {
 }
 
 impl Player {
-    // Has all steps that are held back looked at again, where an end was attached or a mask set since they were.
+    // Has all steps that are held back looked at again, where an end was attached or a mask set
+    // since they were.
     fn look_again(&mut self)
         requires { (p : Playing) × Stands self.old p }
         ensures stands { (p : Playing) → Stands self.old p → Stands self.new p }
@@ -78,12 +82,14 @@ impl Player {
         self.passed.clear();
     }
 
-    // Lets the next group come: reports its steps at ends that are attached and want them, and holds back the others.
+    // Lets the next group come: reports its steps at ends that are attached and want them, and
+    // holds back the others.
     fn give_group(&mut self)
         requires stands { (p : Playing) × Stands self.old p }
         requires some { self.old.next < length self.old.groups.items }
         requires no_report { self.old.reports.items ≡ [] }
-        ensures gives { (p : Playing) (group : terms.Group) (groups : List terms.Group) → Stands self.old p → p.groups ≡ group ∷ groups → GivesGroup p group groups self.new }
+        ensures gives { (p : Playing) (group : terms.Group) (groups : List terms.Group)
+            → Stands self.old p → p.groups ≡ group ∷ groups → GivesGroup p group groups self.new }
         ensures rest { (self.new.groups ≡ self.old.groups) × (self.new.seats ≡ self.old.seats) }
     {
         let group = &self.groups[self.next];
@@ -105,7 +111,8 @@ impl Player {
     fn wait_for_group(&mut self, most_ms: Option<u64>) -> Waited
         requires stands { (p : Playing) × Stands self.old p }
         requires no_report { self.old.reports.items ≡ [] }
-        ensures waits { (p : Playing) → Stands self.old p → given p.seats most_reports p.held ≡ [] → PlayerWaits p most_ms result self.new }
+        ensures waits { (p : Playing) → Stands self.old p → given p.seats most_reports p.held ≡ []
+            → PlayerWaits p most_ms result self.new }
         ensures rest { (self.new.groups ≡ self.old.groups) × (self.new.seats ≡ self.old.seats) }
     {
         if self.next >= self.groups.len() {
@@ -136,7 +143,8 @@ impl Player {
     }
 }
 
-// Puts steps in front of those from a place on, where there were others before, and tells the place of the first.
+// Puts steps in front of those from a place on, where there were others before, and tells the place
+// of the first.
 fn put_back(held: &mut [End], stop: usize, passed: &[End]) -> usize
     requires few { length passed.now ≤ stop }
     requires stops { stop ≤ length held.old }

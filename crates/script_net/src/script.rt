@@ -3,7 +3,7 @@ ghost use Rattle.std.specs.Prelude.{◌≡◌, ◌++◌, ◌∷◌, [], IfOk, On
 ghost use Rattle.script_net.specs.Scripts.{part_view};
 ghost use Rattle.script_net.specs.Playable.{IsFilled};
 
-use ev_types::NoMemory;
+use ev_base::NoMemory;
 use std::alloc::Global;
 use std::marker::Model;
 
@@ -71,7 +71,8 @@ impl Model for Connection {
 
     ghost view = { λ c. record { parts = part_views c.parts.items; room = c.room } };
 
-    ghost invariant = { λ c. AreFilled (part_views c.parts.items) × (c.held.items ≡ []) × (c.room ≤ vec_capacity c.held) };
+    ghost invariant = { λ c. AreFilled (part_views c.parts.items) × (c.held.items ≡ [])
+        × (c.room ≤ vec_capacity c.held) };
 }
 
 impl Connection {
@@ -86,10 +87,13 @@ impl Connection {
         })
     }
 
-    /// It has one part more to tell. A piece has a byte. After `NoMemory` it has no more to tell than before.
+    /// It has one part more to tell. A piece has a byte. After `NoMemory` it has no more to tell
+    /// than before.
     pub fn add(&mut self, part: Part) -> Result<(), NoMemory>
         requires { IsFilled (part_view part) }
-        ensures added { OnOk result (self.new ≡ record self.old { parts = self.old.parts ++ part_view part ∷ [] }) }
+        ensures added { OnOk result (self.new ≡ record self.old {
+          parts = self.old.parts ++ part_view part ∷ [];
+        }) }
         ensures room { self.new.room ≡ self.old.room }
     {
         self.parts.push(part)?;

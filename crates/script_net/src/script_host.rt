@@ -1,5 +1,6 @@
 //! A script as a whole, and a host that listens by it.
-ghost use Rattle.std.specs.Prelude.{◌≡◌, ◌≤◌, ◌⊎◌, ◌↔◌, ℕ, true, false, length, IfOk, Option, Some, None};
+ghost use Rattle.std.specs.Prelude.{◌≡◌, ◌≤◌, ◌⊎◌, ◌↔◌, ℕ, true, false, length, IfOk, Option, Some};
+ghost use Rattle.std.specs.Prelude.{None, ◌++◌, ◌∷◌, []};
 ghost use Rattle.ev_base.specs.Counts.{counted};
 ghost use Rattle.ev_base.specs.Terms.{Terms};
 ghost use Rattle.ev_base.specs.Net.{IsNew};
@@ -16,12 +17,12 @@ use crate::end::ScriptEnd;
 use crate::listener::Listener;
 use crate::net::ScriptNet;
 use crate::script::{Connection, Group, Offer};
-use ev_base::{Host, ListenRefused, Wake};
-use ev_types::NoMemory;
+use ev_base::{Host, ListenRefused, NoMemory, PortLog, Wake};
 use std::alloc::Global;
 use std::marker::Model;
 
-/// A script that can be played: the groups of its steps, what its listener has to tell, and its connections.
+/// A script that can be played: the groups of its steps, what its listener has to tell, and its
+/// connections.
 #[derive(Drop)]
 pub struct Script {
     net: ScriptNet,
@@ -36,15 +37,21 @@ impl Model for Script {
 
     ghost use Rattle.script_net.specs.Ends.{new_listener};
 
-    ghost view = { λ s. record { groups = s.net.groups; offers = s.listener.offering.left; connections = s.listener.connections } };
+    ghost view = { λ s. record {
+      groups = s.net.groups;
+      offers = s.listener.offering.left;
+      connections = s.listener.connections;
+    } };
 
-    ghost invariant = { λ s. (s.net ≡ new_net s.net.groups) × (s.listener ≡ new_listener s.listener.offering.left s.listener.connections) };
+    ghost invariant = { λ s. (s.net ≡ new_net s.net.groups)
+        × (s.listener ≡ new_listener s.listener.offering.left s.listener.connections) };
 }
 
 impl Script {
-    /// A script of these groups, whose moments do not go back and are at most 4,294,967,295 ms. They have at most `steps` steps, each at the listener or
-    /// at one of the connections. The listener offers each of the connections, by rising number from 0. It reserves what the net needs to
-    /// play it.
+    /// A script of these groups, whose moments do not go back and are at most 4,294,967,295 ms.
+    /// They have at most `steps` steps, each at the listener or at one of the connections. The
+    /// listener offers each of the connections, by rising number from 0. It reserves what the net
+    /// needs to play it.
     pub fn new(
         alloc: Global,
         groups: Vec<Group>,
@@ -57,7 +64,11 @@ impl Script {
         requires steps { many_steps (group_views groups.items) ≤ steps }
         requires numbered { AreNumbered 0 (offer_views offers.items) }
         requires all_offered { many_offered (offer_views offers.items) ≡ length connections.items }
-        ensures { IfOk result (λ s. s ≡ record { groups = group_views groups.items; offers = offer_views offers.items; connections = connections.items }) }
+        ensures { IfOk result (λ s. s ≡ record {
+          groups = group_views groups.items;
+          offers = offer_views offers.items;
+          connections = connections.items;
+        }) }
     {
         Ok(Script {
             net: ScriptNet::new(alloc, groups, connections.len(), steps)?,
@@ -65,11 +76,14 @@ impl Script {
         })
     }
 
-    /// The net, the listener, which owns the ends of the connections, and what wakes the net. It takes no memory.
+    /// The net, the listener, which owns the ends of the connections, and what wakes the net. It
+    /// takes no memory.
     pub fn parts(self) -> (ScriptNet, ScriptEnd, ScriptWake)
         ensures net { result.0 ≡ new_net self.groups }
-        ensures listener { script_end_facts result.1 ≡ listener_facts (new_listener self.offers self.connections) }
-        ensures keeps { (t : Terms) → LaysDown t self → script_net_keeps t result.0 × ScriptEndKeeps t result.1 }
+        ensures listener { script_end_facts result.1 ≡ listener_facts
+            (new_listener self.offers self.connections) }
+        ensures keeps { (t : Terms) → LaysDown t self → script_net_keeps t result.0
+            × ScriptEndKeeps t result.1 }
     {
         let Script { net, listener } = self;
         (net, ScriptEnd::of_listener(listener), ScriptWake)
@@ -108,8 +122,10 @@ impl Parts {
     // The parts of a script.
     fn of_script(script: Script) -> Parts
         ensures net { result.net ≡ new_net script.groups }
-        ensures listener { script_end_facts result.end ≡ listener_facts (new_listener script.offers script.connections) }
-        ensures keeps { (t : Terms) → LaysDown t script → script_net_keeps t result.net × ScriptEndKeeps t result.end }
+        ensures listener { script_end_facts result.end ≡ listener_facts
+            (new_listener script.offers script.connections) }
+        ensures keeps { (t : Terms) → LaysDown t script → script_net_keeps t result.net
+            × ScriptEndKeeps t result.end }
     {
         let (net, end, wake) = script.parts();
         Parts { net, end, wake }
@@ -122,13 +138,15 @@ pub struct ScriptHost {
     parts: Option<Parts>,
     fails: bool,
     faults: u64,
+    ports: PortLog,
 }
 
 impl ScriptHost {
-    ghost use Rattle.script_net.specs.Host.{host_faults, host_fails, host_parts, ArePartsOf, KeepsScript};
+    ghost use Rattle.script_net.specs.Host.{host_faults, host_fails, host_parts, ArePartsOf};
+    ghost use Rattle.script_net.specs.Host.{KeepsScript};
 
-    /// A host that gives the parts of this script where it is asked to listen first. It has nothing to give without a script, and each `listen` fails
-    /// where `fails` is set.
+    /// A host that gives the parts of this script where it is asked to listen first. It has nothing
+    /// to give without a script, and each `listen` fails where `fails` is set.
     pub fn new(script: Option<Script>, fails: bool) -> ScriptHost
         ensures fails { host_fails result ≡ fails }
         ensures faults { host_faults result ≡ 0 }
@@ -140,17 +158,19 @@ impl ScriptHost {
                 parts: None,
                 fails,
                 faults: 0,
+                ports: PortLog::none(),
             };
         };
         ScriptHost {
             parts: Some(Parts::of_script(script)),
             fails,
             faults: 0,
+            ports: PortLog::none(),
         }
     }
 
-    /// A host that gives these parts where it is asked to listen first. The net made no call but `reserve`, `fail_waits` and `fail_attaches`, and the
-    /// listener gave nothing and made no call.
+    /// A host that gives these parts where it is asked to listen first. The net made no call but
+    /// `reserve`, `fail_waits` and `fail_attaches`, and the listener gave nothing and made no call.
     pub fn of_parts(net: ScriptNet, end: ScriptEnd, wake: ScriptWake) -> ScriptHost
         requires new { IsNew (script_net_facts net) }
         requires listener { (script_end_facts end).listener ≡ true }
@@ -163,13 +183,15 @@ impl ScriptHost {
             parts: Some(Parts { net, end, wake }),
             fails: false,
             faults: 0,
+            ports: PortLog::none(),
         }
     }
 }
 
 impl Host for ScriptHost {
     ghost use Rattle.ev_base.specs.Host.{Listens};
-    ghost use Rattle.script_net.specs.Host.{host_faults, host_fails, host_parts, HostKeeps, HostGives};
+    ghost use Rattle.script_net.specs.Host.{host_faults, host_fails, host_parts, host_ports};
+    ghost use Rattle.script_net.specs.Host.{HostGives, HostKeeps};
     ghost use Rattle.script_net.specs.HostLaws.{host_keeps_open};
 
     type End = ScriptEnd;
@@ -180,6 +202,8 @@ impl Host for ScriptHost {
 
     ghost faults = { host_faults };
 
+    ghost ports = { host_ports };
+
     ghost keeps = { HostKeeps };
 
     fn listen(
@@ -187,10 +211,14 @@ impl Host for ScriptHost {
         alloc: Global,
         port: u16,
     ) -> Result<(ScriptNet, ScriptEnd, ScriptWake), ListenRefused>
-        ensures listens { Listens script_net_facts script_end_facts script_net_keeps ScriptEndKeeps (λ t. HostKeeps t self.old) (host_faults self.old) result (host_faults self.new) }
-        ensures gives { HostGives (host_fails self.old) (host_parts self.old) (host_faults self.old) result (host_parts self.new) (host_faults self.new) }
+        ensures listens { Listens script_net_facts script_end_facts script_net_keeps ScriptEndKeeps
+            (λ t. HostKeeps t self.old) (host_faults self.old) result (host_faults self.new) }
+        ensures asked { host_ports self.new ≡ host_ports self.old ++ port ∷ [] }
+        ensures gives { HostGives (host_fails self.old) (host_parts self.old) (host_faults self.old)
+            result (host_parts self.new) (host_faults self.new) }
         ensures fails { host_fails self.new ≡ host_fails self.old }
     {
+        self.ports.add(port);
         if self.fails {
             self.faults = self.faults.saturating_add(1);
             return Err(ListenRefused::Failed);

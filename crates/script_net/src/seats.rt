@@ -1,15 +1,18 @@
 //! The ends that a net watches.
-ghost use Rattle.std.specs.Prelude.{◌≡◌, ◌≤◌, ◌<◌, ◌+◌, ◌++◌, ◌∷◌, [], ℕ, true, None, unwrap_or, slice_set, not, map, filter, length, slice_get, Some, Contains, IfOk, OnOk, replicate, false};
+ghost use Rattle.std.specs.Prelude.{◌≡◌, ◌≤◌, ◌<◌, ◌+◌, ◌++◌, ◌∷◌, [], ℕ, true, None, unwrap_or};
+ghost use Rattle.std.specs.Prelude.{slice_set, not, map, filter, length, slice_get, Some, Contains};
+ghost use Rattle.std.specs.Prelude.{IfOk, OnOk, replicate, false};
 ghost use Rattle.ev_base.specs.Playing.{report_at, masked, has_handle};
 ghost use Rattle.script_net.specs.Scripts.{end_view, step_at};
 ghost use Rattle.script_net.specs.Playable.{IsWithin};
-ghost use Rattle.script_net.specs.Seating.{is_marked, with_mark, handles_of, last_to, found_to, seats_of, IsPlaceOf, is_place_of, latest_of, with_latest, own_report};
+ghost use Rattle.script_net.specs.Seating.{is_marked, with_mark, handles_of, last_to, found_to};
+ghost use Rattle.script_net.specs.Seating.{seats_of, IsPlaceOf, is_place_of, latest_of};
+ghost use Rattle.script_net.specs.Seating.{with_latest, own_report};
 ghost use Rattle.script_net.specs.LatestPlaces.{latest_view};
 ghost use Rattle.script_net.specs.declared.seats.Place.{Place};
 
 use crate::script::End;
-use ev_base::Report;
-use ev_types::{Handle, Kind, Mask, NoMemory};
+use ev_base::{Handle, Kind, Mask, NoMemory, Report};
 use std::alloc::Global;
 use std::marker::Model;
 
@@ -24,8 +27,9 @@ struct Place {
     earlier: Option<usize>,
 }
 
-/// The ends that a net watches, found by handle and by number. It holds the places of all ends that were ever attached, and of the listener
-/// and each connection of the script the last place, and whether it is gone for good.
+/// The ends that a net watches, found by handle and by number. It holds the places of all ends that
+/// were ever attached, and of the listener and each connection of the script the last place, and
+/// whether it is gone for good.
 #[derive(Drop)]
 pub(crate) struct Seats {
     places: Vec<Place>,
@@ -53,10 +57,12 @@ impl LatestPlaces {
         }
     }
 
-    // Puts a place in the place of the last one of an end, where the end is one of the script, and tells what that was.
+    // Puts a place in the place of the last one of an end, where the end is one of the script, and
+    // tells what that was.
     fn put(&mut self, end: End, place: usize) -> Option<usize>
         ensures was { result ≡ latest_of (latest_view self.old) (end_view end) }
-        ensures set { latest_view self.new ≡ with_latest (end_view end) place (latest_view self.old) }
+        ensures set { latest_view self.new ≡ with_latest (end_view end) place
+            (latest_view self.old) }
     {
         match end {
             End::Listener => self.listener.replace(place),
@@ -74,9 +80,15 @@ impl Model for Seats {
     ghost use Rattle.script_net.specs.Seating.{seats_of, IsSeating};
     ghost use Rattle.script_net.specs.LatestPlaces.{latest_view};
 
-    ghost view = { λ s. record { seats = seats_of s.places.items; marks = record { listener = s.gone_listener; connections = s.gone.items }; made = length s.places.items; room = vec_capacity s.places } };
+    ghost view = { λ s. record {
+      seats = seats_of s.places.items;
+      marks = record { listener = s.gone_listener; connections = s.gone.items };
+      made = length s.places.items;
+      room = vec_capacity s.places;
+    } };
 
-    ghost invariant = { λ s. IsSeating s.places.items (latest_view s.latest) (record { listener = s.gone_listener; connections = s.gone.items }) };
+    ghost invariant = { λ s. IsSeating s.places.items (latest_view s.latest)
+        (record { listener = s.gone_listener; connections = s.gone.items }) };
 }
 
 impl Seats {
@@ -84,7 +96,9 @@ impl Seats {
 
     /// No end is attached or gone, of a script with so many connections.
     pub(crate) fn new(alloc: Global, connections: usize) -> Result<Seats, NoMemory>
-        ensures { IfOk result (λ seats. seats ≡ record (new_seats connections) { room = seats.room }) }
+        ensures { IfOk result (λ seats. seats ≡ record (new_seats connections) {
+          room = seats.room;
+        }) }
     {
         Ok(Seats {
             places: Vec::new(alloc),
@@ -151,7 +165,11 @@ impl Seats {
     pub(crate) fn attach(&mut self, handle: Handle, mask: Mask, end: End)
         requires room { self.old.made < self.old.room }
         requires absent { Contains (handles_of self.old.seats) handle.0 → ⊥ }
-        ensures attached { self.new ≡ record self.old { seats = record { handle = handle.0; mask = mask; end = end_view end } ∷ self.old.seats; made = self.old.made + 1; room = self.new.room } }
+        ensures attached { self.new ≡ record self.old {
+          seats = record { handle = handle.0; mask = mask; end = end_view end } ∷ self.old.seats;
+          made = self.old.made + 1;
+          room = self.new.room;
+        } }
         ensures room { self.old.room ≤ self.new.room }
     {
         let earlier = self.latest.put(end, self.places.len());
@@ -181,8 +199,10 @@ impl Seats {
     /// Takes an end back for good, and tells which it is.
     pub(crate) fn retire(&mut self, handle: Handle) -> End
         requires { Contains (handles_of self.old.seats) handle.0 }
-        ensures end { map (λ seat. seat.end) (filter (has_handle handle.0) self.old.seats) ≡ end_view result ∷ [] }
-        ensures seats { self.new.seats ≡ filter (λ seat. not (has_handle handle.0 seat)) self.old.seats }
+        ensures end { map (λ seat. seat.end) (filter (has_handle handle.0) self.old.seats)
+            ≡ end_view result ∷ [] }
+        ensures seats { self.new.seats ≡ filter (λ seat. not (has_handle handle.0 seat))
+            self.old.seats }
         ensures rest { self.new ≡ record self.old { seats = self.new.seats } }
     {
         let at = place_of(&self.places, handle);
@@ -206,7 +226,8 @@ fn replace_at(latest: &mut [Option<usize>], at: u64, number: usize) -> Option<us
     earlier
 }
 
-// The place in which an end is attached under a handle. Where handles count the ends that were attached, it is found at once.
+// The place in which an end is attached under a handle. Where handles count the ends that were
+// attached, it is found at once.
 fn place_of(places: &[Place], handle: Handle) -> usize
     requires { Contains (handles_of (seats_of places.now)) handle.0 }
     ensures { IsPlaceOf places.now handle.0 result }
@@ -227,7 +248,9 @@ fn place_of(places: &[Place], handle: Handle) -> usize
 // The report of the latest place of an end that has one, from its last place on.
 fn find_report(places: &[Place], latest: Option<usize>, end: End) -> Option<Report>
     requires last { latest ≡ last_to places.now (end_view end) (length places.now) }
-    requires chained { (k : ℕ) (p : Place) → slice_get places.now k ≡ Some p → is_place_of (Some p) (end_view end) ≡ true → p.earlier ≡ last_to places.now (end_view end) k }
+    requires chained { (k : ℕ) (p : Place) → slice_get places.now k ≡ Some p
+        → is_place_of (Some p) (end_view end) ≡ true
+        → p.earlier ≡ last_to places.now (end_view end) k }
     ensures { result ≡ found_to places.now (end_view end) (length places.now) }
 {
     let mut at = latest;

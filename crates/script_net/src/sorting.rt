@@ -1,5 +1,6 @@
 //! How a wait sorts steps.
-ghost use Rattle.std.specs.Prelude.{◌≡◌, ◌≤◌, ◌<◌, ◌+◌, ◌-◌, [], length, drop, vec_len, vec_capacity};
+ghost use Rattle.std.specs.Prelude.{◌≡◌, ◌≤◌, ◌<◌, ◌+◌, ◌-◌, [], length, drop, vec_len};
+ghost use Rattle.std.specs.Prelude.{vec_capacity};
 ghost use Rattle.ev_base.specs.Playing.{report_at, most_reports};
 ghost use Rattle.script_net.specs.Scripts.{end_view, step_at, steps_at};
 ghost use Rattle.script_net.specs.Playable.{IsWithin, AreWithin};
@@ -8,18 +9,17 @@ ghost use Rattle.script_net.specs.Sorting.{TakesStep, WaitSorts};
 
 use crate::script::End;
 use crate::seats::Seats;
-use ev_base::Report;
+use ev_base::{MOST_REPORTS, Report};
 
-/// How many reports a wait gives at most.
-pub(crate) const MOST_REPORTS: usize = 256;
-
-// Takes one step: drops it where its end is gone, reports it where that is wanted, or passes it over. It is not taken where it is to be
-// reported and there are as many reports as a wait gives.
+// Takes one step: drops it where its end is gone, reports it where that is wanted, or passes it
+// over. It is not taken where it is to be reported and there are as many reports as a wait gives.
 fn take_step(seats: &Seats, end: End, reports: &mut Vec<Report>, passed: &mut Vec<End>) -> bool
     requires within { IsWithin (length seats.now.marks.connections) (end_view end) }
     requires room { vec_len passed.old < vec_capacity passed.old }
     requires report_room { most_reports ≤ vec_capacity reports.old }
-    ensures taken { TakesStep (is_marked seats.now.marks (end_view end)) (report_at seats.now.seats (step_at end)) end reports.old.items passed.old.items result reports.new.items passed.new.items }
+    ensures taken { TakesStep (is_marked seats.now.marks (end_view end))
+        (report_at seats.now.seats (step_at end)) end reports.old.items passed.old.items result
+        reports.new.items passed.new.items }
     ensures passed_room { vec_capacity passed.old ≤ vec_capacity passed.new }
     ensures report_room { vec_capacity reports.old ≤ vec_capacity reports.new }
 {
@@ -41,8 +41,9 @@ fn take_step(seats: &Seats, end: End, reports: &mut Vec<Report>, passed: &mut Ve
     }
 }
 
-/// Goes through steps from a place on, until there are as many reports as a wait gives. It answers the place of the first step that it did
-/// not come to. The steps that it passed over are put into a list that is empty and has room for them.
+/// Goes through steps from a place on, until there are as many reports as a wait gives. It answers
+/// the place of the first step that it did not come to. The steps that it passed over are put into
+/// a list that is empty and has room for them.
 pub(crate) fn sort_out(
     seats: &Seats,
     steps: &[End],
@@ -51,12 +52,14 @@ pub(crate) fn sort_out(
     passed: &mut Vec<End>,
 ) -> usize
     requires start { from ≤ length steps.now }
-    requires within { AreWithin (length seats.now.marks.connections) (steps_at (drop from steps.now)) }
+    requires within { AreWithin (length seats.now.marks.connections)
+        (steps_at (drop from steps.now)) }
     requires no_report { reports.old.items ≡ [] }
     requires report_room { most_reports ≤ vec_capacity reports.old }
     requires none_passed { passed.old.items ≡ [] }
     requires room { length steps.now ≤ from + vec_capacity passed.old }
-    ensures sorted { WaitSorts seats.now (drop from steps.now) reports.new.items passed.new.items (drop result steps.now) }
+    ensures sorted { WaitSorts seats.now (drop from steps.now) reports.new.items passed.new.items
+        (drop result steps.now) }
     ensures within { AreWithin (length seats.now.marks.connections) (steps_at passed.new.items) }
     ensures few { from + length passed.new.items ≤ result }
     ensures stops { result ≤ length steps.now }

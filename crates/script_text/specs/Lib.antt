@@ -3,3 +3,4 @@ pub mod Scripts
 pub mod Reading
 pub mod Parsing
 pub mod Playable
+pub use Rattle.script_net

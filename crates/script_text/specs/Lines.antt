@@ -1,7 +1,9 @@
 -- A line as the code keeps it, and what it is in the grammar.
 use Rattle.std.specs.Prelude.{◌≡◌, ◌<◌, ◌^◌, ℕ, List, Option, Some, None}
-use Rattle.event_script.specs.Script.{ScriptStep, Opens, Brings, Shuts, Fails, ListenerFails, opened}
-use Rattle.event_script.specs.Grammar.{Line as GrammarLine, At, Quiet, Stepping, line_of, steps_in, IsBadBehind}
+use Rattle.script_net.specs.event_script.specs.Script.{ScriptStep, Opens, Brings, Shuts, Fails}
+use Rattle.script_net.specs.event_script.specs.Script.{ListenerFails, opened}
+use Rattle.script_net.specs.event_script.specs.Grammar.{Line as GrammarLine, At, Quiet, Stepping}
+use Rattle.script_net.specs.event_script.specs.Grammar.{line_of, steps_in, IsBadBehind}
 use Rattle.script_text.specs.declared.line.Step.{Step}
 use Rattle.script_text.specs.declared.line.Step.TheVariants as step
 use Rattle.script_text.specs.declared.line.Line.{Line}
@@ -19,9 +21,11 @@ line_view (line.At moment) = At moment
 line_view line.Quiet = Quiet
 line_view (line.Step step) = Stepping (step_view step)
 
--- no line of the grammar, or one that may stand nowhere, since it has a number that is beyond all limits
+-- no line of the grammar, or one that may stand nowhere, since it has a number that is beyond all
+-- limits
 abbrev pub StandsNowhere : Option GrammarLine → Type 0
-StandsNowhere line = (past : List GrammarLine) → opened (steps_in past) < 2 ^ 64 → IsBadBehind past line
+StandsNowhere line = (past : List GrammarLine) → opened (steps_in past) < 2 ^ 64
+    → IsBadBehind past line
 
 -- what was read is this line of the grammar; where nothing was, it stands nowhere
 abbrev pub Says : Option GrammarLine → Option Line → Type 0

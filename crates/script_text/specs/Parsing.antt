@@ -1,8 +1,10 @@
 -- The script of a text, and the first bad line.
-use Rattle.std.specs.Prelude.{◌≡◌, ◌<◌, ◌≤◌, ◌+◌, ℕ, Bool, true, false, List, ◌∷◌, ◌++◌, length, get_or, reverse, Some}
-use Rattle.event_script.specs.Script.{ScriptGroup, groups_told, steps_of, opened}
-use Rattle.event_script.specs.Stories.{story, offers}
-use Rattle.event_script.specs.Grammar.{Line, line_of, raw_lines, may_stand, Spells, IsBadBehind, IsBadAt, IsScriptText}
+use Rattle.std.specs.Prelude.{◌≡◌, ◌<◌, ◌≤◌, ◌+◌, ℕ, Bool, true, false, List, ◌∷◌, ◌++◌, length}
+use Rattle.std.specs.Prelude.{get_or, reverse, Some}
+use Rattle.script_net.specs.event_script.specs.Script.{ScriptGroup, groups_told, steps_of, opened}
+use Rattle.script_net.specs.event_script.specs.Stories.{story, offers}
+use Rattle.script_net.specs.event_script.specs.Grammar.{Line, line_of, raw_lines, may_stand, Spells}
+use Rattle.script_net.specs.event_script.specs.Grammar.{IsBadBehind, IsBadAt, IsScriptText}
 use Rattle.script_net.specs.Content.{ConnectionContent}
 use Rattle.script_net.specs.Hosts.{ScriptContent}
 use Rattle.script_text.specs.declared.reading.Reading.{Reading}
@@ -11,14 +13,16 @@ use Rattle.script_text.specs.declared.refusal.ScriptRefused.TheVariants.{BadScri
 use Rattle.script_text.specs.Scripts.{Tells, HasRoom}
 use Rattle.script_text.specs.Reading.{Reads}
 
--- A script has these groups: it plays them; the listener tells what they offer; and there is one connection for each that comes, which tells
--- its story and whose end takes so many bytes.
+-- A script has these groups: it plays them; the listener tells what they offer; and there is one
+-- connection for each that comes, which tells its story and whose end takes so many bytes.
 pub record HasGroups (script : ScriptContent) (room : ℕ) (groups : List ScriptGroup) : Type 0 where
   pub plays : script.groups ≡ groups_told groups
   pub offers_are : script.offers ≡ offers (steps_of groups)
   pub many : length script.connections ≡ opened (steps_of groups)
-  pub tells : (c : ℕ) (d : ConnectionContent) → c < length script.connections → Tells (get_or script.connections c d) (story c (steps_of groups))
-  pub has_room : (c : ℕ) (d : ConnectionContent) → c < length script.connections → HasRoom (get_or script.connections c d) room
+  pub tells : (c : ℕ) (d : ConnectionContent) → c < length script.connections
+      → Tells (get_or script.connections c d) (story c (steps_of groups))
+  pub has_room : (c : ℕ) (d : ConnectionContent) → c < length script.connections
+      → HasRoom (get_or script.connections c d) room
 
 -- the text is that of a script, and this is that script
 pub record IsScriptOf (text : List ℕ) (room : ℕ) (script : ScriptContent) : Type 0 where

@@ -1,5 +1,5 @@
-//! The reader of the text of a script of network events: it gives the groups of steps that a demultiplexer plays, and what the
-//! listener and each end of a connection have to tell.
+//! The reader of the text of a script of network events: it gives the groups of steps that a
+//! demultiplexer plays, and what the listener and each end of a connection have to tell.
 #![tactic(auto)]
 
 mod laws;

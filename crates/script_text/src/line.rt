@@ -1,12 +1,13 @@
 //! A line of a script.
 ghost use Rattle.std.specs.Prelude.{◌≡◌, IfOk};
-ghost use Rattle.event_script.specs.Script.{report_step};
-ghost use Rattle.event_script.specs.Grammar.{quiet_line, two_words, fail_line, data_line};
+ghost use Rattle.script_net.specs.event_script.specs.Script.{report_step};
+ghost use Rattle.script_net.specs.event_script.specs.Grammar.{quiet_line, two_words, fail_line};
+ghost use Rattle.script_net.specs.event_script.specs.Grammar.{data_line};
 ghost use Rattle.script_text.specs.Lines.{Says, SaysLine, step_view};
 ghost use Rattle.script_net.specs.Scripts.{step_at};
 
 use crate::words::number;
-use ev_types::NoMemory;
+use ev_base::NoMemory;
 use hex::FromHexError;
 use script_net::End;
 use std::alloc::Global;

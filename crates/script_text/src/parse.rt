@@ -8,7 +8,8 @@ use crate::words::next_line;
 use script_net::Script;
 use std::alloc::Global;
 
-/// Reads the text of a script. Each connection has room for `room` bytes that are written to its end.
+/// Reads the text of a script. Each connection has room for `room` bytes that are written to its
+/// end.
 ///
 /// `BadScript` names the first line that is none of a script or may not stand where it stands.
 pub fn parse_script(alloc: Global, bytes: &[u8], room: usize) -> Result<Script, ScriptRefused>

@@ -1,21 +1,26 @@
 //! What was read of a script, line by line.
-ghost use Rattle.std.specs.Prelude.{◌≡◌, ◌++◌, ◌∷◌, [], ◌<◌, length, get_or, set, true, false, OnOk, IfOk, List, ℕ};
-ghost use Rattle.event_script.specs.Grammar.{Line as GrammarLine, groups_of, may_stand, steps_in, At, Quiet, Stepping, Spells};
-ghost use Rattle.event_script.specs.Script.{goes_on, Opens};
-ghost use Rattle.event_script.specs.Stories.{offers_of};
+ghost use Rattle.std.specs.Prelude.{◌≡◌, ◌++◌, ◌∷◌, [], ◌<◌, length, get_or, set, true, false};
+ghost use Rattle.std.specs.Prelude.{OnOk, IfOk, List, ℕ};
+ghost use Rattle.script_net.specs.event_script.specs.Grammar.{Line as GrammarLine, groups_of};
+ghost use Rattle.script_net.specs.event_script.specs.Grammar.{may_stand, steps_in, At, Quiet};
+ghost use Rattle.script_net.specs.event_script.specs.Grammar.{Stepping, Spells};
+ghost use Rattle.script_net.specs.event_script.specs.Script.{goes_on, Opens};
+ghost use Rattle.script_net.specs.event_script.specs.Stories.{offers_of};
 ghost use Rattle.script_text.specs.Lines.{step_view, line_view};
 ghost use Rattle.script_net.specs.Scripts.{group_views, steps_at, offer_views, part_view};
 ghost use Rattle.script_net.specs.Playable.{IsFilled};
-ghost use Rattle.script_text.specs.Reading.{Reads, ForRead, Takes, HasDone, HasTold, IsTold, Comes, open_group};
+ghost use Rattle.script_text.specs.Reading.{Reads, ForRead, Takes, HasDone, HasTold, IsTold, Comes};
+ghost use Rattle.script_text.specs.Reading.{open_group};
 ghost use Rattle.script_text.specs.Parsing.{Judges, HasGroups};
 
 use crate::line::{Line, Step, read_line};
-use ev_types::NoMemory;
+use ev_base::NoMemory;
 use script_net::{Connection, End, Group, Offer, Part, Script};
 use std::alloc::Global;
 
-/// The groups so far, the steps of the last one if it may go on, the present moment, how many steps there are, of each connection
-/// that came whether it was shut or failed, and what the listener and the connections have to tell.
+/// The groups so far, the steps of the last one if it may go on, the present moment, how many steps
+/// there are, of each connection that came whether it was shut or failed, and what the listener and
+/// the connections have to tell.
 #[derive(Drop)]
 pub(crate) struct Reading {
     alloc: Global,
@@ -50,10 +55,14 @@ impl Reading {
 
     /// Ends the group that may go on.
     fn flush(&mut self) -> Result<(), NoMemory>
-        ensures groups { OnOk result (group_views self.new.groups.items ≡ group_views self.old.groups.items ++ open_group self.old.moment (steps_at self.old.current.items)) }
+        ensures groups { OnOk result (group_views self.new.groups.items
+            ≡ group_views self.old.groups.items
+            ++ open_group self.old.moment (steps_at self.old.current.items)) }
         ensures current { OnOk result (self.new.current.items ≡ []) }
-        ensures rest { (self.new.moment ≡ self.old.moment) × (self.new.steps ≡ self.old.steps) × (self.new.done ≡ self.old.done) }
-        ensures ends { (self.new.offers ≡ self.old.offers) × (self.new.connections ≡ self.old.connections) × (self.new.room ≡ self.old.room) }
+        ensures rest { (self.new.moment ≡ self.old.moment) × (self.new.steps ≡ self.old.steps)
+            × (self.new.done ≡ self.old.done) }
+        ensures ends { (self.new.offers ≡ self.old.offers)
+            × (self.new.connections ≡ self.old.connections) × (self.new.room ≡ self.old.room) }
     {
         if self.current.is_empty() {
             return Ok(());
@@ -68,7 +77,8 @@ impl Reading {
 
     /// Reads a line `at`. After `NoMemory` nothing more is to be read.
     fn at(&mut self, moment: u64) -> Result<bool, NoMemory>
-        ensures taken { ForRead self.old (λ past. IfOk result (λ good. Takes self.new past (At moment) good)) }
+        ensures taken { ForRead self.old (λ past. IfOk result
+            (λ good. Takes self.new past (At moment) good)) }
         ensures room { self.new.room ≡ self.old.room }
     {
         if moment < self.moment || moment > 4_294_967_295 {
@@ -81,7 +91,8 @@ impl Reading {
 
     /// Reads a line `quiet`. After `NoMemory` nothing more is to be read.
     fn quiet(&mut self) -> Result<bool, NoMemory>
-        ensures taken { ForRead self.old (λ past. IfOk result (λ good. Takes self.new past Quiet good)) }
+        ensures taken { ForRead self.old (λ past. IfOk result
+            (λ good. Takes self.new past Quiet good)) }
         ensures room { self.new.room ≡ self.old.room }
     {
         self.flush()?;
@@ -101,7 +112,8 @@ impl Reading {
 
     /// Whether a step may stand here.
     fn may_stand(&self, step: &Step) -> bool
-        ensures { ForRead self.now (λ past. result ≡ may_stand past (Stepping (step_view step.now))) }
+        ensures { ForRead self.now (λ past. result ≡ may_stand past
+            (Stepping (step_view step.now))) }
     {
         if self.steps >= 1_000_000 {
             return false;
@@ -118,7 +130,8 @@ impl Reading {
     fn tell(&mut self, conn: u64, part: Part) -> Result<(), NoMemory>
         requires came { conn < length self.old.connections.items }
         requires filled { IsFilled (part_view part) }
-        ensures told { OnOk result (IsTold self.old.connections.items conn (part_view part ∷ []) self.new.connections.items) }
+        ensures told { OnOk result (IsTold self.old.connections.items conn (part_view part ∷ [])
+            self.new.connections.items) }
         ensures rest { self.new ≡ record self.old { connections = self.new.connections } }
     {
         self.connections[conn as usize].add(part)
@@ -129,9 +142,13 @@ impl Reading {
         requires came { conn < length self.old.connections.items }
         requires flagged { conn < length self.old.done.items }
         requires filled { IsFilled (part_view part) }
-        ensures told { OnOk result (IsTold self.old.connections.items conn (part_view part ∷ []) self.new.connections.items) }
+        ensures told { OnOk result (IsTold self.old.connections.items conn (part_view part ∷ [])
+            self.new.connections.items) }
         ensures done { OnOk result (self.new.done.items ≡ set self.old.done.items conn true) }
-        ensures rest { self.new ≡ record self.old { connections = self.new.connections; done = self.new.done } }
+        ensures rest { self.new ≡ record self.old {
+          connections = self.new.connections;
+          done = self.new.done;
+        } }
     {
         self.tell(conn, part)?;
         self.done[conn as usize] = true;
@@ -140,10 +157,16 @@ impl Reading {
 
     /// The connection of the next number comes.
     fn open(&mut self, conn: u64) -> Result<(), NoMemory>
-        ensures come { OnOk result (Comes self.old.connections.items self.old.room self.new.connections.items) }
+        ensures come { OnOk result (Comes self.old.connections.items self.old.room
+            self.new.connections.items) }
         ensures done { OnOk result (self.new.done.items ≡ self.old.done.items ++ false ∷ []) }
-        ensures offered { OnOk result (offer_views self.new.offers.items ≡ offer_views self.old.offers.items ++ offers_of (Opens conn)) }
-        ensures rest { self.new ≡ record self.old { connections = self.new.connections; done = self.new.done; offers = self.new.offers } }
+        ensures offered { OnOk result (offer_views self.new.offers.items
+            ≡ offer_views self.old.offers.items ++ offers_of (Opens conn)) }
+        ensures rest { self.new ≡ record self.old {
+          connections = self.new.connections;
+          done = self.new.done;
+          offers = self.new.offers;
+        } }
     {
         let connection = Connection::new(self.alloc, self.room)?;
         self.connections.push(connection)?;
@@ -155,11 +178,20 @@ impl Reading {
 
     /// Notes what a step that may stand here does to its ends.
     fn note(&mut self, step: Step) -> Result<(), NoMemory>
-        requires { (past : List GrammarLine) × Reads self.old past × (may_stand past (Stepping (step_view step)) ≡ true) }
-        ensures done { ForRead self.old (λ past. may_stand past (Stepping (step_view step)) ≡ true → OnOk result (HasDone self.new.done.items (step_view step ∷ steps_in past))) }
-        ensures told { ForRead self.old (λ past. may_stand past (Stepping (step_view step)) ≡ true → OnOk result (HasTold self.new.connections.items self.old.room (step_view step ∷ steps_in past))) }
-        ensures offered { OnOk result (offer_views self.new.offers.items ≡ offer_views self.old.offers.items ++ offers_of (step_view step)) }
-        ensures rest { self.new ≡ record self.old { connections = self.new.connections; done = self.new.done; offers = self.new.offers } }
+        requires { (past : List GrammarLine) × Reads self.old past
+            × (may_stand past (Stepping (step_view step)) ≡ true) }
+        ensures done { ForRead self.old (λ past. may_stand past (Stepping (step_view step)) ≡ true
+            → OnOk result (HasDone self.new.done.items (step_view step ∷ steps_in past))) }
+        ensures told { ForRead self.old (λ past. may_stand past (Stepping (step_view step)) ≡ true
+            → OnOk result (HasTold self.new.connections.items self.old.room
+            (step_view step ∷ steps_in past))) }
+        ensures offered { OnOk result (offer_views self.new.offers.items
+            ≡ offer_views self.old.offers.items ++ offers_of (step_view step)) }
+        ensures rest { self.new ≡ record self.old {
+          connections = self.new.connections;
+          done = self.new.done;
+          offers = self.new.offers;
+        } }
     {
         match step {
             Step::Open(conn) => self.open(conn),
@@ -179,7 +211,8 @@ impl Reading {
     /// Reads a step. After `NoMemory` nothing more is to be read.
     fn step(&mut self, step: Step) -> Result<bool, NoMemory>
         requires { (past : List GrammarLine) × Reads self.old past }
-        ensures taken { ForRead self.old (λ past. IfOk result (λ good. Takes self.new past (Stepping (step_view step)) good)) }
+        ensures taken { ForRead self.old (λ past. IfOk result
+            (λ good. Takes self.new past (Stepping (step_view step)) good)) }
         ensures room { self.new.room ≡ self.old.room }
     {
         if !self.may_stand(&step) {
@@ -192,10 +225,12 @@ impl Reading {
         Ok(true)
     }
 
-    /// Reads a line, and says whether it may stand here. After `NoMemory` nothing more is to be read.
+    /// Reads a line, and says whether it may stand here. After `NoMemory` nothing more is to be
+    /// read.
     pub(crate) fn line(&mut self, line: Line) -> Result<bool, NoMemory>
         requires { (past : List GrammarLine) × Reads self.old past }
-        ensures taken { ForRead self.old (λ past. IfOk result (λ good. Takes self.new past (line_view line) good)) }
+        ensures taken { ForRead self.old (λ past. IfOk result
+            (λ good. Takes self.new past (line_view line) good)) }
         ensures room { self.new.room ≡ self.old.room }
     {
         match line {
@@ -205,10 +240,12 @@ impl Reading {
         }
     }
 
-    /// Reads the text of a line, and says whether it may stand here. After `NoMemory` nothing more is to be read.
+    /// Reads the text of a line, and says whether it may stand here. After `NoMemory` nothing more
+    /// is to be read.
     pub(crate) fn take(&mut self, bytes: &[u8]) -> Result<bool, NoMemory>
         requires { (past : List GrammarLine) × Reads self.old past }
-        ensures taken { ForRead self.old (λ past. IfOk result (λ good. Judges self.new past bytes.now good)) }
+        ensures taken { ForRead self.old (λ past. IfOk result
+            (λ good. Judges self.new past bytes.now good)) }
         ensures room { self.new.room ≡ self.old.room }
     {
         match read_line(self.alloc, bytes)? {
@@ -219,8 +256,10 @@ impl Reading {
 
     /// The script of all that was read, where each line may stand behind those before it.
     pub(crate) fn finish(mut self) -> Result<Script, NoMemory>
-        requires { (past : List GrammarLine) × (raws : List (List ℕ)) × Spells raws past × Reads self past }
-        ensures { ForRead self (λ past. IfOk result (λ script. HasGroups script self.room (groups_of past))) }
+        requires { (past : List GrammarLine) × (raws : List (List ℕ)) × Spells raws past
+            × Reads self past }
+        ensures { ForRead self (λ past. IfOk result (λ script.
+            HasGroups script self.room (groups_of past))) }
     {
         self.flush()?;
         let steps = self.steps as usize;

@@ -8,7 +8,8 @@ use std::fmt;
 /// Why a text was refused.
 #[derive(Clone, Copy, PartialEq, Eq, Debug)]
 pub enum ScriptRefused {
-    /// The line of this number, from 1, is the first that is none of a script or may not stand where it stands.
+    /// The line of this number, from 1, is the first that is none of a script or may not stand
+    /// where it stands.
     BadScript {
         /// The number of the line.
         line: u64,
@@ -28,10 +29,10 @@ impl fmt::Display for ScriptRefused {
 
 impl Error for ScriptRefused {}
 
-impl From<ev_types::NoMemory> for ScriptRefused {
+impl From<ev_base::NoMemory> for ScriptRefused {
     ghost from_gives = { λ _ e. e ≡ RefusedForMemory };
 
-    fn from(_: ev_types::NoMemory) -> ScriptRefused {
+    fn from(_: ev_base::NoMemory) -> ScriptRefused {
         ScriptRefused::NoMemory
     }
 }

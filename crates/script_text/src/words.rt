@@ -1,10 +1,11 @@
 //! The words of a line.
 ghost use Rattle.std.specs.Prelude.{◌≡◌, ◌∷◌, ◌<◌, ◌≤◌, ◌^◌, ℕ, length, IfSome, None, Some};
-ghost use Rattle.event_script.specs.Grammar.{raw_lines, number, digits_from};
+ghost use Rattle.script_net.specs.event_script.specs.Grammar.{raw_lines, number, digits_from};
 
 use text_parts::cut;
 
-/// The number that a word spells in decimal digits without a leading zero, if it spells one of 64 bits.
+/// The number that a word spells in decimal digits without a leading zero, if it spells one of 64
+/// bits.
 pub(crate) fn number(word: &[u8]) -> Option<u64>
     ensures spelt { IfSome result (λ n. number word.now ≡ Some n) }
     ensures beyond { result ≡ None → (n : ℕ) → number word.now ≡ Some n → 2 ^ 64 ≤ n }

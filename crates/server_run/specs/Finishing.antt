@@ -2,18 +2,18 @@
 use Rattle.std.specs.Prelude.{ℕ, ◌≡◌, ◌≤◌, Bool, true, false, List, [], Some}
 use Rattle.ev_base.specs.Counts.{Rose}
 use Rattle.ev_base.specs.Terms.{Terms}
-use Rattle.timer_queue.specs.declared.timer.Timer.{Timer}
-use Rattle.reactor_journal.specs.declared.entry.Entry.{Entry}
-use Rattle.reactor_journal.specs.Follow.{Legal}
-use Rattle.reactor_journal.specs.Past.{past_of}
-use Rattle.reactor_summary.specs.Summary.{summary}
-use Rattle.reactor_core.specs.Beginning.{IsOver, PartsStand}
-use Rattle.reactor_core.specs.Ends.{WhereTold}
-use Rattle.reactor_core.specs.Marks.{IsOverAt, answers}
-use Rattle.reactor_core.specs.Stands.{Meaning, StandsWith}
-use Rattle.reactor_core.specs.Views.{net_of, watch_of, volumes_of, over_of}
-use Rattle.reactor_core.specs.declared.reactor.Core.{Core}
-use Rattle.reactor_core.specs.declared.reactor.Parts.{Parts}
+use Rattle.tp_reactor.specs.timer_queue.specs.declared.timer.Timer.{Timer}
+use Rattle.log_handler.specs.reactor_journal.specs.declared.entry.Entry.{Entry}
+use Rattle.log_handler.specs.reactor_journal.specs.Follow.{Legal}
+use Rattle.log_handler.specs.reactor_journal.specs.Past.{past_of}
+use Rattle.tp_reactor.specs.reactor_summary.specs.Summary.{summary}
+use Rattle.tp_reactor.specs.reactor_core.specs.Beginning.{IsOver, PartsStand}
+use Rattle.tp_reactor.specs.reactor_core.specs.Ends.{WhereTold}
+use Rattle.tp_reactor.specs.reactor_core.specs.Marks.{IsOverAt, answers}
+use Rattle.tp_reactor.specs.reactor_core.specs.Stands.{Meaning, StandsWith}
+use Rattle.tp_reactor.specs.reactor_core.specs.Views.{net_of, watch_of, volumes_of, over_of}
+use Rattle.tp_reactor.specs.reactor_core.specs.declared.reactor.Core.{Core}
+use Rattle.tp_reactor.specs.reactor_core.specs.declared.reactor.Parts.{Parts}
 use Rattle.server_run.specs.Journals.{WindsUp}
 use Rattle.server_run.specs.declared.ending.Ending.{Ending}
 use Rattle.server_run.specs.declared.ending.Ending.TheVariants as ending
@@ -30,20 +30,26 @@ abbrev pub named : Ending → Bool → Ending
 named how true = ending.Broken
 named how false = how
 
--- The parts of a reactor that stood for this list and was stopped: they stand for a journal that is wound up, and legal. Where a wait was
--- marked as over, and the net tells its calls, the wait of that number was answered Over. Where the watch failed, its count of faults is above that of the
+-- The parts of a reactor that stood for this list and was stopped: they stand for a journal that is
+-- wound up, and legal. Where a wait was marked as over, and the net tells its calls, the wait of
+-- that number was answered Over. Where the watch failed, its count of faults is above that of the
 -- output at the start, if the terms have it.
-pub record Finishes {H M Q W V N E : Type 0} (m : Meaning H M Q W V N E) (armed : Q → List Timer) (t : Terms) (first : ℕ) (list : List (Entry N)) (core : Core H M Q W V N E) (parts : Parts N M Q W V) : Type 0 where
+pub record Finishes {H M Q W V N E : Type 0} (m : Meaning H M Q W V N E) (armed : Q → List Timer)
+    (t : Terms) (first : ℕ) (list : List (Entry N)) (core : Core H M Q W V N E)
+    (parts : Parts N M Q W V) : Type 0 where
   pub journal : List (Entry N)
   pub winds : WindsUp list journal
   pub legal : Legal journal t.most
   pub over : IsOver (summary (past_of journal))
   pub stand : PartsStand m armed t first journal parts
-  pub marked : 1 ≤ over_of core → WhereTold (λ calls. IsOverAt (over_of core) (answers calls)) (m.facts parts.net).calls
-  pub broken : (before : ℕ) → m.is_broken parts.watch ≡ true → t.output_faults ≡ Some before → Rose before (m.faults parts.watch)
+  pub marked : 1 ≤ over_of core → WhereTold (λ calls. IsOverAt (over_of core) (answers calls))
+      (m.facts parts.net).calls
+  pub broken : (before : ℕ) → m.is_broken parts.watch ≡ true → t.output_faults ≡ Some before
+      → Rose before (m.faults parts.watch)
 
 -- its counts of faults are those of the reactor, but that of the watch, which has not fallen
-pub record KeepsCounts {H M Q W V N E : Type 0} (m : Meaning H M Q W V N E) (core : Core H M Q W V N E) (parts : Parts N M Q W V) : Type 0 where
+pub record KeepsCounts {H M Q W V N E : Type 0} (m : Meaning H M Q W V N E)
+    (core : Core H M Q W V N E) (parts : Parts N M Q W V) : Type 0 where
   pub waits : (m.facts parts.net).failed_waits ≡ (m.facts (net_of core)).failed_waits
   pub attaches : (m.facts parts.net).failed_attaches ≡ (m.facts (net_of core)).failed_attaches
   pub volumes : parts.volumes ≡ volumes_of core

@@ -1,27 +1,35 @@
--- What the journal of a run of the server says, and how the run ended (C++NPv2 chapter 4; POSA2, Leader/Followers).
-use Rattle.std.specs.Prelude.{ℕ, ◌≡◌, ◌≤◌, ◌+◌, ◌==◌, ◌⊎◌, Bool, true, false, List, [], ◌∷◌, ◌++◌, Option, Some, None}
+-- What the journal of a run of the server says, and how the run ended (C++NPv2 chapter 4; POSA2,
+-- Leader/Followers).
+use Rattle.std.specs.Prelude.{ℕ, ◌≡◌, ◌≤◌, ◌+◌, ◌==◌, ◌⊎◌, Bool, true, false, List, [], ◌∷◌, ◌++◌}
+use Rattle.std.specs.Prelude.{Option, Some, None}
 use Rattle.std.specs.List.{list_any, list_all}
-use Rattle.ev_types.specs.declared.upcall.Answer.{Answer}
-use Rattle.ev_types.specs.declared.upcall.Handle.{Handle}
-use Rattle.ev_types.specs.declared.upcall.Kind.{Kind}
-use Rattle.ev_types.specs.declared.upcall.Upcall.TheVariants.{Notice}
+use Rattle.ev_base.specs.ev_types.specs.declared.upcall.Answer.{Answer}
+use Rattle.ev_base.specs.ev_types.specs.declared.upcall.Handle.{Handle}
+use Rattle.ev_base.specs.ev_types.specs.declared.upcall.Kind.{Kind}
+use Rattle.ev_base.specs.ev_types.specs.declared.upcall.Upcall.TheVariants.{Notice}
 use Rattle.ev_base.specs.Net.{NetFacts}
 use Rattle.ev_base.specs.Terms.{Terms}
-use Rattle.reactor_journal.specs.Event.{Event}
-use Rattle.reactor_journal.specs.Follow.{follows_ready}
-use Rattle.reactor_journal.specs.Past.{past_of, count, event_at, is_closed}
-use Rattle.reactor_journal.specs.declared.entry.Entry.{Entry}
-use Rattle.reactor_journal.specs.declared.entry.Entry.TheVariants.{Opened, Posted, Stale, Returned, Ended}
-use Rattle.reactor_summary.specs.Summary.{summary, is_busy}
-use Rattle.reactor_model.specs.Handling.{Handling}
-use Rattle.dispatch_turns.specs.ByTurns.{DispatchedByTurns}
+use Rattle.log_handler.specs.reactor_journal.specs.Event.{Event}
+use Rattle.log_handler.specs.reactor_journal.specs.Follow.{follows_ready}
+use Rattle.log_handler.specs.reactor_journal.specs.Past.{past_of, count}
+use Rattle.log_handler.specs.reactor_journal.specs.Past.{event_at, is_closed}
+use Rattle.log_handler.specs.reactor_journal.specs.declared.entry.Entry.{Entry}
+use Rattle.log_handler.specs.reactor_journal.specs.declared.entry.Entry.TheVariants.{Opened}
+use Rattle.log_handler.specs.reactor_journal.specs.declared.entry.Entry.TheVariants.{Posted}
+use Rattle.log_handler.specs.reactor_journal.specs.declared.entry.Entry.TheVariants.{Stale}
+use Rattle.log_handler.specs.reactor_journal.specs.declared.entry.Entry.TheVariants.{Returned}
+use Rattle.log_handler.specs.reactor_journal.specs.declared.entry.Entry.TheVariants.{Ended}
+use Rattle.tp_reactor.specs.reactor_summary.specs.Summary.{summary, is_busy}
+use Rattle.log_handler.specs.reactor_model.specs.Handling.{Handling}
+use Rattle.tp_reactor.specs.laws_by_turns.specs.ByTurns.{DispatchedByTurns}
 use Rattle.acceptor.specs.Servers.{read_alone}
-use Rattle.script_runs.specs.Runs.{IsWhole, IsIdle, first_handle, is_notice, is_refusal}
-use Rattle.script_taken.specs.Laws.{OffersEach}
-use Rattle.reactor_core.specs.Acting.{StopAppends}
-use Rattle.reactor_core.specs.Ends.{WhereTold, is_fault}
-use Rattle.reactor_core.specs.Marks.{IsOverAt, answers, is_polled}
-use Rattle.reactor_core.specs.Removing.{AreRemovals, alive_handles}
+use Rattle.laws_script_taken.specs.laws_script_runs.specs.Runs.{IsWhole, IsIdle, first_handle}
+use Rattle.laws_script_taken.specs.laws_script_runs.specs.Runs.{is_notice, is_refusal}
+use Rattle.laws_script_taken.specs.Laws.{OffersEach}
+use Rattle.tp_reactor.specs.reactor_core.specs.Acting.{StopAppends}
+use Rattle.tp_reactor.specs.reactor_core.specs.Ends.{WhereTold, is_fault}
+use Rattle.tp_reactor.specs.reactor_core.specs.Marks.{IsOverAt, answers, is_polled}
+use Rattle.tp_reactor.specs.reactor_core.specs.Removing.{AreRemovals, alive_handles}
 use Rattle.server_run.specs.declared.ending.Ending.{Ending}
 use Rattle.server_run.specs.declared.ending.Ending.TheVariants as ending
 
@@ -48,16 +56,21 @@ abbrev pub HasNotices : {N : Type 0} → Option ℕ → List (Entry N) → Type 
 HasNotices None journal = list_any is_notice journal ≡ false
 HasNotices (Some n) journal = list_all is_for_acceptor journal ≡ true
 
--- The run ended at a wait that was answered Over: it stands directly behind the entries of its last wait, with nothing to start and nothing
--- open, and where the net tells its calls, the answer of that wait was Over. Then the handlers that were alive were removed and closed, in
--- rising order.
-pub record EndsAtOver {N E : Type 0} (net : NetFacts E) (run closing : List (Entry N)) : Type 0 where
-  pub behind : follows_ready (past_of run) ≡ true
-  pub idle : IsIdle (past_of run)
-  pub over : WhereTold (λ calls. IsOverAt (count is_polled (past_of run)) (answers calls)) net.calls
-  pub closes : AreRemovals (is_busy (summary (past_of run))) (alive_handles (summary (past_of run))) closing
+-- The run ended at a wait that was answered Over: it stands directly behind the entries of its last
+-- wait, with nothing to start and nothing open, and where the net tells its calls, the answer of
+-- that wait was Over. Then the handlers that were alive were removed and closed, in rising order.
+pub record EndsAtOver {N E : Type 0} (net : NetFacts E) (run closing : List (Entry N)) : Type 0
+  where
+    pub behind : follows_ready (past_of run) ≡ true
+    pub idle : IsIdle (past_of run)
+    pub over : WhereTold (λ calls. IsOverAt (count is_polled (past_of run)) (answers calls))
+        net.calls
+    pub closes : AreRemovals (is_busy (summary (past_of run)))
+        (alive_handles (summary (past_of run)))
+        closing
 
--- The run ended by its notice: directly behind the turn of a notification, and behind as many closings and refusals as were asked for.
+-- The run ended by its notice: directly behind the turn of a notification, and behind as many
+-- closings and refusals as were asked for.
 pub record EndsByNotice {N : Type 0} (until : Option ℕ) (run : List (Entry N)) : Type 0 where
   pub wanted : ℕ
   pub asked : until ≡ Some wanted
@@ -72,8 +85,10 @@ pub record EndsByNotice {N : Type 0} (until : Option ℕ) (run : List (Entry N))
   pub is : event_at (past_of before) number ≡ Some event
   pub notice : event.upcall ≡ Notice kind
 
--- Why it ended, as far as the journal says: where the listener was not attached there is nothing before the end and behind it.
-abbrev pub EndsSo : {N E : Type 0} → Option ℕ → NetFacts E → Ending → List (Entry N) → List (Entry N) → Type 0
+-- Why it ended, as far as the journal says: where the listener was not attached there is nothing
+-- before the end and behind it.
+abbrev pub EndsSo : {N E : Type 0} → Option ℕ → NetFacts E → Ending → List (Entry N)
+    → List (Entry N) → Type 0
 EndsSo until net ending.Over run closing = EndsAtOver net run closing
 EndsSo until net ending.Notified run closing = EndsByNotice until run
 EndsSo until net ending.NotAttached run closing = (run ≡ []) × (closing ≡ [])
@@ -82,10 +97,13 @@ EndsSo until net ending.NetFault run closing = Unit {0}
 EndsSo until net ending.NoMemory run closing = Unit {0}
 EndsSo until net ending.VolumeFault run closing = Unit {0}
 
--- The journal of a run that ended so: it is legal, was stopped, and each handle that was opened was closed; before its end it goes by turns
--- alone behind the registration of the acceptor. Behind its end each handler that a turn installs is registered or refused directly behind
--- that turn, where one `Closed` may stand between. No more handlers were refused for a fault than the net failed to attach.
-pub record IsRun {H N E : Type 0} (means : Handling H E N) (t : Terms) (until : Option ℕ) (net : NetFacts E) (how : Ending) (journal : List (Entry N)) : Type 0 where
+-- The journal of a run that ended so: it is legal, was stopped, and each handle that was opened was
+-- closed; before its end it goes by turns alone behind the registration of the acceptor. Behind its
+-- end each handler that a turn installs is registered or refused directly behind that turn, where
+-- one `Closed` may stand between. No more handlers were refused for a fault than the net failed to
+-- attach.
+pub record IsRun {H N E : Type 0} (means : Handling H E N) (t : Terms) (until : Option ℕ)
+    (net : NetFacts E) (how : Ending) (journal : List (Entry N)) : Type 0 where
   pub whole : IsWhole t.most journal
   pub run : List (Entry N)
   pub closing : List (Entry N)
@@ -97,8 +115,8 @@ pub record IsRun {H N E : Type 0} (means : Handling H E N) (t : Terms) (until : 
   pub faults : count is_fault journal ≤ net.failed_attaches
   pub ends : EndsSo until net how run closing
 
--- The journal is the list with what the stop of the reactor appended: nothing where it was stopped before, and else its end and the removals
--- of the handlers that were alive, in rising order.
+-- The journal is the list with what the stop of the reactor appended: nothing where it was stopped
+-- before, and else its end and the removals of the handlers that were alive, in rising order.
 pub record WindsUp {N : Type 0} (list journal : List (Entry N)) : Type 0 where
   pub more : List (Entry N)
   pub stops : StopAppends (summary (past_of list)) (summary (past_of list)).ended more

@@ -1,19 +1,23 @@
 -- What a run of the server leaves.
-use Rattle.std.specs.Prelude.{ℕ, ◌≡◌, ◌⊎◌, true, List, [], ◌∷◌, Some}
+use Rattle.std.specs.Prelude.{ℕ, ◌≡◌, ◌<◌, ◌-◌, ◌⊎◌, true, List, [], ◌∷◌, Some}
 use Rattle.ev_base.specs.Counts.{Rose}
 use Rattle.ev_base.specs.Net.{NetFacts}
 use Rattle.ev_base.specs.Terms.{Terms}
-use Rattle.timer_queue.specs.declared.timer.Timer.{Timer}
-use Rattle.reactor_journal.specs.declared.entry.Entry.{Entry}
+use Rattle.tp_reactor.specs.timer_queue.specs.declared.timer.Timer.{Timer}
+use Rattle.log_handler.specs.reactor_journal.specs.declared.entry.Entry.{Entry}
 use Rattle.log_handler.specs.declared.note.ServerNote.{ServerNote}
-use Rattle.reactor_model.specs.Volumes.{VolumesFacts}
-use Rattle.reactor_core.specs.Beginning.{PartsStand}
-use Rattle.reactor_core.specs.Stands.{Meaning}
-use Rattle.reactor_desk.specs.declared.terms.DeskTerms.{DeskTerms}
+use Rattle.log_handler.specs.reactor_model.specs.Volumes.{VolumesFacts}
+use Rattle.tp_reactor.specs.reactor_core.specs.Beginning.{PartsStand}
+use Rattle.tp_reactor.specs.reactor_core.specs.Stands.{Meaning}
+use Rattle.tp_reactor.specs.reactor_desk.specs.Desks.{FillsVolume}
+use Rattle.tp_reactor.specs.reactor_desk.specs.declared.terms.DeskTerms.{DeskTerms}
+use Rattle.tp_reactor.specs.leader_token.specs.declared.kept.View.{View}
+use Rattle.tp_reactor.specs.notify_ring.specs.declared.view.View.{View as RingView}
 use Rattle.tp_reactor.specs.Alone.{RunsTo}
+use Rattle.tp_reactor.specs.Pool.{HiresNone, RunsPool, WorkerEnd}
 use Rattle.tp_reactor.specs.declared.working.Ran.{Ran}
 use Rattle.tp_reactor.specs.declared.working.Ran.TheVariants as ran
-use Rattle.server_run.specs.Journals.{IsRun, WindsUp, first_entry}
+use Rattle.server_run.specs.Journals.{IsRun, WindsUp, first_entry, notice_for}
 use Rattle.server_run.specs.declared.asked.Asked.{Asked}
 use Rattle.server_run.specs.declared.ending.Ending.{Ending}
 use Rattle.server_run.specs.declared.ending.Ending.TheVariants as ending
@@ -28,7 +32,8 @@ ending_of ran.VolumeFault = ending.VolumeFault
 ending_of ran.Stopped = ending.Notified
 ending_of ran.Over = ending.Over
 
--- no worker led: there was no memory for the reactor or for sharing it, or the acceptor was not registered
+-- no worker led: there was no memory for the reactor or for sharing it, or the acceptor was not
+-- registered
 abbrev pub MayLackLead : Ending → Type 0
 MayLackLead ending.Broken = Unit {0}
 MayLackLead ending.NotAttached = Unit {0}
@@ -38,14 +43,32 @@ MayLackLead ending.VolumeFault = ⊥
 MayLackLead ending.Notified = ⊥
 MayLackLead ending.Over = ⊥
 
--- Then the journal is empty, or the reactor was stopped at once, with no handler or with the acceptor alone.
+-- Then the journal is empty, or the reactor was stopped at once, with no handler or with the
+-- acceptor alone.
 pub record HasNoLead {N : Type 0} (how : Ending) (journal : List (Entry N)) : Type 0 where
   pub ending : MayLackLead how
   pub journal_is : (journal ≡ []) ⊎ (WindsUp [] journal ⊎ WindsUp (first_entry ∷ []) journal)
 
--- The workers left their loops with this answer, when the journal was this list, and then the reactor was stopped. One worker brought it from
--- the registration of the acceptor to the list by its rounds alone, entry by entry.
-pub record HasLed {H M Q W V N E : Type 0} (m : Meaning H M Q W V N E) (t : Terms) (asked : Asked) (how : Ending) (journal : List (Entry N)) : Type 0 where
+-- Several workers brought it there. A root that had seen the registration of the acceptor alone
+-- hired the others, each of which made its loop; their answer is the first in order of those with
+-- which they left. Or there was no memory for the list of the workers, and none led.
+pub record IsPooled {H M Q W V N E : Type 0} (m : Meaning H M Q W V N E) (terms : DeskTerms)
+    (asked : Asked) (answer : Ran) (list : List (Entry N)) : Type 0 where
+  pub root : View (Entry N) DeskTerms
+  pub postings : RingView
+  pub end : WorkerEnd N
+  pub root_terms : root.terms ≡ terms
+  pub begins : root.seen ≡ first_entry ∷ []
+  pub answers : end.ran ≡ answer
+  pub leaves : end.known.seen ≡ list
+  pub ran : HiresNone root postings end
+      ⊎ RunsPool m asked.limit (notice_for asked.until) (asked.workers - 1) root postings end
+
+-- The workers left their loops with this answer, when the journal was this list, and then the
+-- reactor was stopped. One worker brought it from the registration of the acceptor to the list by
+-- its rounds alone, entry by entry.
+pub record HasLed {H M Q W V N E : Type 0} (m : Meaning H M Q W V N E) (t : Terms) (asked : Asked)
+    (how : Ending) (journal : List (Entry N)) : Type 0 where
   pub answer : Ran
   pub named : (how ≡ ending.Broken) ⊎ (how ≡ ending_of answer)
   pub list : List (Entry N)
@@ -53,6 +76,7 @@ pub record HasLed {H M Q W V N E : Type 0} (m : Meaning H M Q W V N E) (t : Term
   pub terms : DeskTerms
   pub run_terms : terms.run ≡ t
   pub alone : asked.workers ≡ 1 → RunsTo m terms asked.limit (first_entry ∷ []) answer list
+  pub pooled : 1 < asked.workers → IsPooled m terms asked answer list
 
 -- no reactor was made, for want of memory, so the journal is empty
 abbrev pub MayBeUnmade : Ending → Type 0
@@ -68,18 +92,26 @@ pub record IsUnmade {N : Type 0} (how : Ending) (journal : List (Entry N)) : Typ
   pub ending : MayBeUnmade how
   pub none : journal ≡ []
 
--- What is left of a run under these terms: one journal, for which the parts stand.
-pub record LeavesRun {H M Q W V E : Type 0} (m : Meaning H M Q W V ServerNote E) (armed : Q → List Timer) (t : Terms) (asked : Asked) (served : Served M Q W V) : Type 0 where
+-- What is left of a run under these terms: one journal, for which the parts stand. Entries were
+-- handed over only as whole volumes of the size that was asked for, or more.
+pub record LeavesRun {H M Q W V E : Type 0} (m : Meaning H M Q W V ServerNote E)
+    (armed : Q → List Timer) (t : Terms) (asked : Asked) (served : Served M Q W V) : Type 0 where
   pub first : ℕ
   pub journal : List (Entry ServerNote)
   pub stand : PartsStand m armed t first journal served.parts
-  pub run : IsUnmade served.ending journal ⊎ IsRun m.means t asked.until (m.facts served.parts.net) served.ending journal
+  pub filled : FillsVolume asked.volume first
+  pub run : IsUnmade served.ending journal
+      ⊎ IsRun m.means t asked.until (m.facts served.parts.net) served.ending journal
   pub led : HasNoLead served.ending journal ⊎ HasLed m t asked served.ending journal
-  pub broken : (before : ℕ) → served.ending ≡ ending.Broken → t.output_faults ≡ Some before → Rose before (m.faults served.parts.watch)
+  pub broken : (before : ℕ) → served.ending ≡ ending.Broken → t.output_faults ≡ Some before
+      → Rose before (m.faults served.parts.watch)
 
--- With a fault the count of its cause rose: that of failed attaches or of failed waits of the net, or that of the faults of the volumes.
-abbrev pub FaultRose : {N E : Type 0} → Ending → NetFacts E → NetFacts E → VolumesFacts N → VolumesFacts N → Type 0
-FaultRose ending.NotAttached net net' volumes volumes' = Rose net.failed_attaches net'.failed_attaches
+-- With a fault the count of its cause rose: that of failed attaches or of failed waits of the net,
+-- or that of the faults of the volumes.
+abbrev pub FaultRose : {N E : Type 0} → Ending → NetFacts E → NetFacts E → VolumesFacts N
+    → VolumesFacts N → Type 0
+FaultRose ending.NotAttached net net' volumes volumes' =
+    Rose net.failed_attaches net'.failed_attaches
 FaultRose ending.NetFault net net' volumes volumes' = Rose net.failed_waits net'.failed_waits
 FaultRose ending.VolumeFault net net' volumes volumes' = Rose volumes.faults volumes'.faults
 FaultRose ending.Broken net net' volumes volumes' = Unit {0}
@@ -88,6 +120,8 @@ FaultRose ending.Notified net net' volumes volumes' = Unit {0}
 FaultRose ending.Over net net' volumes volumes' = Unit {0}
 
 -- It did so since the net and the volumes were these; and a watch that failed is told.
-pub record HasCauses {H M Q W V N E : Type 0} (m : Meaning H M Q W V N E) (net : M) (volumes : V) (served : Served M Q W V) : Type 0 where
-  pub rose : FaultRose served.ending (m.facts net) (m.facts served.parts.net) (m.volumes volumes) (m.volumes served.parts.volumes)
+pub record HasCauses {H M Q W V N E : Type 0} (m : Meaning H M Q W V N E) (net : M) (volumes : V)
+    (served : Served M Q W V) : Type 0 where
+  pub rose : FaultRose served.ending (m.facts net) (m.facts served.parts.net) (m.volumes volumes)
+      (m.volumes served.parts.volumes)
   pub told : m.is_broken served.parts.watch ≡ true → served.ending ≡ ending.Broken

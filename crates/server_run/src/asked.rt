@@ -7,9 +7,11 @@ pub struct Asked {
     pub workers: usize,
     /// How many connections may be live at once: from 1 to 4,096. The acceptor is one handler more.
     pub connections: u64,
-    /// After how many quiet milliseconds a connection is closed, from 1 to 4,294,967,295, or that it never is.
+    /// After how many quiet milliseconds a connection is closed, from 1 to 4,294,967,295, or that
+    /// it never is.
     pub idle: Option<u64>,
-    /// Behind how many closings and refusals the run is ended by a notice to the acceptor, if it is.
+    /// Behind how many closings and refusals the run is ended by a notice to the acceptor, if it
+    /// is.
     pub until: Option<u64>,
     /// For how many milliseconds a wait goes on at most, if there is a limit.
     pub limit: Option<u64>,

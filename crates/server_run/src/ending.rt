@@ -1,14 +1,16 @@
 //! How a run of the server ended, and what it leaves.
 use log_handler::ServerNote;
-use reactor_core::Parts;
+use tp_reactor::Parts;
 
-/// How a run of the server ended. Of several causes the first in this order is told. A failed watch hides every other cause, also where it
-/// failed only when the reactor was stopped: so with every other ending it has not failed.
+/// How a run of the server ended. Of several causes the first in this order is told. A failed watch
+/// hides every other cause, also where it failed only when the reactor was stopped: so with every
+/// other ending it has not failed.
 #[derive(Clone, Copy, PartialEq, Eq, Debug)]
 pub enum Ending {
     /// The watch failed.
     Broken,
-    /// The net could not take the listener in, and its count of failed attaches rose. No handler was registered.
+    /// The net could not take the listener in, and its count of failed attaches rose. No handler
+    /// was registered.
     NotAttached,
     /// A wait failed, and the net's count of failed waits rose.
     NetFault,

@@ -2,17 +2,15 @@
 ghost use Rattle.std.specs.Prelude.{◌≡◌, ℕ, List};
 ghost use Rattle.ev_base.specs.Terms.{Terms};
 ghost use Rattle.log_handler.specs.declared.note.ServerNote.{ServerNote};
-ghost use Rattle.reactor_journal.specs.declared.entry.Entry.{Entry};
-ghost use Rattle.reactor_core.specs.Stands.{Stands};
+ghost use Rattle.log_handler.specs.reactor_journal.specs.declared.entry.Entry.{Entry};
+ghost use Rattle.tp_reactor.specs.reactor_core.specs.Stands.{Stands};
 ghost use Rattle.server_run.specs.Finishing.{Finishes, IsAtRest, KeepsCounts, NoneOpen, named};
 
 use crate::{Ending, Served};
 use acceptor::ServerHandler;
 use ev_base::{Net, PeerEnd};
 use log_handler::ServerNote;
-use reactor_core::{Core, Means, Parts};
-use reactor_model::{Volumes, Watch};
-use timer_queue::TimerQueue;
+use tp_reactor::{Core, Means, Parts, TimerQueue, Volumes, Watch};
 
 /// The reactor of a run of the server.
 pub(crate) type ServerCore<E, M, Q, W, V> = Core<ServerHandler<E>, M, Q, W, V>;
@@ -28,7 +26,8 @@ pub(crate) fn finish<
     requires { IsAtRest ⟦<ServerCore<E, M, Q, W, V> as Means>⟧.m core }
     ensures stands { (t : Terms) (first : ℕ) (list : List (Entry ServerNote))
         → Stands ⟦<ServerCore<E, M, Q, W, V> as Means>⟧.m t core first list → NoneOpen list
-        → Finishes ⟦<ServerCore<E, M, Q, W, V> as Means>⟧.m Q.timers t first list core result.parts }
+        → Finishes ⟦<ServerCore<E, M, Q, W, V> as Means>⟧.m Q.timers t first list core
+        result.parts }
     ensures counts { KeepsCounts ⟦<ServerCore<E, M, Q, W, V> as Means>⟧.m core result.parts }
     ensures named { result.ending ≡ named ending (W.is_broken result.parts.watch) }
 {

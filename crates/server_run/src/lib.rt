@@ -1,5 +1,5 @@
-//! The run of the logging server by a pool of workers: over any net, with an acceptor as its first handler, until nothing can be reported
-//! any more, a notice ends it, or one of its parts fails.
+//! The run of the logging server by a pool of workers: over any net, with an acceptor as its first
+//! handler, until nothing can be reported any more, a notice ends it, or one of its parts fails.
 #![tactic(auto)]
 
 mod asked;

@@ -1,34 +1,26 @@
 //! The beginning of a run.
-ghost use Rattle.std.specs.Prelude.{◌≡◌, true};
+ghost use Rattle.std.specs.Prelude.{◌≡◌, true, IfOk};
 ghost use Rattle.ev_base.specs.End.{IsFresh};
 ghost use Rattle.ev_base.specs.Host.{GivesListener};
 ghost use Rattle.ev_base.specs.Story.{NumbersFrom};
 ghost use Rattle.ev_base.specs.Terms.{Terms};
 ghost use Rattle.acceptor.specs.Idle.{IsIdleTime};
-ghost use Rattle.reactor_core.specs.Views.{net_of, volumes_of};
+ghost use Rattle.tp_reactor.specs.reactor_core.specs.Views.{net_of, volume_of, volumes_of};
 ghost use Rattle.server_run.specs.Opening.{CanRegister, MayRefuse, OpenCounts, OpensSo, refusal_of};
 ghost use Rattle.server_run.specs.Starting.{CanStart, IsFine};
 
 use crate::finishing::{ServerCore, finish, leave};
 use crate::{Asked, Ending, Ground, Served};
 use acceptor::{Acceptor, ServerHandler};
-use ev_base::{Net, PeerEnd};
-use ev_types::{Mask, Why};
+use ev_base::{Mask, Net, PeerEnd, Why};
 use log_handler::ServerNote;
-use reactor_core::{Core, Means, Parts, RegisterRefused};
-use reactor_model::{EventHandler, Journal, Volumes, Watch};
 use std::alloc::Global;
-use timer_queue::TimerQueue;
-
-/// What the acceptor is registered for.
-const READ: Mask = Mask {
-    read: true,
-    write: false,
-    except: false,
+use tp_reactor::{
+    Core, EventHandler, Journal, Means, Parts, RegisterRefused, TimerQueue, Volumes, Watch,
 };
 
-/// A reactor for so many connections and the acceptor of the listener, which is registered with it. Where there is no memory for it, or the
-/// net does not take the listener in, the run has ended.
+/// A reactor for so many connections and the acceptor of the listener, which is registered with it.
+/// Where there is no memory for it, or the net does not take the listener in, the run has ended.
 pub(crate) fn open<
     E: PeerEnd + Drop,
     M: Net<End = E>,
@@ -42,11 +34,14 @@ pub(crate) fn open<
 ) -> Result<ServerCore<E, M, Q, W, V>, Served<M, Q, W, V>>
     requires fine { IsFine asked }
     requires listener { GivesListener M.facts E.tells (ground.net, ground.listener) }
-    requires start { (t : Terms) × CanStart ⟦<ServerCore<E, M, Q, W, V> as Means>⟧.m Q.timers E.keeps asked ground t }
+    requires start { (t : Terms) × CanStart ⟦<ServerCore<E, M, Q, W, V> as Means>⟧.m Q.timers
+        E.keeps asked ground t }
     ensures opens { (t : Terms)
         → CanStart ⟦<ServerCore<E, M, Q, W, V> as Means>⟧.m Q.timers E.keeps asked ground t
         → OpensSo ⟦<ServerCore<E, M, Q, W, V> as Means>⟧.m Q.timers t asked result }
-    ensures counts { OpenCounts ⟦<ServerCore<E, M, Q, W, V> as Means>⟧.m ground.net ground.volumes result }
+    ensures size { IfOk result (λ core. volume_of core ≡ asked.volume) }
+    ensures counts { OpenCounts ⟦<ServerCore<E, M, Q, W, V> as Means>⟧.m ground.net ground.volumes
+        result }
 {
     let Ground {
         net,
@@ -72,7 +67,8 @@ pub(crate) fn open<
     }
 }
 
-/// Registers the acceptor of a listener with a reactor that has no handler, to be read. Where it is not registered the reactor is stopped.
+/// Registers the acceptor of a listener with a reactor that has no handler, to be read. Where it is
+/// not registered the reactor is stopped.
 fn register<
     E: PeerEnd + Drop,
     M: Net<End = E>,
@@ -89,15 +85,18 @@ fn register<
     requires fresh { IsFresh (E.tells listener) }
     requires numbered { NumbersFrom 0 (E.tells listener).offering }
     requires idle { IsIdleTime asked.idle }
-    requires may { (t : Terms) × CanRegister ⟦<ServerCore<E, M, Q, W, V> as Means>⟧.m E.keeps asked listener core t }
+    requires may { (t : Terms) × CanRegister ⟦<ServerCore<E, M, Q, W, V> as Means>⟧.m E.keeps asked
+        listener core t }
     ensures opens { (t : Terms)
         → CanRegister ⟦<ServerCore<E, M, Q, W, V> as Means>⟧.m E.keeps asked listener core t
         → OpensSo ⟦<ServerCore<E, M, Q, W, V> as Means>⟧.m Q.timers t asked result }
-    ensures counts { OpenCounts ⟦<ServerCore<E, M, Q, W, V> as Means>⟧.m (net_of core) (volumes_of core) result }
+    ensures size { IfOk result (λ opened. volume_of opened ≡ volume_of core) }
+    ensures counts { OpenCounts ⟦<ServerCore<E, M, Q, W, V> as Means>⟧.m (net_of core)
+        (volumes_of core) result }
 {
     let mut core = core;
     let acceptor = ServerHandler::Listen(Acceptor::new(alloc, listener, asked.idle));
-    match core.register(acceptor, READ, None) {
+    match core.register(acceptor, Mask::READ, None) {
         Ok(_) => Ok(core),
         Err((back, refused)) => {
             back.handle_close(Why::Refused);

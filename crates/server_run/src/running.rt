@@ -2,8 +2,8 @@
 ghost use Rattle.std.specs.Prelude.{◌≡◌, ◌∷◌, []};
 ghost use Rattle.ev_base.specs.Host.{GivesListener};
 ghost use Rattle.ev_base.specs.Terms.{Terms};
-ghost use Rattle.reactor_core.specs.Stands.{Stands};
-ghost use Rattle.reactor_core.specs.Views.{net_of, volumes_of};
+ghost use Rattle.tp_reactor.specs.reactor_core.specs.Stands.{Stands};
+ghost use Rattle.tp_reactor.specs.reactor_core.specs.Views.{net_of, volume_of, volumes_of};
 ghost use Rattle.server_run.specs.Journals.{first_entry, notice_for};
 ghost use Rattle.server_run.specs.Served.{HasCauses, LeavesRun, ending_of};
 ghost use Rattle.server_run.specs.Starting.{AreTermsOf, CanStart, IsFine};
@@ -11,27 +11,23 @@ ghost use Rattle.server_run.specs.Starting.{AreTermsOf, CanStart, IsFine};
 use crate::finishing::{ServerCore, finish};
 use crate::opening::open;
 use crate::{Asked, Ending, Ground, Served};
-use ev_base::{Net, PeerEnd, Wake};
-use ev_types::Handle;
+use ev_base::{ACCEPTOR, Handle, Net, PeerEnd, Wake};
 use log_handler::ServerNote;
-use reactor_core::Means;
-use reactor_model::{Volumes, Watch};
 use std::alloc::Global;
 use std::sync::Wait;
 use std::thread::Threads;
-use timer_queue::TimerQueue;
-use tp_reactor::{Ran, Reactor};
+use tp_reactor::{Means, Ran, Reactor, TimerQueue, Volumes, Watch};
 
-/// The handle of the acceptor.
-const ACCEPTOR: Handle = Handle(0);
-
-/// Runs the logging server (C++NPv2 chapter 4, `Logging_Acceptor`; POSA2, Leader/Followers): a reactor whose first handler is the acceptor of
-/// the listener, and which a pool of workers leads in turn. Its end is told with what it leaves. Where `until` is given it is ended by a
-/// notice to the acceptor, once as many handlers were closed or refused; else it goes on until nothing can be reported any more. A worker
-/// that meets a fault leaves, and the others go on until they leave too. Then the reactor is stopped and every handler closed.
+/// Runs the logging server (C++NPv2 chapter 4, `Logging_Acceptor`; POSA2, Leader/Followers): a
+/// reactor whose first handler is the acceptor of the listener, and which a pool of workers leads
+/// in turn. Its end is told with what it leaves. Where `until` is given it is ended by a notice to
+/// the acceptor, once as many handlers were closed or refused; else it goes on until nothing can be
+/// reported any more. A worker that meets a fault leaves, and the others go on until they leave
+/// too. Then the reactor is stopped and every handler closed.
 ///
-/// For want of memory there may be no reactor, or one that was stopped before a worker led. Where the net does not take the listener in there
-/// is one with no handler. The listener and the waker are dropped then.
+/// For want of memory there may be no reactor, or one that was stopped before a worker led. Where
+/// the net does not take the listener in there is one with no handler. The listener and the waker
+/// are dropped then.
 pub fn serve<
     R: Threads + Wait + Sync,
     E: PeerEnd + Drop + Send,
@@ -50,9 +46,11 @@ pub fn serve<
     ghost terms: { Terms }
     requires fine { IsFine asked }
     requires listener { GivesListener M.facts E.tells (ground.net, ground.listener) }
-    requires start { CanStart ⟦<ServerCore<E, M, Q, W, V> as Means>⟧.m Q.timers E.keeps asked ground terms }
+    requires start { CanStart ⟦<ServerCore<E, M, Q, W, V> as Means>⟧.m Q.timers E.keeps asked ground
+        terms }
     ensures run { LeavesRun ⟦<ServerCore<E, M, Q, W, V> as Means>⟧.m Q.timers terms asked result }
-    ensures causes { HasCauses ⟦<ServerCore<E, M, Q, W, V> as Means>⟧.m ground.net ground.volumes result }
+    ensures causes { HasCauses ⟦<ServerCore<E, M, Q, W, V> as Means>⟧.m ground.net ground.volumes
+        result }
 {
     match open(alloc, asked, ground) {
         Ok(core) => share(rt, alloc, asked, core, waker),
@@ -60,7 +58,8 @@ pub fn serve<
     }
 }
 
-/// Shares a reactor whose one handler is the acceptor among the workers, until all have left their loops, and ends the run.
+/// Shares a reactor whose one handler is the acceptor among the workers, until all have left their
+/// loops, and ends the run.
 fn share<
     R: Threads + Wait + Sync,
     E: PeerEnd + Send,
@@ -79,9 +78,12 @@ fn share<
     ghost terms: { Terms }
     requires fine { IsFine asked }
     requires terms { AreTermsOf asked terms }
-    requires stands { Stands ⟦<ServerCore<E, M, Q, W, V> as Means>⟧.m terms core 0 (first_entry ∷ []) }
+    requires stands { Stands ⟦<ServerCore<E, M, Q, W, V> as Means>⟧.m terms core 0
+        (first_entry ∷ []) }
+    requires size { volume_of core ≡ asked.volume }
     ensures run { LeavesRun ⟦<ServerCore<E, M, Q, W, V> as Means>⟧.m Q.timers terms asked result }
-    ensures causes { HasCauses ⟦<ServerCore<E, M, Q, W, V> as Means>⟧.m (net_of core) (volumes_of core) result }
+    ensures causes { HasCauses ⟦<ServerCore<E, M, Q, W, V> as Means>⟧.m (net_of core)
+        (volumes_of core) result }
 {
     match Reactor::new(alloc, core, waker) {
         Ok((reactor, root)) => {

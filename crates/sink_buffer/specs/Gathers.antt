@@ -25,18 +25,23 @@ pub record HoldsBack (start : SinkFacts) (held put : List ℕ) (now : SinkFacts)
   pub takes : TakesAll start written now
   pub all : written ++ held ≡ put
 
--- It stands for all bytes that were put since its sink told the facts `start`: the sink took them but for what is held
--- back, or, once a write failed, a front of them.
-pub record Gathers {K : Type 0} (facts : K → SinkFacts) (start : SinkFacts) (buffer : SinkBuffer K) (put : List ℕ) : Type 0 where
-  pub whole : is_broken buffer ≡ false → HoldsBack start (held_of buffer) put (facts (output_of buffer))
+-- It stands for all bytes that were put since its sink told the facts `start`: the sink took them
+-- but for what is held back, or, once a write failed, a front of them.
+pub record Gathers {K : Type 0} (facts : K → SinkFacts) (start : SinkFacts) (buffer : SinkBuffer K)
+    (put : List ℕ) : Type 0 where
+  pub whole : is_broken buffer ≡ false
+      → HoldsBack start (held_of buffer) put (facts (output_of buffer))
   pub front : is_broken buffer ≡ true → BreaksOff start put (facts (output_of buffer))
 
--- Since these bytes were held back and the sink below was this: where there was room for what was put, it is held back behind
--- them, and nothing was written.
-pub record Holds {K : Type 0} (output : K) (held : List ℕ) (buffer : SinkBuffer K) (put : List ℕ) : Type 0 where
-  pub fits : length held + length put ≤ 8192 → (held_of buffer ≡ held ++ put) × (output_of buffer ≡ output)
+-- Since these bytes were held back and the sink below was this: where there was room for what was
+-- put, it is held back behind them, and nothing was written.
+pub record Holds {K : Type 0} (output : K) (held : List ℕ) (buffer : SinkBuffer K)
+    (put : List ℕ) : Type 0 where
+  pub fits : length held + length put ≤ 8192 → (held_of buffer ≡ held ++ put)
+      × (output_of buffer ≡ output)
 
--- what was put is counted since the sink told some facts, or since it was this and these bytes were held back
+-- what was put is counted since the sink told some facts, or since it was this and these bytes were
+-- held back
 pub data Since (K : Type 0) : Type 0 where
   Told : SinkFacts → Since K
   Held : K → List ℕ → Since K

@@ -3,3 +3,4 @@ pub mod Written
 pub mod Gathers
 pub mod Direct
 pub mod Short
+pub mod Growing

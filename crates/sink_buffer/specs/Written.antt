@@ -12,7 +12,8 @@ pub record TakesAll (old : SinkFacts) (bytes : List ℕ) (new : SinkFacts) : Typ
   pub text : GrowsBy old.text bytes new.text
   pub faults : new.faults ≡ old.faults
 
--- A sink took the front of some bytes, and then failed. One write failed and no more: so none was tried behind it.
+-- A sink took the front of some bytes, and then failed. One write failed and no more: so none was
+-- tried behind it.
 pub record BreaksOff (old : SinkFacts) (bytes : List ℕ) (new : SinkFacts) : Type 0 where
   pub front : List ℕ
   pub is_front : IsPrefixOf front bytes
@@ -24,14 +25,14 @@ abbrev pub WritesAll : SinkFacts → List ℕ → Bool → SinkFacts → Type 0
 WritesAll old bytes true new = TakesAll old bytes new
 WritesAll old bytes false new = BreaksOff old bytes new
 
--- Where a sink told its text, that is the text at the start and behind it all of these bytes. No write failed. (A sink that did not tell its
--- text at the start may do so now.)
+-- Where a sink told its text, that is the text at the start and behind it all of these bytes. No
+-- write failed. (A sink that did not tell its text at the start may do so now.)
 pub record TookAll (old : SinkFacts) (bytes : List ℕ) (new : SinkFacts) : Type 0 where
   pub text : (start : List ℕ) → old.text ≡ Some start → new.text ≡ Some (start ++ bytes)
   pub faults : new.faults ≡ old.faults
 
--- Where a sink told its text, that is the text at the start and behind it a front of these bytes. Then one write failed, and none was tried
--- behind it.
+-- Where a sink told its text, that is the text at the start and behind it a front of these bytes.
+-- Then one write failed, and none was tried behind it.
 pub record TookFront (old : SinkFacts) (bytes : List ℕ) (new : SinkFacts) : Type 0 where
   pub front : List ℕ
   pub is_front : IsPrefixOf front bytes

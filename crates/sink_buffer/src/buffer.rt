@@ -1,17 +1,19 @@
 //! The buffer, and the loop that writes it.
-ghost use Rattle.std.specs.Prelude.{◌≡◌, ◌≤◌, ℕ, List, [], ◌++◌, ◌+◌, length, take, min, ◌-◌, ◌<◌, Bool, true, false, IsTrue, ◌↔◌};
+ghost use Rattle.std.specs.Prelude.{◌≡◌, ◌≤◌, ℕ, List, [], ◌++◌, ◌+◌, length, take, min, ◌-◌, ◌<◌};
+ghost use Rattle.std.specs.Prelude.{Bool, true, false, IsTrue, ◌↔◌};
 ghost use Rattle.ev_base.specs.Sink.{SinkFacts};
 ghost use Rattle.sink_buffer.specs.Written.{WritesAll};
 
 use crate::TextOut;
 use ev_base::{Sink, Wrote};
 
-/// How many bytes are gathered before a write: 8 KiB. Short lines are written together; a line that is longer is written in several
-/// writes.
+/// How many bytes are gathered before a write: 8 KiB. Short lines are written together; a line that
+/// is longer is written in several writes.
 const SIZE: usize = 8_192;
 
-/// A sink that gathers what is put into it in a fixed buffer of 8,192 bytes. It writes the buffer each time it is full and more is
-/// put, and when it is flushed, and takes no memory. Once a write failed it writes nothing more.
+/// A sink that gathers what is put into it in a fixed buffer of 8,192 bytes. It writes the buffer
+/// each time it is full and more is put, and when it is flushed, and takes no memory. Once a write
+/// failed it writes nothing more.
 #[derive(Drop)]
 pub struct SinkBuffer<K> {
     output: K,
@@ -22,7 +24,8 @@ pub struct SinkBuffer<K> {
 }
 
 impl<K: Sink> SinkBuffer<K> {
-    ghost use Rattle.sink_buffer.specs.Gathers.{Gathers, held_count, held_of, is_broken, output_of, HasPut};
+    ghost use Rattle.sink_buffer.specs.Gathers.{Gathers, held_count, held_of, is_broken, output_of};
+    ghost use Rattle.sink_buffer.specs.Gathers.{HasPut};
     ghost use Rattle.sink_buffer.specs.Texts.{Puts};
 
     /// A buffer before this sink, which holds nothing.
@@ -42,10 +45,12 @@ impl<K: Sink> SinkBuffer<K> {
 
     /// Writes what is held where the buffer is full.
     fn make_room(&mut self)
-        ensures text { (start : SinkFacts) (put : List ℕ) → Gathers K.facts start self.old put → Gathers K.facts start self.new put }
+        ensures text { (start : SinkFacts) (put : List ℕ) → Gathers K.facts start self.old put
+            → Gathers K.facts start self.new put }
         ensures room { self.new.held < 8192 }
         ensures held { length (held_of self.old) < 8192 → held_of self.new ≡ held_of self.old }
-        ensures output { length (held_of self.old) < 8192 → output_of self.new ≡ output_of self.old }
+        ensures output { length (held_of self.old) < 8192 → output_of self.new
+            ≡ output_of self.old }
     {
         if self.held >= SIZE {
             self.flush();
@@ -90,10 +95,12 @@ impl<K: Sink> SinkBuffer<K> {
         count
     }
 
-    /// Writes what is held, in one write where the sink takes all of it, and in none where nothing is held. After it the sink has
-    /// the whole text, or a write failed. Behind a failed write nothing is written.
+    /// Writes what is held, in one write where the sink takes all of it, and in none where nothing
+    /// is held. After it the sink has the whole text, or a write failed. Behind a failed write
+    /// nothing is written.
     pub fn flush(&mut self)
-        ensures text { (start : SinkFacts) (put : List ℕ) → Gathers K.facts start self.old put → Gathers K.facts start self.new put }
+        ensures text { (start : SinkFacts) (put : List ℕ) → Gathers K.facts start self.old put
+            → Gathers K.facts start self.new put }
         ensures held { held_of self.new ≡ [] }
         ensures empty { held_count self.new ≡ 0 }
         ensures idle { length (held_of self.old) ≡ 0 → output_of self.new ≡ output_of self.old }
@@ -122,9 +129,11 @@ impl<K: Sink> SinkBuffer<K> {
         self.output
     }
 
-    /// Writes what is held, and gives the sink below, and whether no write failed: then it has the whole text, and else a front of it.
+    /// Writes what is held, and gives the sink below, and whether no write failed: then it has the
+    /// whole text, and else a front of it.
     pub fn finish(self) -> (K, bool)
-        ensures { (start : SinkFacts) (put : List ℕ) → Gathers K.facts start self put → WritesAll start put result.1 (K.facts result.0) }
+        ensures { (start : SinkFacts) (put : List ℕ) → Gathers K.facts start self put
+            → WritesAll start put result.1 (K.facts result.0) }
     {
         let mut buffer = self;
         buffer.flush();
@@ -150,7 +159,8 @@ impl<K: Sink> TextOut for SinkBuffer<K> {
     }
 }
 
-/// Writes all of some bytes, in as many writes as the sink needs, and tells whether none failed. Behind a failed write nothing is written.
+/// Writes all of some bytes, in as many writes as the sink needs, and tells whether none failed.
+/// Behind a failed write nothing is written.
 pub fn write_all<K: Sink>(output: &mut K, bytes: &[u8]) -> bool
     ensures writes { WritesAll (K.facts output.old) bytes.now result (K.facts output.new) }
     ensures idle { length bytes.now ≡ 0 → output.new ≡ output.old }

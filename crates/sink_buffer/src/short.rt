@@ -6,8 +6,8 @@ use crate::TextOut;
 /// How many bytes a short text has at most.
 const MOST: usize = 512;
 
-/// A text of at most 512 bytes, in a fixed place: so a short line is written by one call. It takes no memory. Where more is put it is
-/// overfull, and has no text.
+/// A text of at most 512 bytes, in a fixed place: so a short line is written by one call. It takes
+/// no memory. Where more is put it is overfull, and has no text.
 #[derive(Drop)]
 pub struct ShortText {
     bytes: [u8; MOST],
@@ -32,7 +32,8 @@ impl ShortText {
 
     /// All that was put, or None where that was too long.
     pub fn text(&self) -> Option<&[u8]>
-        ensures { (first put : List ℕ) → HoldsText first self.now put → MatchOption result (512 < length (first ++ put)) (λ text. text.now ≡ first ++ put) }
+        ensures { (first put : List ℕ) → HoldsText first self.now put
+            → MatchOption result (512 < length (first ++ put)) (λ text. text.now ≡ first ++ put) }
     {
         if self.overfull {
             None

@@ -9,7 +9,8 @@ parent k = (k - 1) / 2
 
 -- the timer at each place but the first comes after the one at its parent
 abbrev pub IsHeap : List Timer → Type 0
-IsHeap slots = (k : ℕ) (d : Timer) → 0 < k → k < length slots → comes_before (slice_index_or slots (parent k) d) (slice_index_or slots k d) ≡ true
+IsHeap slots = (k : ℕ) (d : Timer) → 0 < k → k < length slots
+    → comes_before (slice_index_or slots (parent k) d) (slice_index_or slots k d) ≡ true
 
 -- the first place is the second or one of its ancestors
 pub data OnPath : ℕ → ℕ → Type 0 where

@@ -1,12 +1,13 @@
 //! The timer heap.
-ghost use Rattle.std.specs.Prelude.{◌≡◌, ◌≤◌, ◌<◌, ◌+◌, ℕ, [], false, length, slice_get, slice_index_or};
+ghost use Rattle.std.specs.Prelude.{◌≡◌, ◌≤◌, ◌<◌, ◌+◌, ℕ, [], false, length, slice_get};
+ghost use Rattle.std.specs.Prelude.{slice_index_or};
 ghost use Rattle.std.specs.List.Sorted.{IsPermutation};
 ghost use Rattle.timer_queue.specs.declared.timer.Timer.{Timer};
 ghost use Rattle.timer_queue.specs.Timers.{is_scheduled, with_timer, in_order};
 ghost use Rattle.timer_heap.specs.Heap.{IsHeap, OnPath};
 
 use crate::index::make_room;
-use crate::tree::{Tree, add, make_keys, place_of, take_out};
+use crate::tree::Tree;
 use ev_types::{Handle, NoMemory};
 use std::alloc::Global;
 use std::marker::Model;
@@ -17,7 +18,8 @@ use timer_queue::{Timer, TimerQueue};
 #[derive(Drop)]
 pub struct HeapTimers {
     tree: Tree,
-    // By number. A timer that left may still have an entry, whose key names no timer of that number.
+    // By number. A timer that left may still have an entry, whose key names no timer of that
+    // number.
     index: Vec<Numbered>,
 }
 
@@ -28,9 +30,13 @@ impl Model for HeapTimers {
 
     ghost Value = { Content };
 
-    ghost view = { λ h. record { slots = h.tree.slots.items; spare = length h.tree.keys.items - length h.tree.slots.items } };
+    ghost view = { λ h. record {
+      slots = h.tree.slots.items;
+      spare = length h.tree.keys.items - length h.tree.slots.items;
+    } };
 
-    ghost invariant = { λ h. IsSound h.tree.slots.items h.tree.keys.items h.tree.places.items h.index.items (vec_capacity h.tree.slots) (vec_capacity h.index) };
+    ghost invariant = { λ h. IsSound h.tree.slots.items h.tree.keys.items h.tree.places.items
+        h.index.items (vec_capacity h.tree.slots) (vec_capacity h.index) };
 }
 
 impl HeapTimers {
@@ -65,7 +71,9 @@ impl HeapTimers {
         requires fresh { is_scheduled t.timer (in_order self.old.slots) ≡ false }
         ensures timers { in_order self.new.slots ≡ with_timer t (in_order self.old.slots) }
         ensures spare { self.new.spare + 1 ≡ self.old.spare }
-        ensures path { (k : ℕ) (d : Timer) → k < length self.old.slots → (OnPath k (length self.old.slots) → ⊥) → slice_index_or self.new.slots k d ≡ slice_index_or self.old.slots k d }
+        ensures path { (k : ℕ) (d : Timer) → k < length self.old.slots
+            → (OnPath k (length self.old.slots) → ⊥)
+            → slice_index_or self.new.slots k d ≡ slice_index_or self.old.slots k d }
     {
         let key = self.tree.keys[self.tree.slots.len()] as u64;
         make_room(&mut self.index, &self.tree);
@@ -76,7 +84,7 @@ impl HeapTimers {
                 key,
             },
         );
-        add(&mut self.tree, t);
+        self.tree.add(t);
     }
 }
 
@@ -100,7 +108,7 @@ impl TimerQueue for HeapTimers {
         // Half of the index may be entries of timers that left, so that they are seldom sought out.
         self.index
             .reserve(end.saturating_mul(2).saturating_sub(self.index.len()))?;
-        make_keys(&mut self.tree, end);
+        self.tree.make_keys(end);
         Ok(())
     }
 
@@ -112,20 +120,20 @@ impl TimerQueue for HeapTimers {
         let Some(entry) = entry_of(&self.index, timer) else {
             return false;
         };
-        let Some(place) = place_of(&self.tree, &entry) else {
+        let Some(place) = self.tree.place_of(&entry) else {
             return false;
         };
-        take_out(&mut self.tree, place);
+        self.tree.take_out(place);
         true
     }
 
     fn cancel_all(&mut self, handle: Handle) {
-        // From the last place to the first: where a timer is taken out, one from behind takes its place, which is not of this handle,
-        // or one from above, which is looked at next.
+        // From the last place to the first: where a timer is taken out, one from behind takes its
+        // place, which is not of this handle, or one from above, which is looked at next.
         let mut end = self.tree.slots.len();
         while end > 0 {
             if self.tree.slots[end - 1].handle.0 == handle.0 {
-                take_out(&mut self.tree, end - 1);
+                self.tree.take_out(end - 1);
                 end = end.min(self.tree.slots.len());
             } else {
                 end -= 1;
@@ -142,6 +150,6 @@ impl TimerQueue for HeapTimers {
         if now < t.deadline {
             return None;
         }
-        Some(take_out(&mut self.tree, 0))
+        Some(self.tree.take_out(0))
     }
 }

@@ -2,10 +2,11 @@
 ghost use Rattle.std.specs.Prelude.{◌≡◌, ◌<◌, length, vec_len, vec_capacity};
 ghost use Rattle.timer_heap.specs.Tree.{HasKeys, IsIndex};
 
-use crate::tree::{Tree, place_of};
+use crate::tree::Tree;
 use timer_index::Numbered;
 
-// Makes room for one entry more, where there is none, by forgetting the entries of timers that left.
+// Makes room for one entry more, where there is none, by forgetting the entries of timers that
+// left.
 pub fn make_room(index: &mut Vec<Numbered>, tree: &Tree)
     requires sound { IsIndex index.old.items tree.now.slots.items tree.now.keys.items }
     requires keyed { HasKeys tree.now }
@@ -17,5 +18,5 @@ pub fn make_room(index: &mut Vec<Numbered>, tree: &Tree)
     if index.len() < index.capacity() {
         return;
     }
-    index.retain(|entry| place_of(tree, entry).is_some());
+    index.retain(|entry| tree.place_of(entry).is_some());
 }

@@ -1,5 +1,6 @@
 //! Keys by the numbers of timers, in rising order of the numbers.
-ghost use Rattle.std.specs.Prelude.{◌≡◌, ◌≢◌, ◌<◌, ◌≤◌, ℕ, AllPairs, Contains, All, MatchOption, length, vec_len, vec_capacity};
+ghost use Rattle.std.specs.Prelude.{◌≡◌, ◌≢◌, ◌<◌, ◌≤◌, ℕ, AllPairs, Contains, All, MatchOption};
+ghost use Rattle.std.specs.Prelude.{length, vec_len, vec_capacity};
 ghost use Rattle.std.specs.List.{AllWithin};
 ghost use Rattle.std.specs.List.Sorted.{IsPermutation};
 ghost use Rattle.timer_index.specs.declared.index.Numbered.{Numbered};
@@ -12,8 +13,8 @@ pub struct Numbered {
     pub key: u64,
 }
 
-// The place of the first number that is not below this one. As timers are numbered in the order in which they are first scheduled, most
-// numbers are above all that are there.
+// The place of the first number that is not below this one. As timers are numbered in the order in
+// which they are first scheduled, most numbers are above all that are there.
 fn first_from(index: &[Numbered], timer: u64) -> usize
     requires { IsRising index.now }
     ensures bound { result ≤ length index.now }
@@ -29,9 +30,9 @@ fn first_from(index: &[Numbered], timer: u64) -> usize
 /// The entry of this number.
 pub fn entry_of(index: &[Numbered], timer: u64) -> Option<Numbered>
     requires { IsRising index.now }
-    ensures { MatchOption result
-        (All (λ e. e.timer ≢ timer) index.now)
-        (λ entry. (entry.timer ≡ timer) × ((key : ℕ) → Contains index.now (record { timer = timer; key = key }) → key ≡ entry.key)) }
+    ensures { MatchOption result (All (λ e. e.timer ≢ timer) index.now)
+        (λ entry. (entry.timer ≡ timer) × ((key : ℕ)
+        → Contains index.now (record { timer = timer; key = key }) → key ≡ entry.key)) }
 {
     let place = first_from(index, timer);
     if place < index.len() && index[place].timer == timer {
@@ -47,7 +48,8 @@ pub fn put(index: &mut Vec<Numbered>, entry: Numbered)
     requires room { vec_len index.old < vec_capacity index.old }
     ensures rising { IsRising index.new.items }
     ensures there { Contains index.new.items entry }
-    ensures others { (e : Numbered) → e.timer ≢ entry.timer → Contains index.old.items e → Contains index.new.items e }
+    ensures others { (e : Numbered) → e.timer ≢ entry.timer → Contains index.old.items e
+        → Contains index.new.items e }
     ensures capacity { vec_capacity index.old ≤ vec_capacity index.new }
 {
     let place = first_from(index, entry.timer);

@@ -1,4 +1,5 @@
-//! The index of a timer queue: a key for each timer by its number, so that a timer is found without a look at the others.
+//! The index of a timer queue: a key for each timer by its number, so that a timer is found without
+//! a look at the others.
 #![tactic(auto)]
 
 mod index;

@@ -1,12 +1,14 @@
 -- The list of timers that a timer queue stands for, and what each call does to it
 -- (C++NPv2 section 3.4, `ACE_Timer_Queue`; POSA2, Reactor, "timer queue").
-use Rattle.std.specs.Prelude.{ℕ, ◌≡◌, ◌≢◌, Bool, true, not, ◌&&◌, ◌||◌, ◌==◌, nat_lt, List, [], ◌∷◌, if◌then◌else◌, filter, AllPairs, Option, Some, None}
+use Rattle.std.specs.Prelude.{ℕ, ◌≡◌, ◌≢◌, Bool, true, not, ◌&&◌, ◌||◌, ◌==◌, nat_lt, List, [], ◌∷◌}
+use Rattle.std.specs.Prelude.{if◌then◌else◌, filter, AllPairs, Option, Some, None}
 use Rattle.std.specs.List.{list_any, list_all}
 use Rattle.timer_queue.specs.declared.timer.Timer.{Timer}
 
 -- the first timer comes before the second in order of (deadline, timer)
 abbrev pub comes_before : Timer → Timer → Bool
-comes_before a b = nat_lt a.deadline b.deadline || (a.deadline == b.deadline && nat_lt a.timer b.timer)
+comes_before a b = nat_lt a.deadline b.deadline
+    || (a.deadline == b.deadline && nat_lt a.timer b.timer)
 
 -- each timer comes before all those behind it
 abbrev pub is_rising : List Timer → Bool

@@ -1,5 +1,5 @@
-//! Timer queues (C++NPv2 section 3.4, `ACE_Timer_Queue`): the trait that every timer queue keeps, and the
-//! plain one over sorted rows.
+//! Timer queues (C++NPv2 section 3.4, `ACE_Timer_Queue`): the trait that every timer queue keeps,
+//! and the plain one over sorted rows.
 #![tactic(auto)]
 
 mod queue;

@@ -1,15 +1,18 @@
 //! What every timer queue does.
-ghost use Rattle.std.specs.Prelude.{◌≡◌, ◌≢◌, ◌≤◌, ◌<◌, ◌+◌, ◌∷◌, List, ℕ, length, All, false, true, OnOk, OnErr, IsOk, IfSome, OnSome, IfNone, if◌then◌else◌};
+ghost use Rattle.std.specs.Prelude.{◌≡◌, ◌≢◌, ◌≤◌, ◌<◌, ◌+◌, ◌∷◌, List, ℕ, length, All, false};
+ghost use Rattle.std.specs.Prelude.{true, OnOk, OnErr, IsOk, IfSome, OnSome, IfNone, if◌then◌else◌};
 ghost use Rattle.timer_queue.specs.declared.timer.Timer.{Timer};
-ghost use Rattle.timer_queue.specs.Timers.{is_scheduled, is_rising, names_once, with_timer, without_timer, without_handle, first_deadline};
+ghost use Rattle.timer_queue.specs.Timers.{is_scheduled, is_rising, names_once, with_timer};
+ghost use Rattle.timer_queue.specs.Timers.{without_timer, without_handle, first_deadline};
 
 use crate::Timer;
 use ev_types::{Handle, NoMemory};
 
-/// A timer queue: the timers that are scheduled, in order of (deadline, timer), and places for more.
+/// A timer queue: the timers that are scheduled, in order of (deadline, timer), and places for
+/// more.
 ///
-/// Only `reserve` takes memory. `schedule` uses one spare place, and each timer that leaves gives its place
-/// back.
+/// Only `reserve` takes memory. `schedule` uses one spare place, and each timer that leaves gives
+/// its place back.
 pub trait TimerQueue {
     /// The timers that are scheduled, in order of (deadline, timer).
     ghost timers: { Self → List Timer };
@@ -17,8 +20,8 @@ pub trait TimerQueue {
     /// How many more timers may be scheduled before `reserve` is called again.
     ghost spare: { Self → ℕ };
 
-    /// Makes at least `n` places spare. It answers `NoMemory` only where fewer were spare, and then all is as
-    /// before.
+    /// Makes at least `n` places spare. It answers `NoMemory` only where fewer were spare, and then
+    /// all is as before.
     fn reserve(&mut self, n: usize) -> Result<(), NoMemory>
         ensures timers { timers self.new ≡ timers self.old }
         ensures spare { OnOk result (n ≤ spare self.new) }
@@ -42,7 +45,8 @@ pub trait TimerQueue {
     /// Takes the timers of this handle out.
     fn cancel_all(&mut self, handle: Handle)
         ensures timers { timers self.new ≡ without_handle handle.0 (timers self.old) }
-        ensures spare { spare self.new + length (timers self.new) ≡ spare self.old + length (timers self.old) }
+        ensures spare { spare self.new + length (timers self.new)
+            ≡ spare self.old + length (timers self.old) }
         ensures kept { spare self.old ≤ spare self.new };
 
     /// The earliest deadline, or `None` where no timer is scheduled.
@@ -53,7 +57,8 @@ pub trait TimerQueue {
         ensures rising { is_rising (timers self.now) ≡ true }
         ensures once { names_once (timers self.now) ≡ true };
 
-    /// Takes out the first timer whose deadline is at most `now`, or answers `None` where there is none.
+    /// Takes out the first timer whose deadline is at most `now`, or answers `None` where there is
+    /// none.
     fn pop_due(&mut self, now: u64) -> Option<Timer>
         ensures taken { IfSome result (λ t. timers self.old ≡ t ∷ timers self.new) }
         ensures due { IfSome result (λ t. t.deadline ≤ now) }

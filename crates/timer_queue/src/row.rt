@@ -1,5 +1,7 @@
 //! A sorted row of timers.
-ghost use Rattle.std.specs.Prelude.{◌≡◌, ◌+◌, ◌-◌, ◌<◌, ◌≤◌, [], true, false, length, ◌∷◌, ◌++◌, IfSome, IfNone, OnSome, drop, insert, remove, slice_get, vec_len, vec_capacity};
+ghost use Rattle.std.specs.Prelude.{◌≡◌, ◌+◌, ◌-◌, ◌<◌, ◌≤◌, [], true, false, length, ◌∷◌, ◌++◌};
+ghost use Rattle.std.specs.Prelude.{IfSome, IfNone, OnSome, drop, insert, remove, slice_get};
+ghost use Rattle.std.specs.Prelude.{vec_len, vec_capacity};
 ghost use Rattle.std.specs.List.{AllWithin, list_all};
 ghost use Rattle.timer_queue.specs.Timers.{comes_before, is_rising, with_timer, IsSchedule};
 ghost use Rattle.timer_queue.specs.Sorted.{Found};
@@ -9,14 +11,15 @@ use ev_types::{Handle, NoMemory};
 use std::alloc::Global;
 use std::marker::Model;
 
-/// A timer queue that is one sorted row: a place is found by bisection, and what stands behind it moves. A timer that comes due last is
-/// put in, and the first taken out, without moving any other.
+/// A timer queue that is one sorted row: a place is found by bisection, and what stands behind it
+/// moves. A timer that comes due last is put in, and the first taken out, without moving any other.
 #[derive(Drop)]
 pub struct Row {
     // From `head` on in rising order of (deadline, timer). Those before it have been taken out.
     timers: Vec<Timer>,
     head: usize,
-    // How many timers fit. There are places for twice as many, so that those of timers taken out are seldom closed up.
+    // How many timers fit. There are places for twice as many, so that those of timers taken out
+    // are seldom closed up.
     room: usize,
 }
 
@@ -27,7 +30,10 @@ impl Model for Row {
 
     ghost Value = { Content };
 
-    ghost view = { λ q. record { timers = drop q.head q.timers.items; spare = q.room - (length q.timers.items - q.head) } };
+    ghost view = { λ q. record {
+      timers = drop q.head q.timers.items;
+      spare = q.room - (length q.timers.items - q.head);
+    } };
 
     ghost invariant = { λ q. IsSorted q.timers.items q.head q.room (vec_capacity q.timers) };
 }
@@ -78,14 +84,17 @@ impl Row {
         self.timers.get(self.head).copied()
     }
 
-    /// Takes those out that this timer does not come before, and puts them behind the timers of another row.
+    /// Takes those out that this timer does not come before, and puts them behind the timers of
+    /// another row.
     pub fn pass_before(&mut self, t: &Timer, to: &mut Row)
         requires order { IsSchedule (to.old.timers ++ self.old.timers) }
         requires room { length self.old.timers ≤ to.old.spare }
         ensures timers { to.new.timers ++ self.new.timers ≡ to.old.timers ++ self.old.timers }
         ensures behind { list_all (λ u. comes_before t.now u) self.new.timers ≡ true }
-        ensures spare { self.new.spare + length self.new.timers ≡ self.old.spare + length self.old.timers }
-        ensures spare_there { to.new.spare + length to.new.timers ≡ to.old.spare + length to.old.timers }
+        ensures spare { self.new.spare + length self.new.timers
+            ≡ self.old.spare + length self.old.timers }
+        ensures spare_there { to.new.spare + length to.new.timers
+            ≡ to.old.spare + length to.old.timers }
     {
         let end = self.head + count_before(&self.timers[self.head..], t);
         to.append(&self.timers[self.head..end]);
@@ -99,7 +108,8 @@ impl Row {
         ensures timers { to.new.timers ≡ to.old.timers ++ self.old.timers }
         ensures empty { self.new.timers ≡ [] }
         ensures spare { self.new.spare ≡ self.old.spare + length self.old.timers }
-        ensures spare_there { to.new.spare + length to.new.timers ≡ to.old.spare + length to.old.timers }
+        ensures spare_there { to.new.spare + length to.new.timers
+            ≡ to.old.spare + length to.old.timers }
     {
         to.append(&self.timers[self.head..]);
         self.timers.clear();
@@ -212,7 +222,8 @@ fn count_before(timers: &[Timer], t: &Timer) -> usize
     requires { is_rising timers.now ≡ true }
     ensures within { result ≤ length timers.now }
     ensures front { AllWithin (λ u. comes_before t.now u ≡ false) timers.now 0 result }
-    ensures back { AllWithin (λ u. comes_before t.now u ≡ true) timers.now result (length timers.now) }
+    ensures back { AllWithin (λ u. comes_before t.now u ≡ true) timers.now result
+        (length timers.now) }
 {
     timers.partition_point(|u| !t.comes_before(u))
 }
@@ -263,8 +274,8 @@ fn pull_back(timers: &mut [Timer], head: usize, place: usize)
     timers[head..head + place + 1].rotate_right(1);
 }
 
-// Takes the timer at a place from `head` on out, and moves the fewer of those before it and those behind it. The answer is where the
-// rest begins.
+// Takes the timer at a place from `head` on out, and moves the fewer of those before it and those
+// behind it. The answer is where the rest begins.
 fn take_at(timers: &mut Vec<Timer>, head: usize, place: usize) -> usize
     requires { head + place < length timers.old.items }
     ensures items { drop result timers.new.items ≡ remove (drop head timers.old.items) place }

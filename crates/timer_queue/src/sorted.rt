@@ -14,8 +14,8 @@ use std::mem;
 /// How many timers stand apart before the list takes them in.
 const RECENT: usize = 1_024;
 
-/// A timer queue that is a sorted list. Timers that were scheduled last stand in a short row of their own, so that few move where one
-/// is put in; where that is full, both are put together.
+/// A timer queue that is a sorted list. Timers that were scheduled last stand in a short row of
+/// their own, so that few move where one is put in; where that is full, both are put together.
 #[derive(Drop)]
 pub struct SortedTimers {
     list: Row,
@@ -34,9 +34,13 @@ impl Model for SortedTimers {
 
     ghost Value = { Content };
 
-    ghost view = { λ q. record { timers = in_order (q.recent.timers ++ q.list.timers); spare = q.room - (length q.recent.timers + length q.list.timers) } };
+    ghost view = { λ q. record {
+      timers = in_order (q.recent.timers ++ q.list.timers);
+      spare = q.room - (length q.recent.timers + length q.list.timers);
+    } };
 
-    ghost invariant = { λ q. AreRows q.recent.timers q.list.timers q.merged.timers q.room q.list.spare q.merged.spare };
+    ghost invariant = { λ q. AreRows q.recent.timers q.list.timers q.merged.timers q.room
+        q.list.spare q.merged.spare };
 }
 
 impl SortedTimers {

@@ -8,7 +8,8 @@ use ev_types::Handle;
 pub struct Timer {
     /// The moment at which it comes due, in milliseconds.
     pub deadline: u64,
-    /// The timer's number: timers are numbered from 0 in the order in which they are first scheduled.
+    /// The timer's number: timers are numbered from 0 in the order in which they are first
+    /// scheduled.
     pub timer: u64,
     /// The handle whose event handler is called.
     pub handle: Handle,

@@ -1,5 +1,7 @@
 -- How a wheel keeps its chains.
-use Rattle.std.specs.Prelude.{ℕ, ◌≡◌, ◌≢◌, ◌<◌, ◌≤◌, ◌-◌, ◌/◌, ◌==◌, Bool, true, not, List, [], ◌∷◌, ◌++◌, length, slice_get, slice_index_or, slice_set, Contains, Option, Some, None, if◌then◌else◌}
+use Rattle.std.specs.Prelude.{ℕ, ◌≡◌, ◌≢◌, ◌<◌, ◌≤◌, ◌-◌, ◌/◌, ◌==◌, Bool, true, not, List, [], ◌∷◌}
+use Rattle.std.specs.Prelude.{◌++◌, length, slice_get, slice_index_or, slice_set, Contains, Option}
+use Rattle.std.specs.Prelude.{Some, None, if◌then◌else◌}
 use Rattle.std.specs.List.{list_all}
 use Rattle.timer_queue.specs.declared.timer.Timer.{Timer}
 use Rattle.timer_queue.specs.Timers.{comes_before, in_order, AreApart}
@@ -9,15 +11,20 @@ use Rattle.timer_wheel.specs.Spokes.{of_spoke, timers_of, Follows}
 -- the chain from here leads over these timers to there
 abbrev pub Reaches : List Place → Option ℕ → List Timer → Option ℕ → Type 0
 Reaches places at [] there = at ≡ there
-Reaches places at (t ∷ rest) there = (k : ℕ) × (at ≡ Some k) × (p : Place) × (slice_get places k ≡ Some p) × (p.timer ≡ t) × Reaches places p.next rest there
+Reaches places at (t ∷ rest) there =
+    (k : ℕ) × (at ≡ Some k) × (p : Place) × (slice_get places k ≡ Some p) × (p.timer ≡ t)
+    × Reaches places p.next rest there
 
 -- the last place of the way over these timers
 abbrev pub IsLast : List Place → Option ℕ → List Timer → Option ℕ → Type 0
 IsLast places at front None = front ≡ []
-IsLast places at front (Some q) = (before : List Timer) × (p : Place) × (front ≡ before ++ p.timer ∷ []) × (slice_get places q ≡ Some p) × Reaches places at before (Some q)
+IsLast places at front (Some q) = (before : List Timer) × (p : Place)
+    × (front ≡ before ++ p.timer ∷ []) × (slice_get places q ≡ Some p)
+    × Reaches places at before (Some q)
 
 -- the way so far: these timers come before t and lead here, and the others follow
-pub record Walked (places : List Place) (head : Option ℕ) (t : Timer) (timers : List Timer) (last at : Option ℕ) : Type 0 where
+pub record Walked (places : List Place) (head : Option ℕ) (t : Timer) (timers : List Timer)
+    (last at : Option ℕ) : Type 0 where
   pub front : List Timer
   pub back : List Timer
   pub whole : timers ≡ front ++ back
@@ -28,10 +35,12 @@ pub record Walked (places : List Place) (head : Option ℕ) (t : Timer) (timers 
 
 -- where there is a place to begin behind, its timer is one of these and comes before t
 abbrev pub IsStart : List Place → List Timer → Timer → Option ℕ → Type 0
-IsStart places timers t start = (k : ℕ) (p : Place) → start ≡ Some k → slice_get places k ≡ Some p → Contains timers p.timer × (comes_before p.timer t ≡ true)
+IsStart places timers t start = (k : ℕ) (p : Place) → start ≡ Some k → slice_get places k ≡ Some p
+    → Contains timers p.timer × (comes_before p.timer t ≡ true)
 
 -- the gap of t in a chain: all in front of it come before t, and none behind it does
-pub record IsGap (places : List Place) (head : Option ℕ) (t : Timer) (timers : List Timer) (last at : Option ℕ) : Type 0 where
+pub record IsGap (places : List Place) (head : Option ℕ) (t : Timer) (timers : List Timer)
+    (last at : Option ℕ) : Type 0 where
   pub way : Walked places head t timers last at
   pub behind : list_all (λ u. not (comes_before u t)) way.back ≡ true
 
@@ -59,10 +68,13 @@ linked_places places (Some q) to = with_next places q to (slice_get places q)
 
 -- the chain of each spoke has the timers of the list that stand in it
 abbrev pub AreChains : ℕ → ℕ → List (Option ℕ) → List Place → List Timer → Type 0
-AreChains spokes resolution heads places timers = (s : ℕ) → s < spokes → Follows places (slice_index_or heads s None) (of_spoke spokes resolution s timers)
+AreChains spokes resolution heads places timers =
+    (s : ℕ) → s < spokes → Follows places (slice_index_or heads s None)
+    (of_spoke spokes resolution s timers)
 
 -- what a wheel keeps
-pub record IsWheel (spokes resolution : ℕ) (heads : List (Option ℕ)) (places : List Place) (first : Option Timer) : Type 0 where
+pub record IsWheel (spokes resolution : ℕ) (heads : List (Option ℕ)) (places : List Place)
+    (first : Option Timer) : Type 0 where
   pub some_spokes : 0 < spokes
   pub ticks : 0 < resolution
   pub each_spoke : length heads ≡ spokes
@@ -72,16 +84,19 @@ pub record IsWheel (spokes resolution : ℕ) (heads : List (Option ℕ)) (places
 
 -- the list has the timer of each place but this one
 pub record HasAllBut (hole : ℕ) (places : List Place) (timers : List Timer) : Type 0 where
-  pub others : (k : ℕ) (p : Place) → k ≢ hole → slice_get places k ≡ Some p → Contains timers p.timer
+  pub others : (k : ℕ) (p : Place) → k ≢ hole → slice_get places k ≡ Some p
+      → Contains timers p.timer
   pub lacks : (p : Place) → slice_get places hole ≡ Some p → Contains timers p.timer → ⊥
 
 -- each timer of the second places stands among the first at that place or at a later one
 abbrev pub ComesForward : List Place → List Place → Type 0
-ComesForward places new = (k : ℕ) (q : Place) → slice_get new k ≡ Some q → (i : ℕ) × (k ≤ i) × (p : Place) × (slice_get places i ≡ Some p) × (p.timer ≡ q.timer)
+ComesForward places new = (k : ℕ) (q : Place) → slice_get new k ≡ Some q → (i : ℕ) × (k ≤ i)
+    × (p : Place) × (slice_get places i ≡ Some p) × (p.timer ≡ q.timer)
 
 -- the places from this one on have no timer of the handle
 abbrev pub IsClear : ℕ → List Place → ℕ → Type 0
-IsClear handle places from = (k : ℕ) (p : Place) → from ≤ k → slice_get places k ≡ Some p → p.timer.handle.0 ≢ handle
+IsClear handle places from = (k : ℕ) (p : Place) → from ≤ k → slice_get places k ≡ Some p
+    → p.timer.handle.0 ≢ handle
 
 -- the one of the two that comes first
 abbrev pub earlier_of : Option Timer → Timer → Option Timer
@@ -109,7 +124,8 @@ earlier_at first (t ∷ rest) = earlier_of first t
 -- the timer at a head, where its tick is so many after another
 abbrev pub in_tick : ℕ → ℕ → ℕ → List Timer → Option Timer
 in_tick resolution tick turn [] = None
-in_tick resolution tick turn (t ∷ rest) = if t.deadline / resolution - tick == turn then Some t else None
+in_tick resolution tick turn (t ∷ rest) =
+    if t.deadline / resolution - tick == turn then Some t else None
 
 -- t is not the first
 abbrev pub is_behind : Option Timer → Timer → Bool

@@ -16,7 +16,8 @@ abbrev pub Covers : List Numbered → List Timer → Type 0
 Covers index timers = (t : Timer) → Contains timers t → Contains index (entry_of_timer t)
 
 -- what a wheel keeps with its index: room in both for as many timers as fit
-pub record IsKept (spokes resolution : ℕ) (heads : List (Option ℕ)) (places : List Place) (first : Option Timer) (index : List Numbered) (room places_room index_room : ℕ) : Type 0 where
+pub record IsKept (spokes resolution : ℕ) (heads : List (Option ℕ)) (places : List Place)
+    (first : Option Timer) (index : List Numbered) (room places_room index_room : ℕ) : Type 0 where
   pub wheel : IsWheel spokes resolution heads places first
   pub rising : IsRising index
   pub covers : Covers index (timers_of places)

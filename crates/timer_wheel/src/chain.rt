@@ -1,12 +1,16 @@
 //! The chains of a wheel: the places of each spoke, linked in order of (deadline, timer).
-ghost use Rattle.std.specs.Prelude.{◌≡◌, ◌<◌, ◌≤◌, ◌%◌, ◌/◌, ◌++◌, ◌∷◌, [], ℕ, List, length, true, false, vec_len, vec_capacity, replicate, None, Some, IfOk, IfSome, IfNone, slice_get, Contains};
+ghost use Rattle.std.specs.Prelude.{◌≡◌, ◌<◌, ◌≤◌, ◌%◌, ◌/◌, ◌++◌, ◌∷◌, [], ℕ, List, length, true};
+ghost use Rattle.std.specs.Prelude.{false, vec_len, vec_capacity, replicate, None, Some, IfOk};
+ghost use Rattle.std.specs.Prelude.{IfSome, IfNone, slice_get, Contains};
 ghost use Rattle.std.specs.List.Sorted.{IsPermutation};
 ghost use Rattle.timer_queue.specs.declared.timer.Timer.{Timer};
-ghost use Rattle.timer_queue.specs.Timers.{is_rising, is_scheduled, with_timer, without_timer, in_order, AreApart, IsSchedule};
+ghost use Rattle.timer_queue.specs.Timers.{is_rising, is_scheduled, with_timer, without_timer};
+ghost use Rattle.timer_queue.specs.Timers.{in_order, AreApart, IsSchedule};
 ghost use Rattle.timer_wheel.specs.declared.place.Place.{Place};
 ghost use Rattle.timer_wheel.specs.Spokes.{Follows, spoke_of, timers_of};
 ghost use Rattle.timer_wheel.specs.Index.{entry_of_timer};
-ghost use Rattle.timer_wheel.specs.Chains.{IsGap, IsStart, ComesForward, Walked, AreChains, HasAllBut, linked_heads, linked_places};
+ghost use Rattle.timer_wheel.specs.Chains.{IsGap, IsStart, ComesForward, Walked, AreChains};
+ghost use Rattle.timer_wheel.specs.Chains.{HasAllBut, linked_heads, linked_places};
 
 use crate::Place;
 use crate::hint::{follow, name_place, start_for};
@@ -34,10 +38,13 @@ pub fn spoke(spokes: usize, resolution: u64, deadline: u64) -> usize
     ((deadline / resolution) % spokes as u64) as usize
 }
 
-// Where the way to a timer begins: behind a place whose timer comes before it, or at the head of the chain.
+// Where the way to a timer begins: behind a place whose timer comes before it, or at the head of
+// the chain.
 fn start_of(places: &[Place], head: Option<usize>, start: Option<usize>) -> Gap
     requires { AreApart (timers_of places.now) }
-    ensures { (t : Timer) (timers : List Timer) → Follows places.now head timers → is_rising timers ≡ true → IsStart places.now timers t start → Walked places.now head t timers result.last result.at }
+    ensures { (t : Timer) (timers : List Timer) → Follows places.now head timers
+        → is_rising timers ≡ true → IsStart places.now timers t start
+        → Walked places.now head t timers result.last result.at }
 {
     let Some(k) = start else {
         return Gap {
@@ -60,7 +67,9 @@ fn start_of(places: &[Place], head: Option<usize>, start: Option<usize>) -> Gap
 // Goes along a chain over the timers that come before this one.
 pub fn gap_of(places: &[Place], head: Option<usize>, start: Option<usize>, t: &Timer) -> Gap
     requires { AreApart (timers_of places.now) }
-    ensures { (timers : List Timer) → Follows places.now head timers → length timers ≤ length places.now → is_rising timers ≡ true → IsStart places.now timers t.now start
+    ensures { (timers : List Timer) → Follows places.now head timers
+        → length timers ≤ length places.now → is_rising timers ≡ true
+        → IsStart places.now timers t.now start
         → IsGap places.now head t.now timers result.last result.at }
 {
     let begin = start_of(places, head, start);
@@ -124,10 +133,12 @@ pub fn add(
     requires room { vec_len places.old < vec_capacity places.old }
     requires apart { AreApart (timers_of places.old.items) }
     requires fresh { is_scheduled t.timer (timers_of places.old.items) ≡ false }
-    requires chains { AreChains (length heads.old.items) resolution heads.old.items places.old.items (in_order (timers_of places.old.items)) }
+    requires chains { AreChains (length heads.old.items) resolution heads.old.items places.old.items
+        (in_order (timers_of places.old.items)) }
     ensures timers { timers_of places.new.items ≡ timers_of places.old.items ++ t ∷ [] }
     ensures heads { length heads.new.items ≡ length heads.old.items }
-    ensures chains { AreChains (length heads.new.items) resolution heads.new.items places.new.items (with_timer t (in_order (timers_of places.old.items))) }
+    ensures chains { AreChains (length heads.new.items) resolution heads.new.items places.new.items
+        (with_timer t (in_order (timers_of places.old.items))) }
     ensures capacity { vec_capacity places.new ≡ vec_capacity places.old }
 {
     let spoke = spoke(heads.len(), resolution, t.deadline);
@@ -143,7 +154,8 @@ pub fn add(
     name_place(hints, resolution, &t, place);
 }
 
-// The timer of an entry, where it is there. It is looked for in the chain of its spoke, from a hint on.
+// The timer of an entry, where it is there. It is looked for in the chain of its spoke, from a hint
+// on.
 pub fn find(
     heads: &[Option<usize>],
     places: &[Place],
@@ -154,10 +166,12 @@ pub fn find(
     requires ticks { 0 < resolution }
     requires spokes { 0 < length heads.now }
     requires apart { AreApart (timers_of places.now) }
-    requires chains { AreChains (length heads.now) resolution heads.now places.now (in_order (timers_of places.now)) }
+    requires chains { AreChains (length heads.now) resolution heads.now places.now
+        (in_order (timers_of places.now)) }
     ensures there { IfSome result (λ t. Contains (timers_of places.now) t) }
     ensures number { IfSome result (λ t. t.timer ≡ entry.timer) }
-    ensures none { IfNone result ((t : Timer) → Contains (timers_of places.now) t → entry_of_timer t ≡ entry → ⊥) }
+    ensures none { IfNone result ((t : Timer) → Contains (timers_of places.now) t
+        → entry_of_timer t ≡ entry → ⊥) }
 {
     let sought = Timer {
         deadline: entry.key,
@@ -200,9 +214,12 @@ fn fill(
     requires spokes { 0 < length heads.old.items }
     requires within { hole < length places.old.items }
     requires apart { AreApart (timers_of places.old.items) }
-    ensures chains { (timers : List Timer) → IsSchedule timers → HasAllBut hole places.old.items timers → length timers ≤ length places.old.items
-        → AreChains (length heads.old.items) resolution heads.old.items places.old.items timers → AreChains (length heads.old.items) resolution heads.new.items places.new.items timers }
-    ensures timers { (p : Place) → slice_get places.old.items hole ≡ Some p → IsPermutation (timers_of places.old.items) (p.timer ∷ timers_of places.new.items) }
+    ensures chains { (timers : List Timer) → IsSchedule timers
+        → HasAllBut hole places.old.items timers → length timers ≤ length places.old.items
+        → AreChains (length heads.old.items) resolution heads.old.items places.old.items timers
+        → AreChains (length heads.old.items) resolution heads.new.items places.new.items timers }
+    ensures timers { (p : Place) → slice_get places.old.items hole ≡ Some p
+        → IsPermutation (timers_of places.old.items) (p.timer ∷ timers_of places.new.items) }
     ensures heads { length heads.new.items ≡ length heads.old.items }
     ensures forward { ComesForward places.old.items places.new.items }
     ensures capacity { vec_capacity places.new ≡ vec_capacity places.old }
@@ -234,9 +251,11 @@ pub fn take_out(
     requires spokes { 0 < length heads.old.items }
     requires apart { AreApart (timers_of places.old.items) }
     requires there { Contains (timers_of places.old.items) t }
-    requires chains { AreChains (length heads.old.items) resolution heads.old.items places.old.items (in_order (timers_of places.old.items)) }
+    requires chains { AreChains (length heads.old.items) resolution heads.old.items places.old.items
+        (in_order (timers_of places.old.items)) }
     ensures timers { IsPermutation (timers_of places.old.items) (t ∷ timers_of places.new.items) }
-    ensures chains { AreChains (length heads.new.items) resolution heads.new.items places.new.items (without_timer t.timer (in_order (timers_of places.old.items))) }
+    ensures chains { AreChains (length heads.new.items) resolution heads.new.items places.new.items
+        (without_timer t.timer (in_order (timers_of places.old.items))) }
     ensures heads { length heads.new.items ≡ length heads.old.items }
     ensures forward { ComesForward places.old.items places.new.items }
     ensures capacity { vec_capacity places.new ≡ vec_capacity places.old }

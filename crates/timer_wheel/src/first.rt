@@ -3,7 +3,8 @@ ghost use Rattle.std.specs.Prelude.{◌≡◌, ◌<◌, ◌≤◌, length, All};
 ghost use Rattle.timer_queue.specs.declared.timer.Timer.{Timer};
 ghost use Rattle.timer_queue.specs.Timers.{in_order, AreApart};
 ghost use Rattle.timer_wheel.specs.Spokes.{timers_of};
-ghost use Rattle.timer_wheel.specs.Chains.{AreChains, earlier_at, earlier_of, IsEarliest, head_timer, in_tick, is_behind};
+ghost use Rattle.timer_wheel.specs.Chains.{AreChains, earlier_at, earlier_of, IsEarliest};
+ghost use Rattle.timer_wheel.specs.Chains.{head_timer, in_tick, is_behind};
 
 use crate::Place;
 use crate::chain::spoke;
@@ -62,7 +63,8 @@ fn first_of_heads(heads: &[Option<usize>], places: &[Place], resolution: u64) ->
     requires ticks { 0 < resolution }
     requires spokes { 0 < length heads.now }
     requires apart { AreApart (timers_of places.now) }
-    requires chains { AreChains (length heads.now) resolution heads.now places.now (in_order (timers_of places.now)) }
+    requires chains { AreChains (length heads.now) resolution heads.now places.now
+        (in_order (timers_of places.now)) }
     ensures { IsEarliest places.now result }
 {
     let mut first = None;
@@ -72,12 +74,14 @@ fn first_of_heads(heads: &[Option<usize>], places: &[Place], resolution: u64) ->
     first
 }
 
-// The first of the timers. It looks at no more of them than there are, and at no more than there are spokes.
+// The first of the timers. It looks at no more of them than there are, and at no more than there
+// are spokes.
 pub fn find_first(heads: &[Option<usize>], places: &[Place], resolution: u64) -> Option<Timer>
     requires ticks { 0 < resolution }
     requires spokes { 0 < length heads.now }
     requires apart { AreApart (timers_of places.now) }
-    requires chains { AreChains (length heads.now) resolution heads.now places.now (in_order (timers_of places.now)) }
+    requires chains { AreChains (length heads.now) resolution heads.now places.now
+        (in_order (timers_of places.now)) }
     ensures { IsEarliest places.now result }
 {
     if places.len() <= heads.len() {
@@ -106,7 +110,8 @@ fn head_of_tick(
     }
 }
 
-// How many ticks are tried before all timers are looked at: none where there are few timers, and no more than a turn of the wheel.
+// How many ticks are tried before all timers are looked at: none where there are few timers, and no
+// more than a turn of the wheel.
 fn ticks_to_try(spokes: usize, timers: usize) -> usize {
     if timers < spokes / 2 {
         return 0;
@@ -114,8 +119,8 @@ fn ticks_to_try(spokes: usize, timers: usize) -> usize {
     spokes.min(timers / 4)
 }
 
-// The first of the timers, where none comes due before `from`. It is sought tick by tick from that moment on, and behind a turn of the
-// wheel, or sooner where there are few timers, among all.
+// The first of the timers, where none comes due before `from`. It is sought tick by tick from that
+// moment on, and behind a turn of the wheel, or sooner where there are few timers, among all.
 pub fn find_next(
     heads: &[Option<usize>],
     places: &[Place],
@@ -125,7 +130,8 @@ pub fn find_next(
     requires ticks { 0 < resolution }
     requires spokes { 0 < length heads.now }
     requires apart { AreApart (timers_of places.now) }
-    requires chains { AreChains (length heads.now) resolution heads.now places.now (in_order (timers_of places.now)) }
+    requires chains { AreChains (length heads.now) resolution heads.now places.now
+        (in_order (timers_of places.now)) }
     requires from { All (λ (t : Timer). from ≤ t.deadline) (timers_of places.now) }
     ensures { IsEarliest places.now result }
 {

@@ -1,4 +1,5 @@
-//! Hints: for a tick, a place near which its timers stood. A hint may be out of date, so that it is only a place to try.
+//! Hints: for a tick, a place near which its timers stood. A hint may be out of date, so that it is
+//! only a place to try.
 ghost use Rattle.std.specs.Prelude.{◌≡◌, ◌≢◌, ◌<◌, ℕ, true, length, slice_get, Some};
 ghost use Rattle.timer_queue.specs.Timers.{comes_before};
 ghost use Rattle.timer_wheel.specs.declared.place.Place.{Place};
@@ -29,7 +30,8 @@ fn is_near(places: &[Place], head: Option<usize>, t: &Timer) -> bool {
     false
 }
 
-// A place but `hole` whose timer stands in the spoke of this one and comes before it, where a hint names one and the head is not near.
+// A place but `hole` whose timer stands in the spoke of this one and comes before it, where a hint
+// names one and the head is not near.
 pub fn start_for(
     hints: &[usize],
     places: &[Place],
@@ -41,7 +43,9 @@ pub fn start_for(
 ) -> Option<usize>
     requires spokes { 0 < spokes }
     requires ticks { 0 < resolution }
-    ensures { (k : ℕ) (p : Place) → result ≡ Some k → slice_get places.now k ≡ Some p → (k ≢ hole) × (spoke_of spokes resolution p.timer.deadline ≡ spoke_of spokes resolution t.now.deadline) × (comes_before p.timer t.now ≡ true) }
+    ensures { (k : ℕ) (p : Place) → result ≡ Some k → slice_get places.now k ≡ Some p → (k ≢ hole)
+        × (spoke_of spokes resolution p.timer.deadline ≡ spoke_of spokes resolution t.now.deadline)
+        × (comes_before p.timer t.now ≡ true) }
 {
     if is_near(places, head, t) {
         return None;
@@ -77,7 +81,9 @@ fn is_start(
 ) -> bool
     requires spokes { 0 < spokes }
     requires ticks { 0 < resolution }
-    ensures { (p : Place) → result ≡ true → slice_get places.now k ≡ Some p → (spoke_of spokes resolution p.timer.deadline ≡ own) × (comes_before p.timer t.now ≡ true) }
+    ensures { (p : Place) → result ≡ true → slice_get places.now k ≡ Some p
+        → (spoke_of spokes resolution p.timer.deadline ≡ own)
+        × (comes_before p.timer t.now ≡ true) }
 {
     match places.get(k) {
         Some(place) => {
@@ -98,7 +104,8 @@ pub fn name_place(hints: &mut Vec<usize>, resolution: u64, t: &Timer, place: usi
     hints[at] = place;
 }
 
-// Has the hint of a timer that moves from the last place follow it, as one that names no place any more.
+// Has the hint of a timer that moves from the last place follow it, as one that names no place any
+// more.
 pub fn follow(hints: &mut Vec<usize>, resolution: u64, t: &Timer, last: usize, place: usize)
     requires { 0 < resolution }
 {

@@ -1,5 +1,5 @@
-//! The index of a wheel: the deadlines of its timers by their numbers. A deadline leads to the chain that its timer stands in, and stays
-//! right wherever the timer moves.
+//! The index of a wheel: the deadlines of its timers by their numbers. A deadline leads to the
+//! chain that its timer stands in, and stays right wherever the timer moves.
 ghost use Rattle.std.specs.Prelude.{◌≡◌, ◌≤◌, ◌<◌, false, length, vec_len, vec_capacity, Contains};
 ghost use Rattle.timer_queue.specs.Timers.{is_scheduled, AreApart};
 ghost use Rattle.timer_index.specs.Index.{IsRising};

@@ -1,5 +1,6 @@
 //! The timer wheel.
-ghost use Rattle.std.specs.Prelude.{◌≡◌, ◌≤◌, ◌<◌, ℕ, [], IfOk, length, slice_index_or, None, Contains, ◌∷◌, vec_capacity};
+ghost use Rattle.std.specs.Prelude.{◌≡◌, ◌≤◌, ◌<◌, ℕ, [], IfOk, length, slice_index_or, None};
+ghost use Rattle.std.specs.Prelude.{Contains, ◌∷◌, vec_capacity};
 ghost use Rattle.std.specs.List.Sorted.{IsPermutation};
 ghost use Rattle.timer_queue.specs.Timers.{in_order};
 ghost use Rattle.timer_wheel.specs.Chains.{ComesForward, IsWheel};
@@ -16,18 +17,20 @@ use std::marker::Model;
 use timer_index::{Numbered, entry_of};
 use timer_queue::{Timer, TimerQueue};
 
-/// How many entries the index has room for at least, so that with few timers it is seldom made anew.
+/// How many entries the index has room for at least, so that with few timers it is seldom made
+/// anew.
 const LEAST_ENTRIES: usize = 512;
 
-/// A timer queue that is a wheel of `SPOKES` chains. A timer stands in the spoke of its tick, which is its
-/// deadline by the resolution.
+/// A timer queue that is a wheel of `SPOKES` chains. A timer stands in the spoke of its tick, which
+/// is its deadline by the resolution.
 #[derive(Drop)]
 pub struct WheelTimers<const SPOKES: usize> {
     // The first place of each spoke.
     heads: Vec<Option<usize>>,
     // The timers that are scheduled. Each is in the chain of its spoke.
     places: Vec<Place>,
-    // For ticks, places near which their timers stand. One may be out of date: it is looked at only for where to begin.
+    // For ticks, places near which their timers stand. One may be out of date: it is looked at only
+    // for where to begin.
     hints: Vec<usize>,
     // The milliseconds of a tick.
     resolution: u64,
@@ -46,14 +49,20 @@ impl<const SPOKES: usize> Model for WheelTimers<SPOKES> {
 
     ghost Value = { Content };
 
-    ghost view = { λ w. record { heads = w.heads.items; places = w.places.items; resolution = w.resolution; spare = w.room - length w.places.items } };
+    ghost view = { λ w. record {
+      heads = w.heads.items;
+      places = w.places.items;
+      resolution = w.resolution;
+      spare = w.room - length w.places.items;
+    } };
 
-    ghost invariant = { λ w. IsKept SPOKES w.resolution w.heads.items w.places.items w.first w.index.items w.room (vec_capacity w.places) (vec_capacity w.index) };
+    ghost invariant = { λ w. IsKept SPOKES w.resolution w.heads.items w.places.items w.first
+        w.index.items w.room (vec_capacity w.places) (vec_capacity w.index) };
 }
 
 impl<const SPOKES: usize> WheelTimers<SPOKES> {
-    /// An empty timer wheel of 1 to 4,096 spokes and at least 1 millisecond a tick. It holds the memory of its
-    /// heads alone.
+    /// An empty timer wheel of 1 to 4,096 spokes and at least 1 millisecond a tick. It holds the
+    /// memory of its heads alone.
     pub fn new(alloc: Global, resolution: u64) -> Result<WheelTimers<SPOKES>, NoMemory>
         requires spokes { 1 ≤ SPOKES }
         requires most { SPOKES ≤ 4096 }
@@ -73,12 +82,14 @@ impl<const SPOKES: usize> WheelTimers<SPOKES> {
         })
     }
 
-    /// Lends the first place of each spoke's chain. The chain along `next` has the timers of the spoke, in
-    /// order of (deadline, timer).
+    /// Lends the first place of each spoke's chain. The chain along `next` has the timers of the
+    /// spoke, in order of (deadline, timer).
     pub fn heads(&self) -> &[Option<usize>]
         ensures heads { result.now ≡ self.now.heads }
         ensures spokes { length result.now ≡ SPOKES }
-        ensures chains { (spoke : ℕ) → spoke < SPOKES → Follows self.now.places (slice_index_or result.now spoke None) (of_spoke SPOKES self.now.resolution spoke (in_order (timers_of self.now.places))) }
+        ensures chains { (spoke : ℕ) → spoke < SPOKES → Follows self.now.places
+            (slice_index_or result.now spoke None)
+            (of_spoke SPOKES self.now.resolution spoke (in_order (timers_of self.now.places))) }
     {
         &self.heads
     }
@@ -154,7 +165,8 @@ impl<const SPOKES: usize> TimerQueue for WheelTimers<SPOKES> {
     }
 
     fn cancel_all(&mut self, handle: Handle) {
-        // From the last place to the first: where a timer is taken out the last comes in its place, which is not of this handle.
+        // From the last place to the first: where a timer is taken out the last comes in its place,
+        // which is not of this handle.
         let mut end = self.places.len();
         while end > 0 {
             end -= 1;
@@ -202,9 +214,11 @@ fn remove(
     resolution: u64,
     t: Timer,
 )
-    requires wheel { IsWheel (length heads.old.items) resolution heads.old.items places.old.items first.old }
+    requires wheel { IsWheel (length heads.old.items) resolution heads.old.items places.old.items
+        first.old }
     requires there { Contains (timers_of places.old.items) t }
-    ensures wheel { IsWheel (length heads.old.items) resolution heads.new.items places.new.items first.new }
+    ensures wheel { IsWheel (length heads.old.items) resolution heads.new.items places.new.items
+        first.new }
     ensures timers { IsPermutation (timers_of places.old.items) (t ∷ timers_of places.new.items) }
     ensures forward { ComesForward places.old.items places.new.items }
     ensures capacity { vec_capacity places.new ≡ vec_capacity places.old }

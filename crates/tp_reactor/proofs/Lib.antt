@@ -11,3 +11,4 @@ pub mod Grows
 pub mod Solo
 pub mod Pooled
 pub mod Seats
+pub mod Merged

@@ -1,13 +1,13 @@
 -- Hired workers, before and after their loops.
 use Rattle.std.specs.Prelude.{ℕ, ◌≡◌, ◌<◌, ◌≤◌, ◌+◌, ◌^◌, List, [], ◌∷◌, length, Option, false}
-use Rattle.ev_types.specs.declared.upcall.Handle.{Handle}
+use Rattle.ev_base.specs.ev_types.specs.declared.upcall.Handle.{Handle}
 use Rattle.leader_token.specs.Passes.{split_right}
 use Rattle.leader_token.specs.declared.kept.Kept.{Ghosts as Keeping}
 use Rattle.leader_token.specs.declared.kept.View.{View}
 use Rattle.notify_ring.specs.Passes as ring
 use Rattle.notify_ring.specs.Words.{poster_view}
 use Rattle.notify_ring.specs.declared.view.View.{View as RingView}
-use Rattle.reactor_journal.specs.declared.entry.Entry.{Entry}
+use Rattle.reactor_model.specs.reactor_journal.specs.declared.entry.Entry.{Entry}
 use Rattle.reactor_core.specs.Polling.{FitsLimit}
 use Rattle.reactor_core.specs.Stands.{Meaning}
 use Rattle.reactor_desk.specs.declared.terms.DeskTerms.{DeskTerms}
@@ -21,7 +21,11 @@ use Rattle.tp_reactor.specs.declared.pool.Hired.{Hired}
 module _ {H M Q W V N E : Type 0} {kept : Keeping (Desk H M Q W V N E) (Entry N) DeskTerms} where
   -- how it left its loop
   abbrev pub end_of : Hired H M Q W V N E kept → WorkerEnd N
-  end_of hired = record { ran = hired.ran; known = known_by hired.worker; posted = poster_view (poster_of hired.worker) }
+  end_of hired = record {
+    ran = hired.ran;
+    known = known_by hired.worker;
+    posted = poster_view (poster_of hired.worker);
+  }
 
   abbrev pub ends_of : List (Hired H M Q W V N E kept) → List (WorkerEnd N)
   ends_of [] = []
@@ -29,32 +33,40 @@ module _ {H M Q W V N E : Type 0} {kept : Keeping (Desk H M Q W V N E) (Entry N)
 
   module _ {K : Type 0} where
     -- a worker of the reactor that may begin its loop
-    pub record IsReady (reactor : Reactor H M Q W V K N E) (most : Option ℕ) (hired : Hired H M Q W V N E kept) : Type 0 where
+    pub record IsReady (reactor : Reactor H M Q W V K N E) (most : Option ℕ)
+        (hired : Hired H M Q W V N E kept) : Type 0 where
       pub of : IsOf hired.worker reactor
       pub idle : IsIdle hired.worker
       pub limit : FitsLimit (known_by hired.worker).terms.run most
       pub room : length (posted_of hired.worker) < 2 ^ 56
 
     -- it left its loop, with the answer that it keeps
-    pub record IsBack (m : Meaning H M Q W V N E) (reactor : Reactor H M Q W V K N E) (most : Option ℕ) (until : Option (ℕ × Handle)) (old new : Hired H M Q W V N E kept) : Type 0 where
+    pub record IsBack (m : Meaning H M Q W V N E) (reactor : Reactor H M Q W V K N E)
+        (most : Option ℕ) (until : Option (ℕ × Handle)) (old new : Hired H M Q W V N E kept) : Type
+        0 where
       pub of : IsOf new.worker reactor
       pub idle : IsIdle new.worker
       pub kin : SameKin (known_by old.worker) (known_by new.worker)
-      pub runs : Runs m most until (known_by old.worker) (poster_view (poster_of old.worker)) new.ran (known_by new.worker) (poster_view (poster_of new.worker))
+      pub runs : Runs m most until (known_by old.worker) (poster_view (poster_of old.worker))
+          new.ran (known_by new.worker) (poster_view (poster_of new.worker))
       pub once : length (posted_of new.worker) ≤ length (posted_of old.worker) + 1
 
     -- a worker that a root hired, with view v and postings p, as number `many` from the first
-    pub record IsHired (reactor : Reactor H M Q W V K N E) (v : View (Entry N) DeskTerms) (p : RingView) (many : ℕ) (hired : Hired H M Q W V N E kept) : Type 0 where
+    pub record IsHired (reactor : Reactor H M Q W V K N E) (v : View (Entry N) DeskTerms)
+        (p : RingView) (many : ℕ) (hired : Hired H M Q W V N E kept) : Type 0 where
       pub of : IsOf hired.worker reactor
       pub known : known_by hired.worker ≡ split_right v
       pub posted : poster_view (poster_of hired.worker) ≡ ring.split_right (hirer_posted p many)
 
-    abbrev pub AreHired : Reactor H M Q W V K N E → View (Entry N) DeskTerms → RingView → ℕ → List (Hired H M Q W V N E kept) → Type 0
+    abbrev pub AreHired : Reactor H M Q W V K N E → View (Entry N) DeskTerms → RingView → ℕ
+        → List (Hired H M Q W V N E kept) → Type 0
     AreHired reactor v p many [] = Unit {0}
-    AreHired reactor v p many (x ∷ xs) = IsHired reactor v p many x × AreHired reactor v p (many + 1) xs
+    AreHired reactor v p many (x ∷ xs) =
+        IsHired reactor v p many x × AreHired reactor v p (many + 1) xs
 
     -- a worker that may be dismissed
-    pub record MayLeave (reactor : Reactor H M Q W V K N E) (hired : Hired H M Q W V N E kept) : Type 0 where
+    pub record MayLeave (reactor : Reactor H M Q W V K N E)
+        (hired : Hired H M Q W V N E kept) : Type 0 where
       pub of : IsOf hired.worker reactor
       pub idle : IsIdle hired.worker
       pub child : (known_by hired.worker).root ≡ false

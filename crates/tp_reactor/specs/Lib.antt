@@ -7,3 +7,14 @@ pub mod Working
 pub mod Alone
 pub mod Pool
 pub mod Hired
+pub mod Workers
+pub use Rattle.leader_token
+pub use Rattle.reactor_desk
+pub use Rattle.reactor_core
+pub use Rattle.leader_token.specs.list_lemmas
+pub use Rattle.reactor_desk.specs.laws_by_turns
+pub use Rattle.notify_ring
+pub use Rattle.timer_queue
+pub use Rattle.reactor_core.specs.laws_turns
+pub use Rattle.reactor_core.specs.reactor_state
+pub use Rattle.reactor_core.specs.reactor_summary

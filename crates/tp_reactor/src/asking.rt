@@ -1,17 +1,17 @@
 //! What a worker asks of the reactor that no turn asks.
-ghost use Rattle.std.specs.Prelude.{◌≡◌, ◌≤◌, ◌+◌, None, true, false};
-ghost use Rattle.reactor_journal.specs.declared.entry.Entry.{Entry};
+ghost use Rattle.std.specs.Prelude.{◌≤◌, ◌+◌, true, false};
+ghost use Rattle.reactor_model.specs.reactor_journal.specs.declared.entry.Entry.{Entry};
 ghost use Rattle.reactor_model.specs.Turns.{IsTimer};
 ghost use Rattle.reactor_core.specs.Refusals.{LeavesLive, LeavesState, LeavesTimer};
 ghost use Rattle.reactor_core.specs.Requests.{IsLiveAnswer, IsStateAnswer};
 ghost use Rattle.reactor_core.specs.Timers.{IsCancelAnswer};
-ghost use Rattle.reactor_desk.specs.Asking.{MayAsk};
-ghost use Rattle.tp_reactor.specs.Asked.{Asks, HasAsked, IsOfferedAnywhere, RegistersAt, RemovesHandle, StopsReactor};
-ghost use Rattle.tp_reactor.specs.Words.{known_by, poster_of, IsOf};
+ghost use Rattle.tp_reactor.specs.Asked.{Asks, IsOfferedAnywhere, RegistersAt, RemovesHandle};
+ghost use Rattle.tp_reactor.specs.Asked.{StopsReactor};
+ghost use Rattle.tp_reactor.specs.Words.{known_by};
+ghost use Rattle.tp_reactor.specs.Workers.{HasAskedOf, MayAskOf};
 
 use crate::{Reactor, Worker};
-use ev_base::{Net, Wake};
-use ev_types::{Handle, Mask};
+use ev_base::{Handle, Mask, Net, Wake};
 use reactor_core::{CancelRefused, LiveRefused, Means, NotLive, RegisterRefused, StateRefused};
 use reactor_model::{EventHandler, Volumes, Watch};
 use std::sync::Wait;
@@ -25,21 +25,18 @@ impl<
     V: Volumes<H::Note>,
     K: Wake,
 > Reactor<H, M, Q, W, V, K> {
-    /// Suspends a handle (`Core::suspend`): from now on none of its events is started. Its refusals are those of that call.
+    /// Suspends a handle (`Core::suspend`): from now on none of its events is started. Its refusals
+    /// are those of that call.
     pub fn suspend<R: Wait>(
         &self,
         rt: &R,
         worker: &mut Worker<H, M, Q, W, V>,
         handle: Handle,
     ) -> Result<(), StateRefused>
-        requires of { IsOf worker.old self.now }
-        requires free { (known_by worker.old).base ≡ None }
-        requires ask { MayAsk (known_by worker.old).terms }
-        ensures of { IsOf worker.new self.now }
-        ensures asked { HasAsked ⟦<Self as Means>⟧.m (known_by worker.old)
+        requires may { MayAskOf self.now worker.old }
+        ensures asked { HasAskedOf ⟦<Self as Means>⟧.m self.now worker.old
             (Asks (λ s done. Entry.Suspended handle) result (λ s. IsStateAnswer s handle.0 true)
-            (LeavesState ⟦<Self as Means>⟧.m)) (known_by worker.new) }
-        ensures poster { poster_of worker.new ≡ poster_of worker.old }
+            (LeavesState ⟦<Self as Means>⟧.m)) worker.new }
     {
         let mut held = self.take(rt, worker);
         let answer = held.value().suspend(handle);
@@ -54,14 +51,10 @@ impl<
         worker: &mut Worker<H, M, Q, W, V>,
         handle: Handle,
     ) -> Result<(), StateRefused>
-        requires of { IsOf worker.old self.now }
-        requires free { (known_by worker.old).base ≡ None }
-        requires ask { MayAsk (known_by worker.old).terms }
-        ensures of { IsOf worker.new self.now }
-        ensures asked { HasAsked ⟦<Self as Means>⟧.m (known_by worker.old)
+        requires may { MayAskOf self.now worker.old }
+        ensures asked { HasAskedOf ⟦<Self as Means>⟧.m self.now worker.old
             (Asks (λ s done. Entry.Resumed handle) result (λ s. IsStateAnswer s handle.0 false)
-            (LeavesState ⟦<Self as Means>⟧.m)) (known_by worker.new) }
-        ensures poster { poster_of worker.new ≡ poster_of worker.old }
+            (LeavesState ⟦<Self as Means>⟧.m)) worker.new }
     {
         let mut held = self.take(rt, worker);
         let answer = held.value().resume(handle);
@@ -69,8 +62,9 @@ impl<
         answer
     }
 
-    /// Sets a timer for the handler of an alive handle (`Core::schedule`), and gives its number: its first delay, from 1 to
-    /// 4,294,967,295 milliseconds, and its period, 0 for once. Its refusals are those of that call.
+    /// Sets a timer for the handler of an alive handle (`Core::schedule`), and gives its number:
+    /// its first delay, from 1 to 4,294,967,295 milliseconds, and its period, 0 for once. Its
+    /// refusals are those of that call.
     pub fn schedule<R: Wait>(
         &self,
         rt: &R,
@@ -79,17 +73,13 @@ impl<
         delay: u64,
         every: u64,
     ) -> Result<u64, LiveRefused>
-        requires of { IsOf worker.old self.now }
-        requires free { (known_by worker.old).base ≡ None }
-        requires ask { MayAsk (known_by worker.old).terms }
+        requires may { MayAskOf self.now worker.old }
         requires some { 1 ≤ delay }
         requires within { delay ≤ 4294967295 }
         requires period { every ≤ 4294967295 }
-        ensures of { IsOf worker.new self.now }
-        ensures asked { HasAsked ⟦<Self as Means>⟧.m (known_by worker.old)
+        ensures asked { HasAskedOf ⟦<Self as Means>⟧.m self.now worker.old
             (Asks (λ s timer. Entry.Scheduled timer handle (s.moment + delay) every) result
-            (λ s. IsLiveAnswer s handle.0) (LeavesLive ⟦<Self as Means>⟧.m)) (known_by worker.new) }
-        ensures poster { poster_of worker.new ≡ poster_of worker.old }
+            (λ s. IsLiveAnswer s handle.0) (LeavesLive ⟦<Self as Means>⟧.m)) worker.new }
     {
         let mut held = self.take(rt, worker);
         let answer = held.value().schedule(handle, delay, every);
@@ -97,21 +87,18 @@ impl<
         answer
     }
 
-    /// Takes a timer away, and the event of it that waits to be started (`Core::cancel`). Its refusals are those of that call.
+    /// Takes a timer away, and the event of it that waits to be started (`Core::cancel`). Its
+    /// refusals are those of that call.
     pub fn cancel<R: Wait>(
         &self,
         rt: &R,
         worker: &mut Worker<H, M, Q, W, V>,
         timer: u64,
     ) -> Result<(), CancelRefused>
-        requires of { IsOf worker.old self.now }
-        requires free { (known_by worker.old).base ≡ None }
-        requires ask { MayAsk (known_by worker.old).terms }
-        ensures of { IsOf worker.new self.now }
-        ensures asked { HasAsked ⟦<Self as Means>⟧.m (known_by worker.old)
+        requires may { MayAskOf self.now worker.old }
+        ensures asked { HasAskedOf ⟦<Self as Means>⟧.m self.now worker.old
             (Asks (λ s done. Entry.Cancelled timer) result (λ s. IsCancelAnswer s timer)
-            (LeavesTimer ⟦<Self as Means>⟧.m)) (known_by worker.new) }
-        ensures poster { poster_of worker.new ≡ poster_of worker.old }
+            (LeavesTimer ⟦<Self as Means>⟧.m)) worker.new }
     {
         let mut held = self.take(rt, worker);
         let answer = held.value().cancel(timer);
@@ -119,8 +106,9 @@ impl<
         answer
     }
 
-    /// Registers a handler (`Core::register`), with the reports that it wants and, where one is given, a timer: its first delay, from 1
-    /// to 4,294,967,295 milliseconds, and its period, 0 for once. With each refusal, which are those of that call, it comes back.
+    /// Registers a handler (`Core::register`), with the reports that it wants and, where one is
+    /// given, a timer: its first delay, from 1 to 4,294,967,295 milliseconds, and its period, 0 for
+    /// once. With each refusal, which are those of that call, it comes back.
     pub fn register<R: Wait>(
         &self,
         rt: &R,
@@ -129,15 +117,12 @@ impl<
         mask: Mask,
         timer: Option<(u64, u64)>,
     ) -> Result<Handle, (H, RegisterRefused)>
-        requires of { IsOf worker.old self.now }
-        requires free { (known_by worker.old).base ≡ None }
-        requires ask { MayAsk (known_by worker.old).terms }
+        requires may { MayAskOf self.now worker.old }
         requires offered { IsOfferedAnywhere H.means (known_by worker.old).terms.run handler }
         requires timer { IsTimer timer }
-        ensures of { IsOf worker.new self.now }
-        ensures asked { RegistersAt ⟦<Self as Means>⟧.m (known_by worker.old) handler mask timer
-            result (known_by worker.new) }
-        ensures poster { poster_of worker.new ≡ poster_of worker.old }
+        ensures asked { HasAskedOf ⟦<Self as Means>⟧.m self.now worker.old
+            (RegistersAt ⟦<Self as Means>⟧.m (known_by worker.old).terms.run handler mask timer
+            result) worker.new }
     {
         let mut held = self.take(rt, worker);
         let answer = held.value().register(handler, mask, timer);
@@ -145,20 +130,17 @@ impl<
         answer
     }
 
-    /// Removes a handler (`Core::remove`). It takes no memory. `NotLive` comes exactly where the handle is not alive.
+    /// Removes a handler (`Core::remove`). It takes no memory. `NotLive` comes exactly where the
+    /// handle is not alive.
     pub fn remove<R: Wait>(
         &self,
         rt: &R,
         worker: &mut Worker<H, M, Q, W, V>,
         handle: Handle,
     ) -> Result<(), NotLive>
-        requires of { IsOf worker.old self.now }
-        requires free { (known_by worker.old).base ≡ None }
-        requires ask { MayAsk (known_by worker.old).terms }
-        ensures of { IsOf worker.new self.now }
-        ensures asked { HasAsked ⟦<Self as Means>⟧.m (known_by worker.old)
-            (RemovesHandle handle result) (known_by worker.new) }
-        ensures poster { poster_of worker.new ≡ poster_of worker.old }
+        requires may { MayAskOf self.now worker.old }
+        ensures asked { HasAskedOf ⟦<Self as Means>⟧.m self.now worker.old
+            (RemovesHandle handle result) worker.new }
     {
         let mut held = self.take(rt, worker);
         let answer = held.value().remove(handle);
@@ -168,13 +150,9 @@ impl<
 
     /// Stops the reactor (`Core::stop`). It takes no memory.
     pub fn stop<R: Wait>(&self, rt: &R, worker: &mut Worker<H, M, Q, W, V>)
-        requires of { IsOf worker.old self.now }
-        requires free { (known_by worker.old).base ≡ None }
-        requires ask { MayAsk (known_by worker.old).terms }
-        ensures of { IsOf worker.new self.now }
-        ensures asked { HasAsked ⟦<Self as Means>⟧.m (known_by worker.old) StopsReactor
-            (known_by worker.new) }
-        ensures poster { poster_of worker.new ≡ poster_of worker.old }
+        requires may { MayAskOf self.now worker.old }
+        ensures asked { HasAskedOf ⟦<Self as Means>⟧.m self.now worker.old StopsReactor
+            worker.new }
     {
         let mut held = self.take(rt, worker);
         held.value().stop();

@@ -4,8 +4,8 @@ ghost use Rattle.leader_token.specs.Passes.{IsGot};
 ghost use Rattle.leader_token.specs.Words.{value_of};
 ghost use Rattle.notify_ring.specs.Passes.{HasPosted};
 ghost use Rattle.notify_ring.specs.Words.{poster_view};
-ghost use Rattle.reactor_journal.specs.Past.{past_of};
-ghost use Rattle.reactor_turns.specs.Opens.{opens_of};
+ghost use Rattle.reactor_model.specs.reactor_journal.specs.Past.{past_of};
+ghost use Rattle.reactor_core.specs.laws_turns.specs.Opens.{opens_of};
 ghost use Rattle.reactor_core.specs.Polling.{FitsLimit};
 ghost use Rattle.reactor_core.specs.Upcalls.{DoneFits};
 ghost use Rattle.reactor_core.specs.Views.{done_event};
@@ -15,8 +15,7 @@ ghost use Rattle.tp_reactor.specs.Settled.{HasSettled, SettlesOn};
 ghost use Rattle.tp_reactor.specs.Words.{posted_of, known_by, poster_of, IsOf};
 
 use crate::{Reactor, Worker};
-use ev_base::{Net, Wake};
-use ev_types::{Handle, Kind};
+use ev_base::{Handle, Kind, Net, Wake};
 use leader_token::Held;
 use notify_ring::Full;
 use reactor_core::{Done, Means, Settled};
@@ -41,8 +40,9 @@ impl<
     V: Volumes<H::Note>,
     K: Wake,
 > Reactor<H, M, Q, W, V, K> {
-    /// Leads once (POSA2, Leader/Followers; ACE's `handle_events` of `ACE_TP_Reactor`): gets the token, hands a volume over where one is due,
-    /// drains the notifications, and starts the next upcall, or waits at the net and looks again. A job that it answers is to be run and settled;
+    /// Leads once (POSA2, Leader/Followers; ACE's `handle_events` of `ACE_TP_Reactor`): gets the
+    /// token, hands a volume over where one is due, drains the notifications, and starts the next
+    /// upcall, or waits at the net and looks again. A job that it answers is to be run and settled;
     /// meanwhile the token is free.
     pub fn lead<R: Wait>(
         &self,
@@ -54,7 +54,8 @@ impl<
         requires free { ((known_by worker.old).base ≡ None) × ((known_by worker.old).mine ≡ None) }
         requires limit { FitsLimit (known_by worker.old).terms.run most_ms }
         ensures of { IsOf worker.new self.now }
-        ensures led { IsLed ⟦<Self as Means>⟧.m (known_by worker.old) most_ms result (known_by worker.new) }
+        ensures led { IsLed ⟦<Self as Means>⟧.m (known_by worker.old) most_ms result
+            (known_by worker.new) }
         ensures tells { MarksTell (known_by worker.old) result (known_by worker.new) }
         ensures poster { poster_of worker.new ≡ poster_of worker.old }
     {
@@ -80,7 +81,8 @@ impl<
         requires free { ((known_by worker.old).base ≡ None) × ((known_by worker.old).mine ≡ None) }
         requires limit { FitsLimit (known_by worker.old).terms.run most_ms }
         ensures of { IsOf worker.new self.now }
-        ensures led { IsLed ⟦<Self as Means>⟧.m (known_by worker.old) most_ms result (known_by worker.new) }
+        ensures led { IsLed ⟦<Self as Means>⟧.m (known_by worker.old) most_ms result
+            (known_by worker.new) }
         ensures poster { poster_of worker.new ≡ poster_of worker.old }
     {
         if follows {
@@ -89,7 +91,8 @@ impl<
         self.lead_now(rt, worker, most_ms)
     }
 
-    // Whether a worker whose lead came to nothing is to follow: where others lead too. Else it lets calls that want the token have it first.
+    // Whether a worker whose lead came to nothing is to follow: where others lead too. Else it lets
+    // calls that want the token have it first.
     pub(crate) fn follows_others<R: Wait>(&self, rt: &R) -> bool {
         if !self.turns.is_alone() {
             return true;
@@ -109,7 +112,8 @@ impl<
         requires free { ((known_by worker.old).base ≡ None) × ((known_by worker.old).mine ≡ None) }
         requires limit { FitsLimit (known_by worker.old).terms.run most_ms }
         ensures of { IsOf worker.new self.now }
-        ensures led { IsLed ⟦<Self as Means>⟧.m (known_by worker.old) most_ms result (known_by worker.new) }
+        ensures led { IsLed ⟦<Self as Means>⟧.m (known_by worker.old) most_ms result
+            (known_by worker.new) }
         ensures tells { MarksTell (known_by worker.old) result (known_by worker.new) }
         ensures poster { poster_of worker.new ≡ poster_of worker.old }
     {
@@ -123,7 +127,8 @@ impl<
         led
     }
 
-    // Lets calls that want the token have it before a leader does. It ends whether they got it or not.
+    // Lets calls that want the token have it before a leader does. It ends whether they got it or
+    // not.
     fn step_aside<R: Wait>(&self, rt: &R) {
         for _ in 0..YIELDS {
             if self.wanted.load(Ordering::SeqCst) == 0 {
@@ -136,8 +141,9 @@ impl<
         self.aside.store(false, Ordering::SeqCst);
     }
 
-    // Sleeps while calls want the token. A call that had it lowers their count before it looks whether anybody sleeps, and a sleeper says so before
-    // it looks at the count: so none sleeps for a call that is over.
+    // Sleeps while calls want the token. A call that had it lowers their count before it looks
+    // whether anybody sleeps, and a sleeper says so before it looks at the count: so none sleeps
+    // for a call that is over.
     fn sleep_aside<R: Wait>(&self, rt: &R) {
         for _ in 0..SLEEPS {
             match u32::try_from(self.wanted.load(Ordering::SeqCst)) {
@@ -147,8 +153,10 @@ impl<
         }
     }
 
-    // Gets the token for a call that begins with no wait at the net, and ends the wait of a leader who has it. A leader looks at the count when it
-    // has the token, and waits no longer where there are any; one that looked before this call was counted is woken by it. So neither is missed.
+    // Gets the token for a call that begins with no wait at the net, and ends the wait of a leader
+    // who has it. A leader looks at the count when it has the token, and waits no longer where
+    // there are any; one that looked before this call was counted is woken by it. So neither is
+    // missed.
     pub(crate) fn take<R: Wait>(
         &self,
         rt: &R,
@@ -157,7 +165,9 @@ impl<
         requires of { IsOf worker.old self.now }
         requires free { (known_by worker.old).base ≡ None }
         ensures of { IsOf worker.new self.now }
-        ensures got { IsGot (λ q first desk h. DeskStands ⟦<Self as Means>⟧.m q first desk h) opens_of (marks_of ⟦<Self as Means>⟧.m) (known_by worker.old) (value_of result) (known_by worker.new) }
+        ensures got { IsGot (λ q first desk h. DeskStands ⟦<Self as Means>⟧.m q first desk h)
+            opens_of (marks_of ⟦<Self as Means>⟧.m) (known_by worker.old) (value_of result)
+            (known_by worker.new) }
         ensures poster { poster_of worker.new ≡ poster_of worker.old }
     {
         if let Some(held) = self.token.try_get(&mut worker.pass) {
@@ -179,8 +189,8 @@ impl<
         }
     }
 
-    /// Settles the worker's own upcall, which was made. Whatever entries came since it was started, it fits the journal still. It takes no memory
-    /// and cannot fail.
+    /// Settles the worker's own upcall, which was made. Whatever entries came since it was started,
+    /// it fits the journal still. It takes no memory and cannot fail.
     pub fn settle<R: Wait>(
         &self,
         rt: &R,
@@ -190,9 +200,11 @@ impl<
         requires of { IsOf worker.old self.now }
         requires free { (known_by worker.old).base ≡ None }
         requires own { (known_by worker.old).mine ≡ Some (done_event done) }
-        requires fits { DoneFits H.means (known_by worker.old).terms.run (past_of (known_by worker.old).seen) done }
+        requires fits { DoneFits H.means (known_by worker.old).terms.run
+            (past_of (known_by worker.old).seen) done }
         ensures of { IsOf worker.new self.now }
-        ensures settled { HasSettled ⟦<Self as Means>⟧.m (known_by worker.old) done result (known_by worker.new) }
+        ensures settled { HasSettled ⟦<Self as Means>⟧.m (known_by worker.old) done result
+            (known_by worker.new) }
         ensures poster { poster_of worker.new ≡ poster_of worker.old }
     {
         let mut held = self.take(rt, worker);
@@ -201,9 +213,10 @@ impl<
         settled
     }
 
-    // Settles the worker's own upcall as `settle` does, and leads in the same hold of the token, so that a worker that goes on takes the token once
-    // for each upcall. It does not lead where as many handlers were closed as `pause_at` says, so that the caller can post that first, nor where
-    // a volume is to be handed over.
+    // Settles the worker's own upcall as `settle` does, and leads in the same hold of the token, so
+    // that a worker that goes on takes the token once for each upcall. It does not lead where as
+    // many handlers were closed as `pause_at` says, so that the caller can post that first, nor
+    // where a volume is to be handed over.
     pub(crate) fn settle_on<R: Wait>(
         &self,
         rt: &R,
@@ -215,10 +228,12 @@ impl<
         requires of { IsOf worker.old self.now }
         requires free { (known_by worker.old).base ≡ None }
         requires own { (known_by worker.old).mine ≡ Some (done_event done) }
-        requires fits { DoneFits H.means (known_by worker.old).terms.run (past_of (known_by worker.old).seen) done }
+        requires fits { DoneFits H.means (known_by worker.old).terms.run
+            (past_of (known_by worker.old).seen) done }
         requires limit { FitsLimit (known_by worker.old).terms.run most_ms }
         ensures of { IsOf worker.new self.now }
-        ensures settled { SettlesOn ⟦<Self as Means>⟧.m (known_by worker.old) done result.0 most_ms result.1 (known_by worker.new) }
+        ensures settled { SettlesOn ⟦<Self as Means>⟧.m (known_by worker.old) done result.0 most_ms
+            result.1 (known_by worker.new) }
         ensures poster { poster_of worker.new ≡ poster_of worker.old }
     {
         let mut held = self.take(rt, worker);
@@ -256,8 +271,9 @@ impl<
         }
     }
 
-    /// Posts a notification to the handler of a handle (ACE's `notify`), and wakes the leader. It neither waits nor takes memory. `Full` comes
-    /// exactly where 256 places of the ring or more were held or in flight when it looked, and then nothing is posted.
+    /// Posts a notification to the handler of a handle (ACE's `notify`), and wakes the leader. It
+    /// neither waits nor takes memory. `Full` comes exactly where 256 places of the ring or more
+    /// were held or in flight when it looked, and then nothing is posted.
     pub fn post(
         &self,
         worker: &mut Worker<H, M, Q, W, V>,
@@ -267,7 +283,8 @@ impl<
         requires of { IsOf worker.old self.now }
         requires room { length (posted_of worker.old) < 2 ^ 56 }
         ensures of { IsOf worker.new self.now }
-        ensures posted { HasPosted (poster_view (poster_of worker.old)) handle kind result (poster_view (poster_of worker.new)) }
+        ensures posted { HasPosted (poster_view (poster_of worker.old)) handle kind result
+            (poster_view (poster_of worker.new)) }
         ensures pass { known_by worker.new ≡ known_by worker.old }
     {
         let posted = self.ring.post(&mut worker.poster, handle, kind);

@@ -1,20 +1,19 @@
 //! The pool: workers that lead in turn, each on a thread of its own.
-ghost use Rattle.std.specs.Prelude.{◌≡◌, ◌<◌, ◌≤◌, ◌+◌, ◌-◌, ◌^◌, ◌⊎◌, [], All, IfSome, cond, length, true, vec_capacity};
+ghost use Rattle.std.specs.Prelude.{◌≡◌, ◌<◌, ◌≤◌, ◌+◌, ◌^◌, [], All, IfSome, cond};
+ghost use Rattle.std.specs.Prelude.{length, true, vec_capacity};
 ghost use Rattle.std.specs.List.{AllZip};
-ghost use Rattle.leader_token.specs.Lists.{Begins, NoneAbove};
 ghost use Rattle.notify_ring.specs.Words.{poster_view};
-ghost use Rattle.reactor_state.specs.State.{HasPlaces, IsPlaced, Shows};
+ghost use Rattle.reactor_core.specs.reactor_state.specs.State.{HasPlaces, IsPlaced, Shows};
 ghost use Rattle.reactor_core.specs.Polling.{FitsLimit};
 ghost use Rattle.reactor_core.specs.Stands.{meaning};
-ghost use Rattle.tp_reactor.specs.Alone.{RunsTo};
 ghost use Rattle.tp_reactor.specs.Hired.{AreHired, IsBack, IsReady, MayLeave, ends_of};
-ghost use Rattle.tp_reactor.specs.Pool.{Dismisses, EndsWithOver, HasClosed, HiresNone, RanTells, RunsPool, hirer, hirer_posted, known_postings};
+ghost use Rattle.tp_reactor.specs.Pool.{Dismisses, RunsPool, hirer, hirer_posted};
+ghost use Rattle.tp_reactor.specs.Workers.{MayRun, RunsWorkers, SameWorker, worker_end};
 ghost use Rattle.tp_reactor.specs.Working.{Runs};
 ghost use Rattle.tp_reactor.specs.Words.{IsIdle, IsOf, SameKin, known_by, posted_of, poster_of};
 
 use crate::{Ran, Reactor, Worker};
-use ev_base::{Net, Wake};
-use ev_types::Handle;
+use ev_base::{Handle, Net, Wake};
 use leader_token::Kept;
 use reactor_core::Means;
 use reactor_desk::{Desk, DeskTerms};
@@ -79,14 +78,18 @@ where
     H::Note: Send,
     H::End: Send,
 {
-    /// Runs the reactor with so many workers, from 1: the root, and hired ones, each on a thread of its own where one can be started, and else one
-    /// behind another (POSA2, Leader/Followers; ACE's `run_reactor_event_loop`, called by a pool of threads). Each leads, runs the job and settles
-    /// it, until a lead answers neither a job nor Quiet. Then the hired ones are dismissed, and where each left with `Over` the root goes on alone.
+    /// Runs the reactor with so many workers, from 1: the root, and hired ones, each on a thread of
+    /// its own where one can be started, and else one behind another (POSA2, Leader/Followers;
+    /// ACE's `run_reactor_event_loop`, called by a pool of threads). Each leads, runs the job and
+    /// settles it, until a lead answers neither a job nor Quiet. Then the hired ones are dismissed,
+    /// and where each left with `Over` the root goes on alone.
     ///
-    /// With `until` each of them posts a notice to the handle, once, when as many handlers as it names were closed or refused.
+    /// With `until` each of them posts a notice to the handle, once, when as many handlers as it
+    /// names were closed or refused.
     ///
-    /// The answer is the first in the order of `Ran` with which any of them left. It is `NoMemory` too where there was none for the list of the
-    /// hired workers: then nobody was hired, and no lead was made.
+    /// The answer is the first in the order of `Ran` with which any of them left. It is `NoMemory`
+    /// too where there was none for the list of the hired workers: then nobody was hired, and no
+    /// lead was made.
     pub fn run_workers<R: Threads + Wait + Sync>(
         &self,
         rt: &R,
@@ -96,30 +99,14 @@ where
         most_ms: Option<u64>,
         until: Option<(u64, Handle)>,
     ) -> Ran
-        requires many { 1 ≤ n }
-        requires few { (poster_view (poster_of root.old)).posters + n ≤ 65 }
         requires of { IsOf root.old self.now }
-        requires root { (known_by root.old).root ≡ true }
-        requires idle { IsIdle root.old }
-        requires limit { FitsLimit (known_by root.old).terms.run most_ms }
-        requires room { IfSome until (λ asked. length (posted_of root.old) < 2 ^ 56) }
-        ensures of { IsOf root.new self.now }
-        ensures idle { IsIdle root.new }
-        ensures kin { SameKin (known_by root.old) (known_by root.new) }
-        ensures seen { Begins (known_by root.old).seen (known_by root.new).seen }
-        ensures marks { NoneAbove (known_by root.old).marks (known_by root.new).marks }
-        ensures one { n ≡ 1 → Runs ⟦<Self as Means>⟧.m most_ms until (known_by root.old) (poster_view (poster_of root.old)) result (known_by root.new) (poster_view (poster_of root.new)) }
-        ensures alone { n ≡ 1 → (known_by root.old).children ≡ 0 → RunsTo ⟦<Self as Means>⟧.m (known_by root.old).terms most_ms (known_by root.old).seen result (known_by root.new).seen }
-        ensures several { 1 < n → HiresNone (known_by root.old) (poster_view (poster_of root.old)) (record { ran = result; known = known_by root.new; posted = poster_view (poster_of root.new) })
-            ⊎ RunsPool ⟦<Self as Means>⟧.m most_ms until (n - 1) (known_by root.old) (poster_view (poster_of root.old)) (record { ran = result; known = known_by root.new; posted = poster_view (poster_of root.new) }) }
-        ensures over { result ≡ Ran.Over → EndsWithOver ⟦<Self as Means>⟧.m most_ms (known_by root.old) (known_by root.new) }
-        ensures tells { RanTells (known_by root.old) result (known_by root.new) }
-        ensures posts { known_postings (poster_view (poster_of root.old)) < known_postings (poster_view (poster_of root.new)) → HasClosed until (known_by root.new).seen }
-        ensures once { length (posted_of root.new) ≤ length (posted_of root.old) + 1 }
+        requires may { MayRun root.old n most_ms until }
+        ensures runs { RunsWorkers ⟦<Self as Means>⟧.m n most_ms until root.old result root.new }
+        ensures worker { SameWorker self.now root.old root.new }
     {
-        let mut waits = until.is_some();
+        let mut owes_notice = until.is_some();
         if n == 1 {
-            return self.work(rt, root, most_ms, until, &mut waits);
+            return self.work(rt, root, most_ms, until, &mut owes_notice);
         }
         match Vec::with_capacity(alloc, n - 1) {
             Ok(hired) => self.run_pool(rt, root, hired, n - 1, most_ms, until),
@@ -127,8 +114,8 @@ where
         }
     }
 
-    // Hires so many workers into a list that has room for them, lets them and the root make their loops, and dismisses them. Where each left
-    // with Over, the root goes on alone.
+    // Hires so many workers into a list that has room for them, lets them and the root make their
+    // loops, and dismisses them. Where each left with Over, the root goes on alone.
     fn run_pool<R: Threads + Wait + Sync>(
         &self,
         rt: &R,
@@ -148,14 +135,15 @@ where
         requires places { many ≤ vec_capacity room }
         ensures of { IsOf root.new self.now }
         ensures idle { IsIdle root.new }
-        ensures runs { RunsPool ⟦<Self as Means>⟧.m most_ms until many (known_by root.old) (poster_view (poster_of root.old)) (record { ran = result; known = known_by root.new; posted = poster_view (poster_of root.new) }) }
+        ensures runs { RunsPool ⟦<Self as Means>⟧.m most_ms until many (known_by root.old)
+            (poster_view (poster_of root.old)) (worker_end result root.new) }
         ensures once { length (posted_of root.new) ≤ length (posted_of root.old) + 1 }
     {
         let hired = self.hire_all(root, room, many);
-        let mut waits = until.is_some();
-        let (ran, back) = self.run_all(rt, root, hired, most_ms, until, &mut waits);
+        let mut owes_notice = until.is_some();
+        let (ran, back) = self.run_all(rt, root, hired, most_ms, until, &mut owes_notice);
         match self.dismiss_all(root, back, ran) {
-            Ran::Over => self.work(rt, root, most_ms, until, &mut waits),
+            Ran::Over => self.work(rt, root, most_ms, until, &mut owes_notice),
             first => first,
         }
     }
@@ -175,8 +163,10 @@ where
         requires places { many ≤ vec_capacity room }
         ensures of { IsOf root.new self.now }
         ensures known { known_by root.new ≡ hirer (known_by root.old) many }
-        ensures posted { poster_view (poster_of root.new) ≡ hirer_posted (poster_view (poster_of root.old)) many }
-        ensures hired { AreHired self.now (known_by root.old) (poster_view (poster_of root.old)) 0 result.items }
+        ensures posted { poster_view (poster_of root.new) ≡ hirer_posted
+            (poster_view (poster_of root.old)) many }
+        ensures hired { AreHired self.now (known_by root.old) (poster_view (poster_of root.old)) 0
+            result.items }
         ensures all { length result.items ≡ many }
     {
         let mut hired = room;
@@ -198,40 +188,54 @@ where
         hired: Vec<Hired<H, M, Q, W, V>>,
         most_ms: Option<u64>,
         until: Option<(u64, Handle)>,
-        waits: &mut bool,
+        owes_notice: &mut bool,
     ) -> (Ran, Vec<Hired<H, M, Q, W, V>>)
         requires of { IsOf root.old self.now }
         requires idle { IsIdle root.old }
         requires limit { FitsLimit (known_by root.old).terms.run most_ms }
-        requires room { waits.old ≡ true → length (posted_of root.old) < 2 ^ 56 }
+        requires room { owes_notice.old ≡ true → length (posted_of root.old) < 2 ^ 56 }
         requires ready { All (λ x. IsReady self.now most_ms x) hired.items }
         ensures of { IsOf root.new self.now }
         ensures idle { IsIdle root.new }
         ensures kin { SameKin (known_by root.old) (known_by root.new) }
-        ensures runs { Runs ⟦<Self as Means>⟧.m most_ms until (known_by root.old) (poster_view (poster_of root.old)) result.0 (known_by root.new) (poster_view (poster_of root.new)) }
-        ensures room { waits.new ≡ true → length (posted_of root.new) < 2 ^ 56 }
-        ensures once { length (posted_of root.new) + cond waits.new 1 0 ≤ length (posted_of root.old) + cond waits.old 1 0 }
-        ensures back { AllZip (IsBack ⟦<Self as Means>⟧.m self.now most_ms until) hired.items result.1.items }
+        ensures runs { Runs ⟦<Self as Means>⟧.m most_ms until (known_by root.old)
+            (poster_view (poster_of root.old)) result.0 (known_by root.new)
+            (poster_view (poster_of root.new)) }
+        ensures room { owes_notice.new ≡ true → length (posted_of root.new) < 2 ^ 56 }
+        ensures once { length (posted_of root.new) + cond owes_notice.new 1 0
+            ≤ length (posted_of root.old) + cond owes_notice.old 1 0 }
+        ensures back { AllZip (IsBack ⟦<Self as Means>⟧.m self.now most_ms until) hired.items
+            result.1.items }
     {
         let mut crew = hired;
         let limit = most_ms;
         let end = until;
         let mut mine = || -> Ran
-            requires { IsOf root.now self.now × IsIdle root.now × FitsLimit (known_by root.now).terms.run most_ms × (waits.now ≡ true → length (posted_of root.now) < 2 ^ 56) }
-            ensures { IsOf root.exit.now self.entry.now × IsIdle root.exit.now × SameKin (known_by root.entry.now) (known_by root.exit.now)
-                × Runs (meaning H.means M.facts M.keeps (Shows Q.timers) (HasPlaces Q.spare) IsPlaced W.stands W.faults W.is_broken W.whole V.facts) most_ms until (known_by root.entry.now) (poster_view (poster_of root.entry.now)) result (known_by root.exit.now) (poster_view (poster_of root.exit.now))
-                × (waits.exit.now ≡ true → length (posted_of root.exit.now) < 2 ^ 56)
-                × (length (posted_of root.exit.now) + cond waits.exit.now 1 0 ≤ length (posted_of root.entry.now) + cond waits.entry.now 1 0) }
-        { self.work(rt, root, most_ms, until, waits) };
+            requires { IsOf root.now self.now × IsIdle root.now
+                × FitsLimit (known_by root.now).terms.run most_ms
+                × (owes_notice.now ≡ true → length (posted_of root.now) < 2 ^ 56) }
+            ensures { IsOf root.exit.now self.entry.now × IsIdle root.exit.now
+                × SameKin (known_by root.entry.now) (known_by root.exit.now)
+                × Runs (meaning H.means M.facts M.keeps (Shows Q.timers) (HasPlaces Q.spare)
+                IsPlaced W.stands W.faults W.is_broken W.whole V.facts) most_ms until
+                (known_by root.entry.now) (poster_view (poster_of root.entry.now)) result
+                (known_by root.exit.now) (poster_view (poster_of root.exit.now))
+                × (owes_notice.exit.now ≡ true → length (posted_of root.exit.now) < 2 ^ 56)
+                × (length (posted_of root.exit.now) + cond owes_notice.exit.now 1 0
+                ≤ length (posted_of root.entry.now) + cond owes_notice.entry.now 1 0) }
+        { self.work(rt, root, most_ms, until, owes_notice) };
         let mut theirs = ||
             requires { All (λ x. IsReady self.now limit x) crew.items }
-            ensures { AllZip (IsBack (meaning H.means M.facts M.keeps (Shows Q.timers) (HasPlaces Q.spare) IsPlaced W.stands W.faults W.is_broken W.whole V.facts) self.entry.now limit end) crew.entry.items crew.exit.items }
+            ensures { AllZip (IsBack (meaning H.means M.facts M.keeps (Shows Q.timers)
+                (HasPlaces Q.spare) IsPlaced W.stands W.faults W.is_broken W.whole V.facts)
+                self.entry.now limit end) crew.entry.items crew.exit.items }
         { self.work_all(rt, &mut crew, limit, end) };
         let (_, ran) = join_mut(rt, &mut theirs, &mut mine);
         (ran, crew)
     }
 
-    // The loops of hired workers, each on a thread of its own where one can be started, and else one behind another.
+    // The loops of hired workers, each on a thread of its own where one can be started, and else
+    // one behind another.
     fn work_all<R: Threads + Wait + Sync>(
         &self,
         rt: &R,
@@ -240,7 +244,8 @@ where
         until: Option<(u64, Handle)>,
     )
         requires { All (λ x. IsReady self.now most_ms x) hired.old.items }
-        ensures { AllZip (IsBack ⟦<Self as Means>⟧.m self.now most_ms until) hired.old.items hired.new.items }
+        ensures { AllZip (IsBack ⟦<Self as Means>⟧.m self.now most_ms until) hired.old.items
+            hired.new.items }
     {
         self.work_each(rt, hired.as_mut_slice(), most_ms, until);
     }
@@ -265,7 +270,9 @@ where
             threads,
             &|_at: usize, seat: &mut Hired<H, M, Q, W, V>|
                 requires { IsReady self.now most_ms seat.now }
-                ensures { IsBack (meaning H.means M.facts M.keeps (Shows Q.timers) (HasPlaces Q.spare) IsPlaced W.stands W.faults W.is_broken W.whole V.facts) self.entry.now most_ms until seat.entry.now seat.exit.now }
+                ensures { IsBack (meaning H.means M.facts M.keeps (Shows Q.timers)
+                    (HasPlaces Q.spare) IsPlaced W.stands W.faults W.is_broken W.whole V.facts)
+                    self.entry.now most_ms until seat.entry.now seat.exit.now }
             { self.work_seat(rt, seat, most_ms, until) },
         );
     }
@@ -281,11 +288,12 @@ where
         requires { IsReady self.now most_ms seat.old }
         ensures { IsBack ⟦<Self as Means>⟧.m self.now most_ms until seat.old seat.new }
     {
-        let mut waits = until.is_some();
-        seat.ran = self.work(rt, &mut seat.worker, most_ms, until, &mut waits);
+        let mut owes_notice = until.is_some();
+        seat.ran = self.work(rt, &mut seat.worker, most_ms, until, &mut owes_notice);
     }
 
-    // Dismisses the hired workers, and gives the answer that goes first of theirs and of the root's.
+    // Dismisses the hired workers, and gives the answer that goes first of theirs and of the
+    // root's.
     fn dismiss_all(
         &self,
         root: &mut Worker<H, M, Q, W, V>,
@@ -298,7 +306,8 @@ where
         requires leave { All (λ x. MayLeave self.now x) hired.items }
         ensures of { IsOf root.new self.now }
         ensures idle { IsIdle root.new }
-        ensures dismisses { Dismisses (record { ran = ran; known = known_by root.old; posted = poster_view (poster_of root.old) }) (ends_of hired.items) (record { ran = result; known = known_by root.new; posted = poster_view (poster_of root.new) }) }
+        ensures dismisses { Dismisses (worker_end ran root.old) (ends_of hired.items)
+            (worker_end result root.new) }
     {
         let mut first = ran;
         for seat in hired {

@@ -1,22 +1,25 @@
-//! When a follower is promoted (POSA2, Leader/Followers). It decides who leads when, and of that no contract speaks.
+//! When a follower is promoted (POSA2, Leader/Followers). It decides who leads when, and of that no
+//! contract speaks.
 
 use std::sync::Wait;
 use std::sync::atomic::{AtomicBool, AtomicU64, Ordering};
 use std::time::Duration;
 
-/// How many microseconds a follower dozes before it looks again: for two dozes an event may wait behind an upcall that lasts.
+/// How many microseconds a follower dozes before it looks again: for two dozes an event may wait
+/// behind an upcall that lasts.
 const DOZE: u64 = 500;
 
 /// How many microseconds a doze takes, with what the system takes to wake the follower.
 const DOZED: u64 = 560;
 
-/// How many microseconds a worker takes at least from one turn to the next, where another one helps: with less the hand-over of the token costs more
-/// than is gained.
+/// How many microseconds a worker takes at least from one turn to the next, where another one
+/// helps: with less the hand-over of the token costs more than is gained.
 const WORTH: u64 = 5;
 
-/// The turns of the workers that make their loops. A worker that comes back from its upcall settles it and leads on, so that where upcalls are
-/// short those who are at it go on alone: a follower who led would only wait at the net, and have to be woken there for the next settling.
-/// A follower is promoted where upcalls wait that the others are too slow for, and where nobody leads.
+/// The turns of the workers that make their loops. A worker that comes back from its upcall settles
+/// it and leads on, so that where upcalls are short those who are at it go on alone: a follower who
+/// led would only wait at the net, and have to be woken there for the next settling. A follower is
+/// promoted where upcalls wait that the others are too slow for, and where nobody leads.
 #[derive(Drop)]
 pub(crate) struct Turns {
     // How many workers make their loops.
@@ -29,7 +32,8 @@ pub(crate) struct Turns {
     asleep: AtomicBool,
     // What a follower dozes on. It stays 0.
     doze: AtomicU64,
-    // Whether a follower asks for what the turns are like; and of those since then, how many left upcalls waiting, and how many waited for the token.
+    // Whether a follower asks for what the turns are like; and of those since then, how many left
+    // upcalls waiting, and how many waited for the token.
     asked: AtomicBool,
     waiting: AtomicU64,
     delayed: AtomicU64,
@@ -114,8 +118,8 @@ impl Turns {
         self.count.fetch_add(1, Ordering::SeqCst);
     }
 
-    // Wakes a follower that sleeps until a turn ends. A turn raises the count before this looks, and a follower says that it sleeps before it
-    // looks at the count: so none sleeps on.
+    // Wakes a follower that sleeps until a turn ends. A turn raises the count before this looks,
+    // and a follower says that it sleeps before it looks at the count: so none sleeps on.
     pub(crate) fn rouse(&self) {
         if self.asleep.load(Ordering::SeqCst) {
             self.count.wake_all();
@@ -143,8 +147,10 @@ impl Turns {
         }
     }
 
-    // Whether one more worker helps, where so many turns ended in a doze: where upcalls are not short, most turns leave some that wait, and at most one in eight
-    // finds the token held. Else those who are at it wait for events themselves, or for what is done under the token, as a write.
+    // Whether one more worker helps, where so many turns ended in a doze: where upcalls are not
+    // short, most turns leave some that wait, and at most one in eight finds the token held. Else
+    // those who are at it wait for events themselves, or for what is done under the token, as a
+    // write.
     fn is_wanted(&self, turns: u64) -> bool {
         let helps = turns.saturating_mul(WORTH) <= self.active().saturating_mul(DOZED);
         let waiting = self.waiting.swap(0, Ordering::SeqCst).saturating_mul(2);

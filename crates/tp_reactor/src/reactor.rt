@@ -1,6 +1,6 @@
 //! The shared reactor, and who calls it.
 ghost use Rattle.std.specs.Prelude.{◌≡◌, length};
-ghost use Rattle.reactor_state.specs.State.{Shows, HasPlaces, IsPlaced};
+ghost use Rattle.reactor_core.specs.reactor_state.specs.State.{Shows, HasPlaces, IsPlaced};
 ghost use Rattle.reactor_core.specs.Stands.{meaning};
 ghost use Rattle.tp_reactor.specs.Words.{posted_of};
 
@@ -30,10 +30,12 @@ where
     pub(crate) token: Token<Desk<H, M, Q, W, V>>,
     pub(crate) ring: Ring,
     pub(crate) waker: K,
-    // How many calls that do not wait at the net want the token. A leader does not wait while there are any. It is a hint, of which no contract
-    // speaks. At the gate all leaders but one wait: so the token's own sleepers are calls that want it for microseconds.
+    // How many calls that do not wait at the net want the token. A leader does not wait while there
+    // are any. It is a hint, of which no contract speaks. At the gate all leaders but one wait: so
+    // the token's own sleepers are calls that want it for microseconds.
     pub(crate) wanted: AtomicU64,
-    // Whether a leader sleeps until these calls had it. Of this and of the gate no contract speaks either.
+    // Whether a leader sleeps until these calls had it. Of this and of the gate no contract speaks
+    // either.
     pub(crate) aside: AtomicBool,
     pub(crate) gate: Mutex<()>,
     pub(crate) turns: Turns,

@@ -2,12 +2,12 @@
 ghost use Rattle.std.specs.Prelude.{◌≡◌, ◌<◌, ◌≤◌, ◌+◌, ◌^◌, length, None, Some, cond, true};
 ghost use Rattle.notify_ring.specs.Words.{poster_view};
 ghost use Rattle.reactor_core.specs.Polling.{FitsLimit};
-ghost use Rattle.tp_reactor.specs.Working.{JobReady, LedBefore, ServesAndLeads, MayPost, Goes, Runs, first_ran};
+ghost use Rattle.tp_reactor.specs.Working.{JobReady, LedBefore, ServesAndLeads, MayPost, Goes};
+ghost use Rattle.tp_reactor.specs.Working.{Runs, first_ran};
 ghost use Rattle.tp_reactor.specs.Words.{posted_of, known_by, poster_of, IsOf, IsIdle, SameKin};
 
 use crate::{Reactor, Worker};
-use ev_base::{Net, Wake};
-use ev_types::{Handle, Kind};
+use ev_base::{Handle, Kind, Net, Wake};
 use reactor_core::{Job, Means, Settled};
 use reactor_desk::Led;
 use reactor_model::{EventHandler, Volumes, Watch};
@@ -52,30 +52,34 @@ impl<
     V: Volumes<H::Note>,
     K: Wake,
 > Reactor<H, M, Q, W, V, K> {
-    /// Leads, runs the job, settles it and leads again, until a lead answers neither a job nor Quiet.
+    /// Leads, runs the job, settles it and leads again, until a lead answers neither a job nor
+    /// Quiet.
     pub(crate) fn work<R: Wait>(
         &self,
         rt: &R,
         worker: &mut Worker<H, M, Q, W, V>,
         most_ms: Option<u64>,
         until: Option<(u64, Handle)>,
-        waits: &mut bool,
+        owes_notice: &mut bool,
     ) -> Ran
         requires of { IsOf worker.old self.now }
         requires idle { IsIdle worker.old }
         requires limit { FitsLimit (known_by worker.old).terms.run most_ms }
-        requires room { waits.old ≡ true → length (posted_of worker.old) < 2 ^ 56 }
+        requires room { owes_notice.old ≡ true → length (posted_of worker.old) < 2 ^ 56 }
         ensures of { IsOf worker.new self.now }
         ensures idle { IsIdle worker.new }
         ensures kin { SameKin (known_by worker.old) (known_by worker.new) }
-        ensures runs { Runs ⟦<Self as Means>⟧.m most_ms until (known_by worker.old) (poster_view (poster_of worker.old)) result (known_by worker.new) (poster_view (poster_of worker.new)) }
-        ensures room { waits.new ≡ true → length (posted_of worker.new) < 2 ^ 56 }
-        ensures once { length (posted_of worker.new) + cond waits.new 1 0 ≤ length (posted_of worker.old) + cond waits.old 1 0 }
+        ensures runs { Runs ⟦<Self as Means>⟧.m most_ms until (known_by worker.old)
+            (poster_view (poster_of worker.old)) result (known_by worker.new)
+            (poster_view (poster_of worker.new)) }
+        ensures room { owes_notice.new ≡ true → length (posted_of worker.new) < 2 ^ 56 }
+        ensures once { length (posted_of worker.new) + cond owes_notice.new 1 0
+            ≤ length (posted_of worker.old) + cond owes_notice.old 1 0 }
     {
         self.turns.enter();
         let mut led = self.lead(rt, worker, most_ms);
         for _ in rt.forever() {
-            match self.round(rt, worker, led, most_ms, until, waits) {
+            match self.round(rt, worker, led, most_ms, until, owes_notice) {
                 Ok(next) => led = next,
                 Err(ran) => {
                     self.turns.leave();
@@ -86,7 +90,8 @@ impl<
         unreachable!()
     }
 
-    // One round, from what a lead answered: its job is run and settled, and the next lead is made. With an Err the loop ends.
+    // One round, from what a lead answered: its job is run and settled, and the next lead is made.
+    // With an Err the loop ends.
     fn round<R: Wait>(
         &self,
         rt: &R,
@@ -94,20 +99,23 @@ impl<
         led: Led<H>,
         most_ms: Option<u64>,
         until: Option<(u64, Handle)>,
-        waits: &mut bool,
+        owes_notice: &mut bool,
     ) -> Result<Led<H>, Ran>
         requires of { IsOf worker.old self.now }
         requires led { LedBefore ⟦<Self as Means>⟧.m most_ms led (known_by worker.old) }
         requires limit { FitsLimit (known_by worker.old).terms.run most_ms }
-        requires room { waits.old ≡ true → length (posted_of worker.old) < 2 ^ 56 }
+        requires room { owes_notice.old ≡ true → length (posted_of worker.old) < 2 ^ 56 }
         ensures of { IsOf worker.new self.now }
         ensures kin { SameKin (known_by worker.old) (known_by worker.new) }
-        ensures goes { Goes ⟦<Self as Means>⟧.m most_ms until led (known_by worker.old) (poster_view (poster_of worker.old)) result (known_by worker.new) (poster_view (poster_of worker.new)) }
-        ensures room { waits.new ≡ true → length (posted_of worker.new) < 2 ^ 56 }
-        ensures once { length (posted_of worker.new) + cond waits.new 1 0 ≤ length (posted_of worker.old) + cond waits.old 1 0 }
+        ensures goes { Goes ⟦<Self as Means>⟧.m most_ms until led (known_by worker.old)
+            (poster_view (poster_of worker.old)) result (known_by worker.new)
+            (poster_view (poster_of worker.new)) }
+        ensures room { owes_notice.new ≡ true → length (posted_of worker.new) < 2 ^ 56 }
+        ensures once { length (posted_of worker.new) + cond owes_notice.new 1 0
+            ≤ length (posted_of worker.old) + cond owes_notice.old 1 0 }
     {
         match led {
-            Led::Job(job) => Ok(self.serve(rt, worker, job, most_ms, until, waits)),
+            Led::Job(job) => Ok(self.serve(rt, worker, job, most_ms, until, owes_notice)),
             Led::Quiet => Ok(self.lead_on(rt, worker, most_ms, self.follows_others(rt))),
             Led::Over => Err(Ran::Over),
             Led::Stopped => Err(Ran::Stopped),
@@ -126,56 +134,61 @@ impl<
         job: Job<H>,
         most_ms: Option<u64>,
         until: Option<(u64, Handle)>,
-        waits: &mut bool,
+        owes_notice: &mut bool,
     ) -> Led<H>
         requires of { IsOf worker.old self.now }
         requires ready { JobReady ⟦<Self as Means>⟧.m (known_by worker.old) job }
         requires limit { FitsLimit (known_by worker.old).terms.run most_ms }
-        requires room { waits.old ≡ true → length (posted_of worker.old) < 2 ^ 56 }
+        requires room { owes_notice.old ≡ true → length (posted_of worker.old) < 2 ^ 56 }
         ensures of { IsOf worker.new self.now }
-        ensures serves { ServesAndLeads ⟦<Self as Means>⟧.m most_ms until job (known_by worker.old) (poster_view (poster_of worker.old)) result (known_by worker.new) (poster_view (poster_of worker.new)) }
-        ensures room { waits.new ≡ true → length (posted_of worker.new) < 2 ^ 56 }
-        ensures once { length (posted_of worker.new) + cond waits.new 1 0 ≤ length (posted_of worker.old) + cond waits.old 1 0 }
+        ensures serves { ServesAndLeads ⟦<Self as Means>⟧.m most_ms until job (known_by worker.old)
+            (poster_view (poster_of worker.old)) result (known_by worker.new)
+            (poster_view (poster_of worker.new)) }
+        ensures room { owes_notice.new ≡ true → length (posted_of worker.new) < 2 ^ 56 }
+        ensures once { length (posted_of worker.new) + cond owes_notice.new 1 0
+            ≤ length (posted_of worker.old) + cond owes_notice.old 1 0 }
     {
         let done = job.run();
-        let pause_at = if *waits {
+        let pause_at = if *owes_notice {
             until.map(|(count, _)| count)
         } else {
             None
         };
         let (settled, led) = self.settle_on(rt, worker, done, most_ms, pause_at);
-        self.tell(worker, until, settled, waits);
+        self.tell(worker, until, settled, owes_notice);
         match led {
             Some(led) => led,
             None => self.lead_now(rt, worker, most_ms),
         }
     }
 
-    // Posts a notice, if one is still to be posted, once as many handlers were closed or refused as were asked for. Where the ring is full it is
-    // still to be posted.
+    // Posts a notice, if one is still to be posted, once as many handlers were closed or refused as
+    // were asked for. Where the ring is full it is still to be posted.
     fn tell(
         &self,
         worker: &mut Worker<H, M, Q, W, V>,
         until: Option<(u64, Handle)>,
         settled: Settled,
-        waits: &mut bool,
+        owes_notice: &mut bool,
     )
         requires of { IsOf worker.old self.now }
-        requires room { waits.old ≡ true → length (posted_of worker.old) < 2 ^ 56 }
+        requires room { owes_notice.old ≡ true → length (posted_of worker.old) < 2 ^ 56 }
         ensures of { IsOf worker.new self.now }
-        ensures posts { MayPost until settled (poster_view (poster_of worker.old)) (poster_view (poster_of worker.new)) }
+        ensures posts { MayPost until settled (poster_view (poster_of worker.old))
+            (poster_view (poster_of worker.new)) }
         ensures pass { known_by worker.new ≡ known_by worker.old }
-        ensures room { waits.new ≡ true → length (posted_of worker.new) < 2 ^ 56 }
-        ensures once { length (posted_of worker.new) + cond waits.new 1 0 ≤ length (posted_of worker.old) + cond waits.old 1 0 }
+        ensures room { owes_notice.new ≡ true → length (posted_of worker.new) < 2 ^ 56 }
+        ensures once { length (posted_of worker.new) + cond owes_notice.new 1 0
+            ≤ length (posted_of worker.old) + cond owes_notice.old 1 0 }
     {
         let Some((count, handle)) = until else {
             return;
         };
-        if !*waits || settled.closed < count || settled.ended {
+        if !*owes_notice || settled.closed < count || settled.ended {
             return;
         }
         match self.post(worker, handle, Kind::Except) {
-            Ok(_) => *waits = false,
+            Ok(_) => *owes_notice = false,
             Err(_) => {}
         }
     }

@@ -1,2 +1,4 @@
+pub mod Queues
+pub mod Writers
+pub mod Modes
 pub mod Facts
-pub mod Pieces

@@ -1,21 +1,28 @@
-//! A sink before another one, to which a thread of its own writes where pieces come fast (write-behind). So who puts a text need not wait until the system has
-//! taken it, as a reactor's leader who has the token.
+//! A sink before another one, to which a thread of its own writes when pieces come fast
+//! (write-behind). So who puts a text need not wait until the system has taken it, as a reactor's
+//! leader who has the token.
 //!
-//! What is proved: that it meets the contract of a sink, and tells a fault where it counts one.
+//! What is put goes through a queue of bytes. One writer writes what comes out of it to the sink
+//! below: the thread has the writer while pieces come fast, and else the caller, who writes each
+//! piece at once. At any time the sink below has what came out of the queue, in order, or, after a
+//! write of it failed, a front of that. At the end the queue is written out, and the sink below has
+//! all that was put, or that front.
 //!
-//! What no contract can say, and is trusted and only tested:
-//!
-//! - That the sink below gets all that was put, in order, and in the end all of it, unless a write of it failed: then it gets nothing more, and each later
-//!   write is a fault. At most 64 KiB wait; who puts more waits for room.
-//! - That `finish` tells that all was written where it was; that a write comes at once where the one before it is long past; and that the thread ends once
-//!   the sink is finished or dropped.
+//! What no contract can say, and is only tested: that a write comes at once when the one before it
+//! is long past, that the thread is woken, and that it ends after the sink is finished or dropped.
 #![tactic(auto)]
 
+mod helper;
+mod mode;
 mod pace;
+mod queue;
 mod sink;
+mod start;
 #[cfg(test)]
 mod tests;
-mod text;
 mod writer;
 
+pub use mode::WriterThread;
+pub use queue::ByteQueue;
 pub use sink::WriteBehind;
+pub use start::Start;

@@ -1,12 +1,16 @@
 //! What a slow sink below gets.
 
-use crate::WriteBehind;
-use ev_base::{Sink, Wrote};
+ghost use Rattle.std.specs.Prelude.{◌≡◌, Some};
+
+use crate::{ByteQueue, Start, WriteBehind};
+use ev_base::{NoMemory, Sink, Wrote};
 use sink_buffer::write_all;
 use std::alloc::{AllocError, Global};
+use std::marker::Brand;
 use std::sync::{Arc, Mutex, Wait};
 use std::test::Fail;
 use std::thread;
+use std::thread::Threads;
 use std::time::{Clock, Duration};
 
 /// How many bytes the sink takes in a millisecond.
@@ -63,7 +67,8 @@ fn slow_sink<R: Drop>(
     Ok((sink, taken))
 }
 
-/// Puts all pieces, the first of bytes 0, the next of bytes 1, and so on. Tells whether all were taken.
+/// Puts all pieces, the first of bytes 0, the next of bytes 1, and so on. Tells whether all were
+/// taken.
 fn put_all<K: Sink>(output: &mut K) -> bool {
     for at in 0..PIECES {
         if !write_all(output, &[at; PIECE]) {
@@ -81,12 +86,37 @@ fn are_in_front(bytes: &[u8]) -> bool {
         .all(|(at, byte)| usize::from(*byte) == at / PIECE)
 }
 
+/// Puts all pieces into a sink that writes behind this one. Tells whether all were taken, and
+/// whether in the end no write had failed.
+fn put_behind<
+    R: Clock + Threads + Wait + Copy + Send + 'static,
+    K: Sink + Send + Drop + 'static,
+    S: Start + Send + 'static,
+>(rt: R, alloc: Global, queue: ByteQueue, sink: K) -> (bool, bool)
+    requires facts { K.facts sink ≡ S.facts }
+    requires consumer { S.consumer ≡ Some queue.consumer }
+{
+    let (mut output, thread) = WriteBehind::<R, K, S>::start(rt, alloc, queue, sink);
+    let taken = put_all(&mut output);
+    let (_, whole) = output.finish(thread);
+    (taken, whole)
+}
+
+fn put_all_behind<
+    R: Clock + Threads + Wait + Copy + Send + 'static,
+    K: Sink + Send + Drop + 'static,
+>(rt: R, alloc: Global, sink: K) -> Result<(bool, bool), NoMemory> {
+    let queue = ByteQueue::new(alloc)?;
+    Ok(put_behind::<R, K, Brand>(rt, alloc, queue, sink))
+}
+
 #[test]
 fn all_is_written_in_order(rt: HostRuntime) -> Result<(), Fail> {
     let (sink, taken) = slow_sink(rt, rt.alloc(), usize::MAX)?;
-    let mut output = WriteBehind::start(rt, rt.alloc(), sink).map_err(|_| Fail::from("no thread"))?;
-    assert!(rt; put_all(&mut output));
-    assert!(rt; output.finish());
+    let Ok(told) = put_all_behind(rt, rt.alloc(), sink) else {
+        return Err(Fail::from("no memory"));
+    };
+    assert_eq!(rt; told, (true, true));
     let taken = taken.lock(&rt);
     assert!(rt; taken.len() == usize::from(PIECES) * PIECE && are_in_front(&taken));
     Ok(())
@@ -96,9 +126,10 @@ fn all_is_written_in_order(rt: HostRuntime) -> Result<(), Fail> {
 fn a_fault_is_told_at_the_end(rt: HostRuntime) -> Result<(), Fail> {
     let limit = 100_000;
     let (sink, taken) = slow_sink(rt, rt.alloc(), limit)?;
-    let mut output = WriteBehind::start(rt, rt.alloc(), sink).map_err(|_| Fail::from("no thread"))?;
-    assert!(rt; !put_all(&mut output));
-    assert!(rt; !output.finish());
+    let Ok(told) = put_all_behind(rt, rt.alloc(), sink) else {
+        return Err(Fail::from("no memory"));
+    };
+    assert_eq!(rt; told, (false, false));
     let taken = taken.lock(&rt);
     assert!(rt; taken.len() < limit + MOST_TAKEN && are_in_front(&taken));
     Ok(())

@@ -1,247 +1,167 @@
-//! A thread that writes.
-ghost use Rattle.std.specs.Prelude.{◌<◌, length};
-ghost use Rattle.write_behind.specs.Pieces.{TakesSome};
+//! Who writes to the sink below.
+ghost use Rattle.std.specs.Prelude.{◌≡◌, ◌<◌, [], length, true, false, vec_len};
+ghost use Rattle.sink_buffer.specs.Written.{WritesAll};
+ghost use Rattle.rtrb.specs.Ring.{sent, received, producer_capacity, SameProducer};
+ghost use Rattle.write_behind.specs.Queues.{IsProducerOf, IsConsumerOf, PutsSo};
 
-use crate::pace::Pace;
-use crate::text::Text;
+use crate::queue::{ROOM, dequeue, pass_through};
+use crate::start::Start;
+use doorbell::Doorbell;
 use ev_base::{Sink, Wrote};
-use ev_types::NoMemory;
+use rtrb::{Consumer, Producer};
 use sink_buffer::write_all;
-use std::alloc::Global;
-use std::hint::spin_loop;
-use std::mem::swap;
-use std::sync::atomic::{AtomicBool, AtomicU64, Ordering};
-use std::sync::{Arc, Mutex, Wait};
-use std::thread::{Threads, spawn};
-use std::time::Clock;
+use std::marker::{Model, PhantomData};
+use std::sync::Wait;
 
-/// How often the thread looks for more before it sleeps: some 10 microseconds.
-const LOOKS: u32 = 200;
-
-/// What was put and is not written yet, and the sink to which it goes.
+/// The sink below, and the end of the queue from which it gets what was put. Whoever has the writer
+/// writes. The sink has what came out of the queue, or, after a write failed, a front of it.
 #[derive(Drop)]
-struct Unwritten<K> {
-    sink: Mutex<K>,
-    text: Mutex<Text>,
-    // Rises with each piece that is put, and where no more will be.
-    put: AtomicU64,
-    // Rises each time when the thread takes the text.
-    taken: AtomicU64,
-    // Whether the thread sleeps, which it does only where it has written all that it took; and whether somebody waits until it takes the text.
-    sleeps: AtomicBool,
-    waits: AtomicBool,
-    failed: AtomicBool,
-    ended: AtomicBool,
-    // Is 1 once the thread has written the last.
-    done: AtomicU64,
+pub(crate) struct Writer<K: Sink, S: Start> {
+    sink: K,
+    consumer: Consumer<u8>,
+    room: Vec<u8>,
+    // Whether no write failed.
+    whole: bool,
+    start: PhantomData<S>,
 }
 
-impl<K> Unwritten<K> {
-    // Wakes the thread where it sleeps. It says so before it looks for the last time, and what it looks at has changed before this looks: so it does not
-    // sleep on.
-    fn rouse(&self) {
-        if self.sleeps.load(Ordering::SeqCst) && self.sleeps.swap(false, Ordering::SeqCst) {
-            self.put.wake_one();
-        }
-    }
+impl<K: Sink, S: Start> Model for Writer<K, S> {
+    ghost use Rattle.std.specs.Prelude.{◌≡◌, vec_len};
+    ghost use Rattle.sink_buffer.specs.Written.{WritesAll};
+    ghost use Rattle.rtrb.specs.Ring.{received};
+    ghost use Rattle.write_behind.specs.Queues.{IsConsumerOf};
+    ghost use Rattle.write_behind.specs.Writers.{WriterState};
 
-    // No more will be put.
-    fn end(&self) {
-        self.ended.store(true, Ordering::SeqCst);
-        self.put.fetch_add(1, Ordering::SeqCst);
-        self.rouse();
-    }
+    ghost Value = { WriterState K };
+
+    ghost view = { λ w. record { sink = w.sink; consumer = w.consumer; whole = w.whole } };
+
+    ghost invariant = { λ w. IsConsumerOf S.consumer w.consumer
+        × WritesAll S.facts (received w.consumer) w.whole (K.facts w.sink)
+        × (vec_len w.room ≡ 65536) };
 }
 
-impl<K: Sink + Drop> Unwritten<K> {
-    // Nothing, before this sink.
-    fn new(alloc: Global, sink: K) -> Result<Unwritten<K>, NoMemory> {
-        let text = Text::new(alloc)?;
-        Ok(Unwritten {
-            sink: Mutex::new(sink),
-            text: Mutex::new(text),
-            put: AtomicU64::new(0),
-            taken: AtomicU64::new(0),
-            sleeps: AtomicBool::new(false),
-            waits: AtomicBool::new(false),
-            failed: AtomicBool::new(false),
-            ended: AtomicBool::new(false),
-            done: AtomicU64::new(0),
-        })
-    }
-
-    // Whether all that was put is written, and the thread sleeps. While the text is locked it takes none, and it has said that it is awake before
-    // it took the last.
-    fn is_idle<R: Wait>(&self, rt: &R) -> bool {
-        let text = self.text.lock(rt);
-        text.is_empty() && self.sleeps.load(Ordering::SeqCst)
-    }
-
-    // Adds as much of a piece as there is room for, and waits where there is none.
-    fn add<R: Wait>(&self, rt: &R, piece: &[u8]) -> usize
-        requires { 0 < length piece.now }
-        ensures { TakesSome piece.now (Wrote.Bytes result) }
+impl<K: Sink, S: Start> Writer<K, S> {
+    /// The writer of a sink, at an end of a queue of which nothing was taken.
+    pub(crate) fn new(sink: K, consumer: Consumer<u8>, room: Vec<u8>) -> Writer<K, S>
+        requires consumer { IsConsumerOf S.consumer consumer }
+        requires facts { K.facts sink ≡ S.facts }
+        requires empty { received consumer ≡ [] }
+        requires size { vec_len room ≡ 65536 }
+        ensures { result ≡ record { sink = sink; consumer = consumer; whole = true } }
     {
-        for _ in rt.forever() {
-            let taken = self.taken.load(Ordering::SeqCst);
-            let mut text = self.text.lock(rt);
-            let count = text.put(piece);
-            drop(text);
-            if count > 0 {
-                self.put.fetch_add(1, Ordering::SeqCst);
-                self.rouse();
-                return count;
-            }
-            self.waits.store(true, Ordering::SeqCst);
-            self.taken.park(rt, (taken % (1 << 32)) as u32);
+        Writer {
+            sink,
+            consumer,
+            room,
+            whole: true,
+            start: PhantomData,
         }
-        unreachable!()
     }
 
-    // Writes to the sink.
-    fn write<R: Wait>(&self, rt: &R, piece: &[u8]) -> Wrote
-        requires { 0 < length piece.now }
-        ensures { TakesSome piece.now result }
+    /// Whether no write failed.
+    pub(crate) fn is_whole(&self) -> bool
+        ensures { result ≡ self.now.whole }
     {
-        let mut sink = self.sink.lock(rt);
-        let wrote = sink.write(piece);
-        drop(sink);
-        if let Wrote::Failed = wrote {
-            self.failed.store(true, Ordering::SeqCst);
-        }
-        wrote
+        self.whole
     }
 
-    // Writes what is put, until no more will be.
-    fn run<R: Wait>(&self, rt: &R, room: Text) {
-        let mut mine = room;
-        for _ in rt.forever() {
-            let put = self.put.load(Ordering::SeqCst);
-            let ended = self.ended.load(Ordering::SeqCst);
-            if self.take(rt, &mut mine) {
-                self.write_out(rt, mine.bytes());
-                mine.clear();
-            } else if ended {
-                self.done.store(1, Ordering::SeqCst);
-                return self.done.wake_all();
-            } else {
-                self.rest(rt, put);
-            }
-        }
-    }
-
-    // Takes the text, where there is one, and leaves its own place for the next.
-    fn take<R: Wait>(&self, rt: &R, mine: &mut Text) -> bool {
-        let mut text = self.text.lock(rt);
-        if text.is_empty() {
+    /// Takes what the queue holds, up to 64 KiB, and writes it, in one write if the sink takes all
+    /// of it. After a failed write it writes nothing. Tells whether there was anything, and before
+    /// the write whoever waits for room.
+    pub(crate) fn write_next(&mut self, room: Option<&Doorbell>) -> bool
+        ensures { self.old.whole ≡ false → self.new.whole ≡ false }
+    {
+        let count = dequeue(&mut self.consumer, &mut self.room);
+        if count == 0 {
             return false;
         }
-        swap(&mut *text, mine);
-        drop(text);
-        self.taken.fetch_add(1, Ordering::SeqCst);
-        if self.waits.swap(false, Ordering::SeqCst) {
-            self.taken.wake_all();
+        if let Some(room) = room {
+            room.ring();
+            room.wake();
+        }
+        if self.whole {
+            self.whole = write_all(&mut self.sink, &self.room[..count]);
         }
         true
     }
 
-    // Writes all of it, unless a write fails or failed.
-    fn write_out<R: Wait>(&self, rt: &R, bytes: &[u8]) {
-        if self.failed.load(Ordering::SeqCst) {
-            return;
-        }
-        let mut sink = self.sink.lock(rt);
-        if !write_all(&mut *sink, bytes) {
-            self.failed.store(true, Ordering::SeqCst);
-        }
-    }
-
-    // Waits until more was put: looks some times, and then sleeps until somebody wakes it.
-    fn rest<R: Wait>(&self, rt: &R, put: u64) {
-        for _ in 0..LOOKS {
-            if self.put.load(Ordering::SeqCst) != put {
+    /// Writes out what the queue holds, with its other end beside.
+    pub(crate) fn drain<R: Wait>(&mut self, rt: &R, producer: &mut Producer<u8>)
+        requires { IsProducerOf S.consumer producer.old }
+        ensures same { SameProducer producer.old producer.new }
+        ensures sent { sent producer.new ≡ sent producer.old }
+        ensures empty { received self.new.consumer ≡ sent producer.new }
+        ensures failed { self.old.whole ≡ false → self.new.whole ≡ false }
+    {
+        for _ in rt.forever() {
+            if self.consumer.slots_beside(producer) == 0 {
                 return;
             }
-            spin_loop();
+            self.write_next(None);
         }
-        self.sleeps.store(true, Ordering::SeqCst);
-        self.put.park(rt, (put % (1 << 32)) as u32);
-        self.sleeps.store(false, Ordering::SeqCst);
-    }
-}
-
-/// The owner of a thread that writes. Behind it the thread writes what was put, and ends.
-pub(crate) struct Writer<K: Drop> {
-    unwritten: Arc<Unwritten<K>, Global>,
-    pace: Pace,
-}
-
-impl<K: Sink + Send + Drop + 'static> Writer<K> {
-    /// Starts one over this sink, where there is memory for it and a thread to be had.
-    pub(crate) fn start<R: Threads + Wait + Copy + Send + 'static>(
-        rt: R,
-        alloc: Global,
-        sink: K,
-    ) -> Result<Writer<K>, NoMemory> {
-        let room = Text::new(alloc)?;
-        let Ok(unwritten) = Arc::new(alloc, Unwritten::new(alloc, sink)?) else {
-            return Err(NoMemory);
-        };
-        let Ok(theirs) = Arc::try_clone(&unwritten) else {
-            return Err(NoMemory);
-        };
-        match spawn(&rt, move || theirs.run(&rt, room)) {
-            Ok(_) => Ok(Writer {
-                unwritten,
-                pace: Pace::new(),
-            }),
-            Err(_) => Err(NoMemory),
-        }
-    }
-}
-
-impl<K: Sink + Drop> Writer<K> {
-    /// Whether a write of the sink failed.
-    pub(crate) fn has_failed(&self) -> bool {
-        self.unwritten.failed.load(Ordering::SeqCst)
+        unreachable!()
     }
 
-    /// Writes a piece at once where all is written and the thread sleeps, unless it comes soon behind another that was written so. Else it has the
-    /// thread write it, or as much of it as there is room for; where there is none it waits for room.
-    pub(crate) fn write<R: Clock + Wait>(&mut self, rt: &R, piece: &[u8]) -> Wrote
-        requires { 0 < length piece.now }
-        ensures { TakesSome piece.now result }
+    /// Writes a piece at once, or a front of it, after all that the queue holds. After a failed
+    /// write it writes nothing.
+    pub(crate) fn write_now<R: Wait>(
+        &mut self,
+        rt: &R,
+        producer: &mut Producer<u8>,
+        piece: &[u8],
+    ) -> Wrote
+        requires producer { IsProducerOf S.consumer producer.old }
+        requires capacity { producer_capacity producer.old ≡ 65536 }
+        requires some { 0 < length piece.now }
+        ensures producer { SameProducer producer.old producer.new }
+        ensures wrote { PutsSo (sent producer.old) piece.now result (sent producer.new) }
+        ensures failed { result ≡ Wrote.Failed → self.new.whole ≡ false }
+        ensures refused { self.old.whole ≡ false → result ≡ Wrote.Failed }
     {
-        if self.has_failed() {
+        if self.is_whole() {
+            self.drain(rt, producer);
+        }
+        if !self.is_whole() {
             return Wrote::Failed;
         }
-        let soon = self.pace.begin(rt);
-        if soon || !self.unwritten.is_idle(rt) {
-            return Wrote::Bytes(self.unwritten.add(rt, piece));
+        self.write(producer, piece)
+    }
+
+    /// Writes a piece, or a front of it, when the queue is empty and no write failed.
+    fn write(&mut self, producer: &mut Producer<u8>, piece: &[u8]) -> Wrote
+        requires producer { IsProducerOf S.consumer producer.old }
+        requires capacity { producer_capacity producer.old ≡ 65536 }
+        requires empty { received self.old.consumer ≡ sent producer.old }
+        requires whole { self.old.whole ≡ true }
+        requires some { 0 < length piece.now }
+        ensures producer { SameProducer producer.old producer.new }
+        ensures wrote { PutsSo (sent producer.old) piece.now result (sent producer.new) }
+        ensures failed { result ≡ Wrote.Failed → self.new.whole ≡ false }
+    {
+        let part = &piece[..piece.len().min(ROOM)];
+        let wrote = self.sink.write(part);
+        match wrote {
+            Wrote::Bytes(count) => {
+                pass_through(producer, &mut self.consumer, &mut self.room, &part[..count]);
+            }
+            Wrote::Failed => self.whole = false,
         }
-        let wrote = self.unwritten.write(rt, piece);
-        self.pace.end(rt);
         wrote
     }
 
-    /// Waits until all that was put is written, or a write failed. No more can be put.
-    pub(crate) fn finish<R: Wait>(&self, rt: &R) {
-        self.unwritten.end();
-        for _ in rt.forever() {
-            if self.unwritten.done.load(Ordering::SeqCst) == 1 {
-                return;
-            }
-            self.unwritten.done.park(rt, 0);
-        }
-    }
-}
-
-impl<K: Drop> Drop for Writer<K> {
-    fn drop(self) {
-        self.unwritten.end();
-        let Self {
-            unwritten: _,
-            pace: _,
+    /// The sink below, and whether no write failed.
+    pub(crate) fn into_sink(self) -> (K, bool)
+        ensures whole { WritesAll S.facts (received self.consumer) result.1 (K.facts result.0) }
+        ensures told { result.1 ≡ self.whole }
+    {
+        let Writer {
+            sink,
+            consumer: _,
+            room: _,
+            whole,
+            start: _,
         } = self;
+        (sink, whole)
     }
 }

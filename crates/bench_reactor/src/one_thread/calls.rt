@@ -1,40 +1,26 @@
-//! A short run that makes every call of a reactor, and makes each that is refused once more: whichever allocation finds no memory, the
-//! journal is the same.
+//! A short run that makes every call of a reactor, and makes each that is refused once more:
+//! whichever allocation finds no memory, the journal is the same.
 ghost use Rattle.std.specs.Prelude.{◌≡◌, ◌≤◌, IfOk, length, true};
 ghost use Rattle.demux.specs.PlayNet.{do_not_fall, are_bounded};
 ghost use Rattle.core_loop.specs.Idle.{IsIdle, IsOut};
-ghost use Rattle.core_rows.specs.Idle.{AreOutOrOne};
-ghost use Rattle.core_rows.specs.Play.{play_rows};
+ghost use Rattle.test_nets.specs.Idle.{AreOutOrOne};
+ghost use Rattle.test_nets.specs.Play.{play_rows};
 
 use crate::one_thread::runs::Refused;
-use core_rows::{
+use demux::PlayNet;
+use ev_base::{Answer, Handle, Kind, Mask, Report};
+use reactor_core::{Core, Done};
+use reactor_model::{Journal, MemVolumes, NoWatch};
+use std::alloc::Global;
+use test_nets::{
     Left, Rows, Steady, cancel, close, hand_over, poll, post, post_in_room, register,
     register_timed, remove, resume, schedule, set_mask, settle, settle_one, start, start_meanwhile,
     suspend, turn,
 };
-use demux::PlayNet;
-use ev_base::Report;
-use ev_types::{Answer, Handle, Kind, Mask};
-use reactor_core::{Core, Done};
-use reactor_journal::Journal;
-use reactor_model::{MemVolumes, NoWatch};
-use std::alloc::Global;
 use timer_queue::SortedTimers;
 
 /// A reactor over a net that plays what was laid down, whose volumes stay in memory.
 pub type CallRows = Rows<PlayNet, MemVolumes<u64>>;
-
-const READ: Mask = Mask {
-    read: true,
-    write: false,
-    except: false,
-};
-
-const NONE: Mask = Mask {
-    read: false,
-    write: false,
-    except: false,
-};
 
 /// How many handlers may be live.
 const MOST: u64 = 5;
@@ -62,8 +48,8 @@ enum Call {
     Remove(Handle),
 }
 
-/// The calls of the run, in order. A volume is handed over before each, so that the journal has no more room than what is owed, and
-/// each call that appends an entry has to ask for memory.
+/// The calls of the run, in order. A volume is handed over before each, so that the journal has no
+/// more room than what is owed, and each call that appends an entry has to ask for memory.
 const CALLS: [Call; 20] = [
     Call::RegisterAgain,
     Call::RegisterOffering,
@@ -83,7 +69,7 @@ const CALLS: [Call; 20] = [
     },
     Call::Turn,
     Call::Resume(Handle(1)),
-    Call::SetMask(Handle(0), NONE),
+    Call::SetMask(Handle(0), Mask::NONE),
     Call::Schedule(Handle(1)),
     Call::Cancel { timer: 2 },
     Call::Poll,
@@ -93,7 +79,8 @@ const CALLS: [Call; 20] = [
     Call::Turn,
 ];
 
-/// A reactor over a net whose waits answer at moments 2 and 10, and which reports handles 0, 1 and 2 at the first.
+/// A reactor over a net whose waits answer at moments 2 and 10, and which reports handles 0, 1 and
+/// 2 at the first.
 fn made(alloc: Global) -> Result<CallRows, Refused>
     ensures { IfOk result (λ core. IsIdle play_rows core) }
 {
@@ -136,7 +123,8 @@ fn reactor(
     }
 }
 
-/// Starts the second upcall while the first is on its way. Where that is refused it is asked for once more.
+/// Starts the second upcall while the first is on its way. Where that is refused it is asked for
+/// once more.
 fn second_or_again(core: &mut CallRows, first: &Done<Steady>) -> Option<Done<Steady>>
     requires { IsOut play_rows core.old first.now }
     ensures { AreOutOrOne play_rows core.new first.entry.now result }
@@ -178,10 +166,10 @@ fn is_made(core: &mut CallRows, call: Call) -> bool
     ensures { IsIdle play_rows core.new }
 {
     match call {
-        Call::RegisterAgain => register(core, Steady::answering(Answer::Again), READ).is_ok(),
-        Call::RegisterOffering => register(core, Steady::offering(), READ).is_ok(),
+        Call::RegisterAgain => register(core, Steady::answering(Answer::Again), Mask::READ).is_ok(),
+        Call::RegisterOffering => register(core, Steady::offering(), Mask::READ).is_ok(),
         Call::RegisterTimed => {
-            register_timed(core, Steady::offering_timed(), READ, (2, 3)).is_ok()
+            register_timed(core, Steady::offering_timed(), Mask::READ, (2, 3)).is_ok()
         }
         Call::Poll => poll(core).is_ok(),
         Call::Turn => turn(core).is_ok(),
@@ -227,7 +215,8 @@ fn make_all(core: &mut CallRows) -> Result<(), Refused>
     Ok(())
 }
 
-/// What a run leaves: the entries that were handed over, those that were held in the end, and whether each call was made.
+/// What a run leaves: the entries that were handed over, those that were held in the end, and
+/// whether each call was made.
 #[derive(Drop)]
 pub struct Calls {
     /// What was handed over.

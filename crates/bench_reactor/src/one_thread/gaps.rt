@@ -14,7 +14,8 @@ pub enum Gaps {
 }
 
 impl Gaps {
-    /// How many handles are closed between the live handle of this number and the one before it, by a random number.
+    /// How many handles are closed between the live handle of this number and the one before it, by
+    /// a random number.
     pub fn closed_before(self, at: u64, random: u64) -> u32 {
         match self {
             Gaps::None => 0,
@@ -25,7 +26,8 @@ impl Gaps {
     }
 }
 
-/// The random number behind this one: a linear congruential generator, with the multiplier and the increment of Knuth's MMIX.
+/// The random number behind this one: a linear congruential generator, with the multiplier and the
+/// increment of Knuth's MMIX.
 pub fn next_random(random: u64) -> u64 {
     random
         .wrapping_mul(6_364_136_223_846_793_005)

@@ -1,16 +1,16 @@
 //! Runs of a reactor with so many handles, by what was reported and by what was posted.
 ghost use Rattle.std.specs.Prelude.{◌≤◌, IfOk};
 ghost use Rattle.core_loop.specs.Idle.{IsIdle};
-ghost use Rattle.core_rows.specs.RoundRobin.{round_robin_rows};
+ghost use Rattle.test_nets.specs.RoundRobin.{round_robin_rows};
 
 use crate::one_thread::gaps::{Gaps, next_random};
-use core_rows::{
-    Left, RoundRobinNet, Rows, Steady, close, hand_over, poll, post, register, remove, turn,
-};
-use ev_types::{Handle, Kind, Mask};
+use ev_base::{Handle, Kind, Mask};
 use reactor_core::Core;
 use reactor_model::{DropVolumes, NoWatch};
 use std::alloc::Global;
+use test_nets::{
+    Left, RoundRobinNet, Rows, Steady, close, hand_over, poll, post, register, remove, turn,
+};
 use timer_queue::SortedTimers;
 
 /// A reactor over a net that reports its handles in turn, whose volumes are let go.
@@ -19,12 +19,6 @@ pub type BenchRows = Rows<RoundRobinNet, DropVolumes>;
 /// A call was refused: there was no memory.
 #[derive(Clone, Copy, PartialEq, Eq, Debug)]
 pub struct Refused;
-
-const READ: Mask = Mask {
-    read: true,
-    write: false,
-    except: false,
-};
 
 /// How many entries a volume has at least.
 pub const VOLUME: u64 = 65_536;
@@ -63,7 +57,7 @@ fn register_one(core: &mut BenchRows) -> Result<Handle, Refused>
     requires { IsIdle round_robin_rows core.old }
     ensures { IsIdle round_robin_rows core.new }
 {
-    match register(core, Steady::new(), READ) {
+    match register(core, Steady::new(), Mask::READ) {
         Ok(handle) => Ok(handle),
         Err(_) => Err(Refused),
     }
@@ -153,7 +147,8 @@ fn wait_or_again(core: &mut BenchRows) -> Result<(), Refused>
     }
 }
 
-/// Makes the next upcall, a volume handed over before where one is due, and tells whether there was one.
+/// Makes the next upcall, a volume handed over before where one is due, and tells whether there was
+/// one.
 fn serve(core: &mut BenchRows) -> Result<bool, Refused>
     requires { IsIdle round_robin_rows core.old }
     ensures { IsIdle round_robin_rows core.new }
@@ -168,7 +163,8 @@ fn serve(core: &mut BenchRows) -> Result<bool, Refused>
     }
 }
 
-/// Makes the next upcall, and tells whether there was one. Where it is refused it is asked for once more.
+/// Makes the next upcall, and tells whether there was one. Where it is refused it is asked for once
+/// more.
 fn serve_or_again(core: &mut BenchRows) -> Result<bool, Refused>
     requires { IsIdle round_robin_rows core.old }
     ensures { IsIdle round_robin_rows core.new }
@@ -194,7 +190,8 @@ fn serve_all(core: &mut BenchRows) -> Result<u64, Refused>
     Ok(served)
 }
 
-/// Waits so many times, each time for as many reports as a wait has, and serves them. It tells how many there were.
+/// Waits so many times, each time for as many reports as a wait has, and serves them. It tells how
+/// many there were.
 pub fn serve_reports(core: &mut BenchRows, waits: u64) -> Result<u64, Refused>
     requires { IsIdle round_robin_rows core.old }
     ensures { IsIdle round_robin_rows core.new }
@@ -235,7 +232,8 @@ fn in_turn(live: &[Handle], seq: u64) -> Option<Handle> {
     live.get(place as usize).copied()
 }
 
-/// Posts as many notifications as a wait may have reports, from this number on, to the handles in turn.
+/// Posts as many notifications as a wait may have reports, from this number on, to the handles in
+/// turn.
 fn post_all(core: &mut BenchRows, live: &[Handle], from: u64) -> Result<(), Refused>
     requires { IsIdle round_robin_rows core.old }
     ensures { IsIdle round_robin_rows core.new }
@@ -250,8 +248,8 @@ fn post_all(core: &mut BenchRows, live: &[Handle], from: u64) -> Result<(), Refu
     Ok(())
 }
 
-/// Waits so many times, each time with as many notifications as a wait may have reports, and serves them. It tells how many there
-/// were.
+/// Waits so many times, each time with as many notifications as a wait may have reports, and serves
+/// them. It tells how many there were.
 pub fn serve_posts(core: &mut BenchRows, live: &[Handle], waits: u64) -> Result<u64, Refused>
     requires { IsIdle round_robin_rows core.old }
     ensures { IsIdle round_robin_rows core.new }
@@ -265,7 +263,8 @@ pub fn serve_posts(core: &mut BenchRows, live: &[Handle], waits: u64) -> Result<
     Ok(served)
 }
 
-/// Stops a reactor and takes it apart, and tells how many entries it had handed over and how many it held.
+/// Stops a reactor and takes it apart, and tells how many entries it had handed over and how many
+/// it held.
 pub fn entries_of(core: BenchRows) -> (u64, u64)
     requires { IsIdle round_robin_rows core }
 {

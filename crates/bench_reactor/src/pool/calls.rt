@@ -1,23 +1,17 @@
 //! How long calls take beside a leader whose net waits long.
-ghost use Rattle.tp_rows.specs.Callers.{IsFree, SameRank};
+ghost use Rattle.test_pool.specs.Callers.{IsFree, SameRank};
 
 use crate::pool::slow_net::{SlowNet, SlowWake};
-use ev_types::{Answer, Handle, Kind, Mask};
+use ev_base::{Answer, Handle, Kind, Mask};
 use reactor_model::DropVolumes;
 use std::alloc::Global;
 use std::io;
 use std::sync::Wait;
 use std::thread::{Threads, join_mut};
 use std::time::{Clock, Duration, Instant};
-use tp_rows::{
+use test_pool::{
     Answered, Left, Member, NoPool, Pool, PoolWorker, close, dismiss, hire, lead, post, register,
     remove, settle, share, stop,
-};
-
-const READ: Mask = Mask {
-    read: true,
-    write: false,
-    except: false,
 };
 
 /// A pool over a net that waits long.
@@ -50,7 +44,8 @@ struct Settlings {
     count: u64,
 }
 
-/// Leads, and settles each upcall, until the pool is stopped or fails. It keeps how long the slowest settling took.
+/// Leads, and settles each upcall, until the pool is stopped or fails. It keeps how long the
+/// slowest settling took.
 fn serve<R: Wait + Clock>(
     rt: &R,
     pool: &SlowPool<R>,
@@ -86,8 +81,8 @@ fn since<R: Clock>(rt: &R, start: io::Result<Instant>) -> u128 {
     }
 }
 
-/// Posts a notification and removes a handle that was never opened, again and again, and stops the pool in the end. It tells how long the
-/// slowest removal took, in nanoseconds.
+/// Posts a notification and removes a handle that was never opened, again and again, and stops the
+/// pool in the end. It tells how long the slowest removal took, in nanoseconds.
 fn disturb<R: Wait + Clock>(rt: &R, pool: &SlowPool<R>, worker: &mut SlowWorker<R>) -> u128
     requires { IsFree pool.now worker.old }
     ensures free { IsFree pool.now worker.new }
@@ -142,18 +137,21 @@ fn serve_disturbed<R: Threads + Wait + Clock + Copy + Send + Sync>(
     outside: &mut SlowWorker<R>,
 ) -> u128
     requires { IsFree pool.now root.old × IsFree pool.now hired.old × IsFree pool.now outside.old }
-    ensures free { IsFree pool.now root.new × IsFree pool.now hired.new × IsFree pool.now outside.new }
+    ensures free { IsFree pool.now root.new × IsFree pool.now hired.new
+        × IsFree pool.now outside.new }
     ensures root { SameRank root.old root.new }
     ensures hired { SameRank hired.old hired.new }
     ensures outside { SameRank outside.old outside.new }
 {
     let mut leaders = ||
         requires { IsFree pool.now root.now × IsFree pool.now hired.now }
-        ensures { IsFree pool.entry.now root.exit.now × IsFree pool.entry.now hired.exit.now × SameRank root.entry.now root.exit.now × SameRank hired.entry.now hired.exit.now }
+        ensures { IsFree pool.entry.now root.exit.now × IsFree pool.entry.now hired.exit.now
+            × SameRank root.entry.now root.exit.now × SameRank hired.entry.now hired.exit.now }
     { serve_both(rt, pool, root, first, hired, second) };
     let mut third = || -> u128
         requires { IsFree pool.now outside.now }
-        ensures { IsFree pool.entry.now outside.exit.now × SameRank outside.entry.now outside.exit.now }
+        ensures { IsFree pool.entry.now outside.exit.now
+            × SameRank outside.entry.now outside.exit.now }
     { disturb(rt, pool, outside) };
     let (_, slowest) = join_mut(rt, &mut leaders, &mut third);
     slowest
@@ -168,7 +166,13 @@ pub fn slowest_calls<R: Threads + Wait + Clock + Copy + Send + Sync>(
         return Err(NoPool);
     };
     let (pool, mut root) = share(alloc, 1, 65_536, net, DropVolumes, waker)?;
-    let _handle = register(rt, &pool, &mut root, Member::answering(Answer::Keep), READ);
+    let _handle = register(
+        rt,
+        &pool,
+        &mut root,
+        Member::answering(Answer::Keep),
+        Mask::READ,
+    );
     let mut hired = hire(&pool, &mut root);
     let mut outside = hire(&pool, &mut root);
     let mut first = Settlings {

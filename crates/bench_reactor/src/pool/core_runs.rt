@@ -3,17 +3,18 @@ ghost use Rattle.std.specs.Prelude.{◌≤◌, IfOk};
 ghost use Rattle.core_loop.specs.Idle.{IsIdle};
 ghost use Rattle.bench_reactor.specs.CoreRuns.{member_core};
 
-use crate::pool::events::{EVENTS_OF_WAIT, READ, VOLUME, narrow};
+use crate::pool::events::{EVENTS_OF_WAIT, VOLUME, narrow};
 use core_loop::{close, register, run};
-use core_rows::RoundRobinNet;
+use ev_base::Mask;
 use reactor_core::{Core, Parts};
 use reactor_model::{DropVolumes, NoWatch};
 use std::alloc::Global;
 use std::io;
 use std::sync::Wait;
 use std::time::{Clock, Instant};
+use test_nets::RoundRobinNet;
+use test_pool::{Member, NoPool};
 use timer_queue::SortedTimers;
-use tp_rows::{Member, NoPool};
 
 /// A reactor of members over a net that reports its handles in turn, whose volumes are let go.
 type EventCore = Core<Member, RoundRobinNet, SortedTimers, NoWatch, DropVolumes>;
@@ -38,7 +39,7 @@ fn fill(core: &mut EventCore, handles: u64, inputs: u32)
     ensures { IsIdle member_core core.new }
 {
     for _ in 0..handles {
-        let _answer = register(core, Member::working(0, inputs), READ);
+        let _answer = register(core, Member::working(0, inputs), Mask::READ);
     }
 }
 

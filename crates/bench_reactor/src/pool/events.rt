@@ -1,30 +1,23 @@
 //! Runs of pools with so many workers and handles.
 ghost use Rattle.std.specs.Prelude.{◌≤◌};
-ghost use Rattle.tp_rows.specs.Callers.{IsFree, SameRank};
+ghost use Rattle.test_pool.specs.Callers.{IsFree, SameRank};
 
-use core_rows::RoundRobinNet;
-use ev_types::Mask;
+use ev_base::Mask;
 use reactor_model::DropVolumes;
 use std::alloc::Global;
 use std::io;
 use std::sync::Wait;
 use std::thread::Threads;
 use std::time::{Clock, Instant};
+use test_nets::RoundRobinNet;
+use test_pool::{Left, Member, NoPool, Pool, PoolWorker, Still, close, register, run_pool, share};
 use tp_reactor::Ran;
-use tp_rows::{Left, Member, NoPool, Pool, PoolWorker, Still, close, register, run_pool, share};
 
 /// How many reports a wait gives.
 pub const EVENTS_OF_WAIT: usize = 256;
 
 /// How many entries a volume has at least.
 pub const VOLUME: u64 = 65_536;
-
-/// Handles are reported for reading.
-pub const READ: Mask = Mask {
-    read: true,
-    write: false,
-    except: false,
-};
 
 /// A pool over a net that reports its handles in turn, whose volumes are let go.
 type EventPool = Pool<RoundRobinNet, DropVolumes, Still>;
@@ -48,7 +41,8 @@ pub fn narrow(count: u64) -> u32 {
     u32::try_from(count).unwrap_or(u32::MAX)
 }
 
-/// Registers so many members, of which each takes so many turns at each of so many inputs, and then stops the pool.
+/// Registers so many members, of which each takes so many turns at each of so many inputs, and then
+/// stops the pool.
 fn fill<R: Wait>(
     rt: &R,
     pool: &EventPool,
@@ -62,7 +56,7 @@ fn fill<R: Wait>(
     ensures rank { SameRank root.old root.new }
 {
     for _ in 0..handles {
-        let _answer = register(rt, pool, root, Member::working(turns, inputs), READ);
+        let _answer = register(rt, pool, root, Member::working(turns, inputs), Mask::READ);
     }
 }
 

@@ -3,8 +3,7 @@ ghost use Rattle.std.specs.Prelude.{◌≡◌, [], IfOk};
 ghost use Rattle.bench_reactor.specs.SlowNet.{slow_facts};
 
 use demux::PlayEnd;
-use ev_base::{Net, Report, Waited, Wake};
-use ev_types::{Handle, Mask, NetFailed, NoMemory};
+use ev_base::{Handle, Mask, Net, NetFailed, NoMemory, Report, Waited, Wake};
 use std::alloc::Global;
 use std::sync::{Arc, Wait};
 use std::thread::Parker;
@@ -13,8 +12,9 @@ use std::time::Duration;
 /// How many milliseconds a wait lasts that has no limit.
 const LONG: u64 = 10_000;
 
-/// A demultiplexer that reports nothing: each wait lasts until it is woken, or 10 seconds. It keeps no masks, forgets the ends that it is
-/// given back, and stands at moment 0. An attach that finds no memory fails.
+/// A demultiplexer that reports nothing: each wait lasts until it is woken, or 10 seconds. It keeps
+/// no masks, forgets the ends that it is given back, and stands at moment 0. An attach that finds
+/// no memory fails.
 #[derive(Drop)]
 pub struct SlowNet<R> {
     rt: R,
@@ -35,7 +35,8 @@ pub struct SlowWake {
 impl<R: Copy> SlowNet<R> {
     /// One that has made no call, and its waker.
     pub fn new(alloc: Global, rt: &R) -> Result<(SlowNet<R>, SlowWake), NoMemory>
-        ensures { IfOk result (λ made. ((slow_facts made.0).attached ≡ []) × ((slow_facts made.0).failed_attaches ≡ 0) × ((slow_facts made.0).reports ≡ [])) }
+        ensures { IfOk result (λ made. ((slow_facts made.0).attached ≡ [])
+            × ((slow_facts made.0).failed_attaches ≡ 0) × ((slow_facts made.0).reports ≡ [])) }
     {
         let parker = Arc::new(alloc, Parker::new())?;
         let waker = SlowWake {

@@ -1,7 +1,9 @@
 use Rattle.std.proofs.Common.{◌≡◌, true, false, refl}
 use Rattle.std.proofs.lemmas.Bool.{false≢true}
 use Rattle.log_handler.specs.declared.note.ServerNote.{ServerNote}
-use Rattle.log_handler.specs.declared.note.ServerNote.TheVariants.{Accepted, NoneWaiting, ListenerFailed, ListenerShut, Piece, Finished}
+use Rattle.log_handler.specs.declared.note.ServerNote.TheVariants.{Accepted, NoneWaiting}
+use Rattle.log_handler.specs.declared.note.ServerNote.TheVariants.{ListenerFailed, ListenerShut}
+use Rattle.log_handler.specs.declared.note.ServerNote.TheVariants.{Piece, Finished}
 use Rattle.log_handler.specs.Notes.{is_piece}
 use Rattle.acceptor.specs.Servers.{is_accepted}
 use Rattle.acceptor.proofs.server.talked.Goals as goal

@@ -6,4 +6,5 @@ use Rattle.bench_parts.proofs.queues.fill.Given as goal
 abbrev pub invariant-loop-timer : goal.invariant-loop-timer
 invariant-loop-timer g l =
     (l.first + l.size ≤ g.Q.TimerQueue.spare l.queue + l.timer)
-    × ((number : ℕ) → l.timer ≤ number → is_scheduled number (g.Q.TimerQueue.timers l.queue) ≡ false)
+    × ((number : ℕ) → l.timer ≤ number
+    → is_scheduled number (g.Q.TimerQueue.timers l.queue) ≡ false)

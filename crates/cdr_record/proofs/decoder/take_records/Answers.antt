@@ -17,7 +17,8 @@ slice_bounds-left-count g c = (one_within _ _ (sym c.in-One.ensures)).1
 
 pub slice_bounds-left-start : goal.slice_bounds-left-start
 slice_bounds-left-start g c =
-    let within : c.in-One.size ≤ length c.records.left.now = (one_within _ _ (sym c.in-One.ensures)).1 in search rules
+    let within : c.in-One.size ≤ length c.records.left.now =
+    (one_within _ _ (sym c.in-One.ensures)).1 in search rules
 
 pub records-smaller : goal.records-smaller
 records-smaller g c =
@@ -26,16 +27,21 @@ records-smaller g c =
 
 pub records-preserved : goal.records-preserved
 records-preserved g c = record {
-  records = rw (take_rest, c.in_ok-append-in-One.ensures.ok) (one_more_record _ _ _ _ _ (sym c.in-One.ensures) c.record_in.ensures c.records.invariant.records);
+  records = rw (take_rest, c.in_ok-append-in-One.ensures.ok)
+      (one_more_record _ _ _ _ _ (sym c.in-One.ensures) c.record_in.ensures
+      c.records.invariant.records);
   left = rw take_rest (sym (steps_over _ _ (sym c.in-One.ensures)).left ∙ c.records.invariant.left);
 }
 
 pub returns-in_default : goal.returns-in_default
 returns-in_default g c =
-    let end = none_first c.records.left.now c.first_in.result c.first_in.ensures c.in_default.not-One in
+    let end = none_first c.records.left.now c.first_in.result c.first_in.ensures
+    c.in_default.not-One in
     let left = sym end.left ∙ c.records.invariant.left in
     record {
       left = left;
       first = c.first_in.ensures ∙ ap first_of left;
-      records = sym (append-nil (g.L.RecordList.records c.records.list)) ∙ ap (λ rs. g.L.RecordList.records c.records.list ++ rs) (sym end.records) ∙ c.records.invariant.records;
+      records = sym (append-nil (g.L.RecordList.records c.records.list))
+          ∙ ap (λ rs. g.L.RecordList.records c.records.list ++ rs) (sym end.records)
+          ∙ c.records.invariant.records;
     }

@@ -5,7 +5,8 @@ use Rattle.cdr_record.proofs.decoder.take_records.Given as goal
 -- the records so far and those of the rest are all, and what will be left is what all leaves
 abbrev pub invariant-records : goal.invariant-records
 invariant-records g l = record {
-  records : g.L.RecordList.records l.list ++ records_of l.left ≡ g.L.RecordList.records l.initial.list ++ records_of l.bytes;
+  records : g.L.RecordList.records l.list ++ records_of l.left
+      ≡ g.L.RecordList.records l.initial.list ++ records_of l.bytes;
   left : left_of l.left ≡ left_of l.bytes;
 }
 

@@ -12,13 +12,19 @@ returns c =
     let pid_fits : FitsSigned w32 c.args.r.now.pid = search rules in
     let sec_fits : FitsSigned w64 c.args.r.now.sec = search rules in
     let usec_fits : FitsSigned w32 c.args.r.now.usec = search rules in
-    let kind : c.cast_unsigned.result ≡ cast_unsigned w32 c.args.r.now.kind = rw (c.cast_unsigned.ensures, to_z-of_z) refl in
-    let pid : c.cast_unsigned-2.result ≡ cast_unsigned w32 c.args.r.now.pid = rw (c.cast_unsigned-2.ensures, to_z-of_z) refl in
-    let usec : c.cast_unsigned-3.result ≡ cast_unsigned w32 c.args.r.now.usec = rw (c.cast_unsigned-3.ensures, to_z-of_z) refl in
-    let sec : c.push_seconds.new.out.items ≡ c.push_word-3.new.out.items ++ seconds_bytes c.args.octet c.args.r.now.sec =
+    let kind : c.cast_unsigned.result ≡ cast_unsigned w32 c.args.r.now.kind =
+    rw (c.cast_unsigned.ensures, to_z-of_z) refl in
+    let pid : c.cast_unsigned-2.result ≡ cast_unsigned w32 c.args.r.now.pid =
+    rw (c.cast_unsigned-2.ensures, to_z-of_z) refl in
+    let usec : c.cast_unsigned-3.result ≡ cast_unsigned w32 c.args.r.now.usec =
+    rw (c.cast_unsigned-3.ensures, to_z-of_z) refl in
+    let sec : c.push_seconds.new.out.items
+    ≡ c.push_word-3.new.out.items ++ seconds_bytes c.args.octet c.args.r.now.sec =
     rw (c.in_ok-push_seconds.ensures, to_z-of_z) refl in
-    spelled _ _ _ _ _ _ _ _ _ _ _ _ _ _ _ _ _ c.order_of-order.ensures c.seconds_size.ensures.size c.as_slice-message.ensures
+    spelled _ _ _ _ _ _ _ _ _ _ _ _ _ _ _ _ _ c.order_of-order.ensures c.seconds_size.ensures.size
+    c.as_slice-message.ensures
     kind pid usec
     c.in_ok-out.ensures.items c.in_ok-extend_from_slice.ensures.items c.in_ok-push_word.ensures
     c.in_ok-push_word-2.ensures c.in_ok-push_word-3.ensures sec
-    c.in_ok-push_word-4.ensures c.in_ok-push_word-5.ensures c.in_ok-extend_from_slice-2.ensures.items
+    c.in_ok-push_word-4.ensures c.in_ok-push_word-5.ensures
+    c.in_ok-extend_from_slice-2.ensures.items

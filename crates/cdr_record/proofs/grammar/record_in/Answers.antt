@@ -10,5 +10,6 @@ returns c =
     let pid : FitsSigned w32 c.signed_at-2.result = search rules in
     let sec : FitsSigned w64 c.seconds_in.result = search rules in
     let usec : FitsSigned w32 c.signed_at-3.result = search rules in
-    made_record _ _ _ _ _ _ _ kind pid sec usec c.signed_at.ensures c.signed_at-2.ensures c.seconds_in.ensures
+    made_record _ _ _ _ _ _ _ kind pid sec usec c.signed_at.ensures c.signed_at-2.ensures
+    c.seconds_in.ensures
     c.seconds_size.ensures.size c.signed_at-3.ensures c.message_in.ensures

@@ -3,4 +3,10 @@ use Rattle.core_loop.proofs.turns.close.Goals as goal
 pub returns-clause-leaves : goal.returns-clause-leaves
 returns-clause-leaves g c =
     let w = c.stop.ensures.stopped in
-    record { terms = w.0; first = w.1; history = w.2; over = w.4; stand = c.into_parts.ensures.stands w.0 w.1 w.2 w.3 }
+    record {
+      terms = w.0;
+      first = w.1;
+      history = w.2;
+      over = w.4;
+      stand = c.into_parts.ensures.stands w.0 w.1 w.2 w.3;
+    }

@@ -1,14 +1,29 @@
-use Rattle.core_loop.proofs.Idling.{hands_over}
+use Rattle.core_loop.proofs.Idling.{hands_over, idle_same}
 use Rattle.core_loop.proofs.turns.hand_over.Goals as goal
 
 pub hand_over-requires : goal.hand_over-requires
-hand_over-requires g c = let i = c.requires in record { stands = (i.terms, i.first, i.history, i.stands) }
+hand_over-requires g c = let i = c.requires in
+    record { stands = (i.terms, i.first, i.history, i.stands) }
 
-pub returns-in-Ok-clause-idle : goal.returns-in-Ok-clause-idle
-returns-in-Ok-clause-idle g c = let i = c.requires in hands_over c.args.core.now c.hand_over.new.self _ i (c.in-Ok.ensures.ok i.terms i.first i.history i.stands)
+pub returns-in-Ok-clause-stays : goal.returns-in-Ok-clause-stays
+returns-in-Ok-clause-stays g c = λ bound i.
+    hands_over c.args.core.now c.hand_over.new.self _ i
+    (c.in-Ok.ensures.ok i.terms i.first i.history i.stands)
 
 pub returns-in-Ok-clause-net : goal.returns-in-Ok-clause-net
-returns-in-Ok-clause-net g c = let i = c.requires in (c.in-Ok.ensures.ok i.terms i.first i.history i.stands).others.net
+returns-in-Ok-clause-net g c = let i = c.requires in
+    (c.in-Ok.ensures.ok i.terms i.first i.history i.stands).others.net
 
 pub returns-in-Ok-clause-ok : goal.returns-in-Ok-clause-ok
-returns-in-Ok-clause-ok g c = let i = c.requires in (c.in-Ok.ensures.ok i.terms i.first i.history i.stands).faults
+returns-in-Ok-clause-ok g c = let i = c.requires in
+    (c.in-Ok.ensures.ok i.terms i.first i.history i.stands).faults
+
+pub returns-in-Err-Failed-clause-stays : goal.returns-in-Err-Failed-clause-stays
+returns-in-Err-Failed-clause-stays g c = λ bound i.
+    idle_same c.args.core.now c.hand_over.new.self i
+    (c.in-Err-Failed.ensures.err i.terms i.first i.history i.stands)
+
+pub returns-in-Err-NoMemory-clause-stays : goal.returns-in-Err-NoMemory-clause-stays
+returns-in-Err-NoMemory-clause-stays g c = λ bound i.
+    idle_same c.args.core.now c.hand_over.new.self i
+    (c.in-Err-NoMemory.ensures.err i.terms i.first i.history i.stands)

@@ -7,7 +7,8 @@ register-requires g c =
     let i = c.requires.0 in
     record { stands = (i.terms, i.first, i.history, i.stands, c.requires.1); timer = tt }
 
-pub returns : goal.returns
-returns g c =
+pub returns-clause-idle : goal.returns-clause-idle
+returns-clause-idle g c =
     let i = c.requires.0 in
-    registers _ _ c.register.result _ None i (c.register.ensures.stands i.terms i.first i.history i.stands c.requires.1)
+    registers c.args.core.now c.register.new.self c.register.result c.args.mask None i
+    (c.register.ensures.stands i.terms i.first i.history i.stands c.requires.1)

@@ -6,4 +6,6 @@ abbrev pub invariant-loop-at : goal.invariant-loop-at
 invariant-loop-at l =
     (vec_len l.planned ≡ vec_len l.initial.planned)
     × (l.left ≡ length (left_at l.wait l.watched (take l.at l.initial.planned.items)))
-    × (l.planned.items ≡ left_at l.wait l.watched (take l.at l.initial.planned.items) ++ (given_at l.wait l.watched (take l.at l.initial.planned.items) ++ drop l.at l.initial.planned.items))
+    × (l.planned.items ≡ left_at l.wait l.watched (take l.at l.initial.planned.items)
+    ++ (given_at l.wait l.watched (take l.at l.initial.planned.items)
+    ++ drop l.at l.initial.planned.items))

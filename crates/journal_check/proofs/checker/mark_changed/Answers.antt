@@ -11,6 +11,10 @@ returns-then-before-after c is = λ x.
     ⊎_elim
     (λ (t : is_eq (nat_cmp c.args.handle.0 x) ≡ true).
     let same : c.args.handle.0 ≡ x = eqb-true c.args.handle.0 x (num_test c.args.handle.0 x ∙ t) in
-    ap (contains nat_cmp c.args.handles.now) (sym same) ∙ (is ∙ (unchanged ∙ sym (cond-true (is_eq (nat_cmp c.args.handle.0 x)) c.args.after (contains nat_cmp c.args.handles.now x) t))))
-    (λ (f : is_eq (nat_cmp c.args.handle.0 x) ≡ false). sym (cond-false (is_eq (nat_cmp c.args.handle.0 x)) c.args.after (contains nat_cmp c.args.handles.now x) f))
+    ap (contains nat_cmp c.args.handles.now) (sym same)
+    ∙ (is ∙ (unchanged ∙ sym (cond-true (is_eq (nat_cmp c.args.handle.0 x)) c.args.after
+    (contains nat_cmp c.args.handles.now x) t))))
+    (λ (f : is_eq (nat_cmp c.args.handle.0 x) ≡ false).
+    sym (cond-false (is_eq (nat_cmp c.args.handle.0 x)) c.args.after
+    (contains nat_cmp c.args.handles.now x) f))
     (cases_Bool (is_eq (nat_cmp c.args.handle.0 x)))

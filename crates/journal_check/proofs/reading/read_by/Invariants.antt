@@ -7,4 +7,5 @@ use Rattle.journal_check.proofs.Checking.{Read}
 use Rattle.journal_check.proofs.reading.read_by.Given as goal
 
 abbrev pub invariant-loop-k : goal.invariant-loop-k
-invariant-loop-k g l = Read l.most (past_of (take l.k l.journal)) l.checker.machine (contains pair_cmp l.checker.fronts) (contains nat_cmp l.checker.closing) l.due l.ready
+invariant-loop-k g l = Read l.most (past_of (take l.k l.journal)) l.checker.machine
+    (contains pair_cmp l.checker.fronts) (contains nat_cmp l.checker.closing) l.due l.ready

@@ -10,7 +10,8 @@ returns-in_default-clause-none c q t =
     let first = rw c.in-Some.ensures.steps at (c.range.ensures.in_range tt).1 in
     let least = rw c.in-Some.ensures.steps at (c.range.ensures.in_range tt).2 in
     false_from_ne_true _ (λ (h : contains pair_cmp c.args.owned.now (c.args.handle.0, t) ≡ true).
-    c.if-other-handle.false (pair_between c.args.handle.0 c.in-Some.field-0.now t first.0.0 (least (c.args.handle.0, t) (pair_from c.args.handle.0 t, tt) h)))
+    c.if-other-handle.false (pair_between c.args.handle.0 c.in-Some.field-0.now t first.0.0
+    (least (c.args.handle.0, t) (pair_from c.args.handle.0 t, tt) h)))
 
 pub returns-in_default-2-clause-none : goal.returns-in_default-2-clause-none
 returns-in_default-2-clause-none c q t =

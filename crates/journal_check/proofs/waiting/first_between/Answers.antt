@@ -21,7 +21,8 @@ pub returns-in_default-clause-none : goal.returns-in_default-clause-none
 returns-in_default-clause-none c q n i le lt =
     let least = rw c.in-Some.ensures.steps at (c.range.ensures.in_range tt).2 in
     false_from_ne_true _ (λ (h : contains pair_cmp c.args.keys.now (n, i) ≡ true).
-    let end : c.in-Some.field-0.now.0 ≤ n = pair_ends c.in-Some.field-0.now n i (least (n, i) (pair_reaches c.args.low n i le, tt) h) in
+    let end : c.in-Some.field-0.now.0 ≤ n =
+    pair_ends c.in-Some.field-0.now n i (least (n, i) (pair_reaches c.args.low n i le, tt) h) in
     let past : c.args.last < c.in-Some.field-0.now.0 = c.if-at-last.false in
     absurd (omega arith))
 

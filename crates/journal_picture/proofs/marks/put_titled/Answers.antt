@@ -4,4 +4,5 @@ use Rattle.journal_picture.proofs.marks.put_titled.Goals as goal
 pub returns : goal.returns
 returns g c =
     let s = g.T.TextOut.stands in
-    next s (next s (next s (next s c.put.ensures c.put-2.ensures) c.put_counted.ensures) c.put-3.ensures) c.put_entry_line.ensures
+    next s (next s (next s (next s c.put.ensures c.put-2.ensures) c.put_counted.ensures)
+    c.put-3.ensures) c.put_entry_line.ensures

@@ -8,10 +8,14 @@ pub returns-then-whole : goal.returns-then-whole
 returns-then-whole g c =
     let o = g.K.Sink.facts c.args.output in
     let text = picture c.args.journal.now c.args.bad in
-    subst (λ whole. WritesAll o text whole (g.K.Sink.facts c.finish-output.result.0)) c.if-whole.true (c.finish-output.ensures o text (c.put_picture.ensures (Told o) [] c.new-text.ensures.text))
+    subst (λ whole. WritesAll o text whole (g.K.Sink.facts c.finish-output.result.0))
+    c.if-whole.true (c.finish-output.ensures o text
+    (c.put_picture.ensures (Told o) [] c.new-text.ensures.text))
 
 pub returns : goal.returns
 returns g c =
     let o = g.K.Sink.facts c.args.output in
     let text = picture c.args.journal.now c.args.bad in
-    subst (λ whole. WritesAll o text whole (g.K.Sink.facts c.finish-output.result.0)) c.if-whole.false (c.finish-output.ensures o text (c.put_picture.ensures (Told o) [] c.new-text.ensures.text))
+    subst (λ whole. WritesAll o text whole (g.K.Sink.facts c.finish-output.result.0))
+    c.if-whole.false (c.finish-output.ensures o text
+    (c.put_picture.ensures (Told o) [] c.new-text.ensures.text))

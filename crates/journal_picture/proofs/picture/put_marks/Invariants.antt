@@ -12,5 +12,6 @@ invariant-loop-entry g l = record {
   seen : tables_of l.seen ≡ tables l.fn.seen.handles (past_of (take l.entry-index l.entries));
   handles : l.seen.handles ≡ l.fn.seen.handles;
   room : length l.entries ≤ l.entry-index + room_of l.seen;
-  marks : Puts g.T.TextOut.stands l.fn.out (marks_text l.layout l.fn.seen.handles (past_of (take l.entry-index l.entries))) l.out;
+  marks : Puts g.T.TextOut.stands l.fn.out
+      (marks_text l.layout l.fn.seen.handles (past_of (take l.entry-index l.entries))) l.out;
 }

@@ -17,10 +17,19 @@ returns g c =
     let journal = c.args.journal.now in
     let bad = c.args.bad in
     let layout = c.of-layout.result in
-    let handles : c.args.seen.handles ≡ layout.handles = sym c.handles.ensures ∙ sym (ap (λ (l : Layout). l.handles) c.of-layout.ensures) in
-    let is : layout ≡ layout_for journal bad = c.of-layout.ensures ∙ ap₂ layout_of c.drawn_count.ensures (c.handles.ensures ∙ c.requires.handles) in
-    let marked = subst (λ (n : ℕ). Puts s c.put_header.new.out (flat_map (text_of layout) (marks n (past_of (good_part journal bad)))) c.put_marks.new.out) handles
-    (subst (λ (good : List (Entry ServerNote)). Puts s c.put_header.new.out (flat_map (text_of layout) (marks c.args.seen.handles (past_of good))) c.put_marks.new.out) c.good_part.ensures
+    let handles : c.args.seen.handles ≡ layout.handles =
+    sym c.handles.ensures ∙ sym (ap (λ (l : Layout). l.handles) c.of-layout.ensures) in
+    let is : layout ≡ layout_for journal bad =
+    c.of-layout.ensures ∙ ap₂ layout_of c.drawn_count.ensures
+    (c.handles.ensures ∙ c.requires.handles) in
+    let marked = subst (λ (n : ℕ). Puts s c.put_header.new.out
+    (flat_map (text_of layout) (marks n (past_of (good_part journal bad)))) c.put_marks.new.out)
+    handles
+    (subst (λ (good : List (Entry ServerNote)).
+    Puts s c.put_header.new.out (flat_map (text_of layout)
+    (marks c.args.seen.handles (past_of good))) c.put_marks.new.out) c.good_part.ensures
     c.put_marks.ensures) in
-    let put = next s (next s (next s c.put_header.ensures marked) c.put_bad.ensures) c.put.ensures in
-    subst (λ (l : Layout). Puts s c.args.out.now (page l (good_part journal bad) (bad_part l journal bad)) c.put.new.self) is put
+    let put = next s (next s (next s c.put_header.ensures marked) c.put_bad.ensures) c.put.ensures
+    in
+    subst (λ (l : Layout). Puts s c.args.out.now
+    (page l (good_part journal bad) (bad_part l journal bad)) c.put.new.self) is put

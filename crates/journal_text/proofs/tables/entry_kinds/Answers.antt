@@ -1,14 +1,15 @@
 use Rattle.std.proofs.Common.{◌≡◌, ◌∙◌, Some, List, ap, refl}
-use Rattle.reactor_journal.specs.declared.entry.Entry.{Entry}
-use Rattle.reactor_journal.specs.declared.entry.Entry.TheVariants as entry
+use Rattle.reactor_model.specs.reactor_journal.specs.declared.entry.Entry.{Entry}
+use Rattle.reactor_model.specs.reactor_journal.specs.declared.entry.Entry.TheVariants as entry
 use Rattle.log_handler.specs.declared.note.ServerNote.{ServerNote}
-use Rattle.code_table.specs.Rows.{Named, name_in}
-use Rattle.code_table.specs.Tables.{names_in}
+use Rattle.journal_text.specs.Rows.{Named, name_in}
+use Rattle.journal_text.specs.Tables.{names_in}
 use Rattle.journal_text.specs.Texts.{entry_text}
 use Rattle.journal_text.specs.Names.{kind_names, kind_number, first_word}
 use Rattle.journal_text.proofs.tables.entry_kinds.Goals as goal
 
-named : (e : Entry ServerNote) → name_in kind_names (kind_number e) ≡ Some (first_word (entry_text e))
+named : (e : Entry ServerNote) → name_in kind_names (kind_number e)
+    ≡ Some (first_word (entry_text e))
 unfolding entry_text
 named (entry.Opened handle mask) = refl
 named (entry.Scheduled timer handle first every) = refl

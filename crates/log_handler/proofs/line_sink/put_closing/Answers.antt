@@ -2,4 +2,6 @@ use Rattle.std.proofs.Common.{[]}
 use Rattle.log_handler.proofs.line_sink.put_closing.Goals as goal
 
 pub returns-in-Some : goal.returns-in-Some
-returns-in-Some g c = λ since text h. rw (← c.in-Some.ensures [] _ (c.put_closing_line.ensures [] [] c.new-line.ensures)) (c.put.ensures since text h)
+returns-in-Some g c = λ since text h.
+    rw (← c.in-Some.ensures [] _ (c.put_closing_line.ensures [] [] c.new-line.ensures))
+    (c.put.ensures since text h)

@@ -6,4 +6,5 @@ use Rattle.log_handler.proofs.line_sink.put_each.Given as goal
 
 -- the lines of the records so far
 abbrev pub invariant-loop-entry : goal.invariant-loop-entry
-invariant-loop-entry g l = Puts g.T.TextOut.stands l.fn.out (record_lines l.conn (map owned l.yielded)) l.out
+invariant-loop-entry g l = Puts g.T.TextOut.stands l.fn.out
+    (record_lines l.conn (map owned l.yielded)) l.out

@@ -5,7 +5,8 @@ use Rattle.log_lines.proofs.message.length_of_plain.Given as goal
 
 -- the bytes so far are a run
 abbrev pub invariant-loop-at : goal.invariant-loop-at
-invariant-loop-at l = (l.at ≤ length l.bytes) × (prefix_len is_plain l.bytes ≡ l.at + prefix_len is_plain (drop l.at l.bytes))
+invariant-loop-at l = (l.at ≤ length l.bytes)
+    × (prefix_len is_plain l.bytes ≡ l.at + prefix_len is_plain (drop l.at l.bytes))
 
 abbrev pub decreases-loop-at : goal.decreases-loop-at
 decreases-loop-at l = length l.bytes - l.at

@@ -7,6 +7,7 @@ returns g c = record {
   host = c.serve_host-end.result;
   leaves = c.serve_host-end.ensures.leaves;
   listens = c.serve_host-end.ensures.listens;
+  asked = c.serve_host-end.ensures.asked;
   refused = c.serve_host-end.ensures.refused;
   volumes_fault = c.serve_host-end.ensures.volumes;
   is = with-codes _ _ _ c.code_of_serve.ensures (refl {a = 0});

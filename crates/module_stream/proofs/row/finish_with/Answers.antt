@@ -8,5 +8,7 @@ returns g c =
     let whole =
     ap (λ l. c.in_ok-out.out.items ++ l) (c.into_vec-held.ensures ∙ c.in_ok-end.ensures)
     ∙ (sym (c.in_ok-out.ensures [])
-    ∙ ap (λ l. (goal.Task-dyn g (c.args.task.now.vtable, c.args.task.now.value)).gives c.args.task.now.value l) (append-nil c.args.messages.items)) in
-    subst (λ (l : List MessageState). IfOk c.joined.result (λ all. all.items ≡ l)) whole c.joined.ensures
+    ∙ ap (λ l. (goal.Task-dyn g (c.args.task.now.vtable, c.args.task.now.value)).gives
+    c.args.task.now.value l) (append-nil c.args.messages.items)) in
+    subst (λ (l : List MessageState). IfOk c.joined.result (λ all. all.items ≡ l)) whole
+    c.joined.ensures

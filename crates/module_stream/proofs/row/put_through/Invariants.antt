@@ -7,7 +7,8 @@ use Rattle.module_stream.proofs.row.put_through.Given as goal
 abbrev pub invariant-loop-place : goal.invariant-loop-place
 invariant-loop-place g l =
     (l.place ≤ length l.tasks)
-    × HasPassed (λ task. (goal.Task-dyn g (task.vtable, task.value)).gives task.value) l.initial.tasks l.tasks l.place (l.fn.message ∷ []) (passed_on l.passed)
+    × HasPassed (λ task. (goal.Task-dyn g (task.vtable, task.value)).gives task.value)
+    l.initial.tasks l.tasks l.place (l.fn.message ∷ []) (passed_on l.passed)
 
 -- the tasks that are left
 abbrev pub decreases-loop-place : goal.decreases-loop-place

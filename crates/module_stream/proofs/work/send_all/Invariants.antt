@@ -8,4 +8,5 @@ use Rattle.module_stream.proofs.work.send_all.Given as goal
 abbrev pub invariant-loop-message : goal.invariant-loop-message
 invariant-loop-message g l =
     IsSamePass l.fn.puts l.puts
-    × (view l.puts ≡ log true (view l.fn.puts).takes ((view l.fn.puts).sent ++ ones l.yielded) (view l.fn.puts).got)
+    × (view l.puts ≡ log true (view l.fn.puts).takes ((view l.fn.puts).sent ++ ones l.yielded)
+    (view l.fn.puts).got)

@@ -8,13 +8,18 @@ use Rattle.one_net.proofs.watched.set_mask_in.Goals as goal
 pub loop-entry-preserved : goal.loop-entry-preserved
 loop-entry-preserved c =
     ap (set c.loop-entry.watched c.loop-entry.entry-index) c.masked.ensures
-    ∙ map_over_more (masked c.args.handle.0 c.args.mask) c.args.watched.now c.loop-entry.watched c.loop-entry.entry-index _ (omega arith) c.loop-entry.invariant
+    ∙ map_over_more (masked c.args.handle.0 c.args.mask) c.args.watched.now c.loop-entry.watched
+    c.loop-entry.entry-index _ (omega arith) c.loop-entry.invariant
     (get_or_default c.loop-entry.watched c.loop-entry.entry-index _ _ (omega arith))
 
 pub returns : goal.returns
 returns c =
     c.loop-entry.invariant
-    ∙ ap (λ ys. map (masked c.args.handle.0 c.args.mask) (take c.loop-entry.entry-index c.args.watched.now) ++ ys) (drop_all c.loop-entry.entry-index c.args.watched.now c.loop-entry-test.false)
-    ∙ append-nil (map (masked c.args.handle.0 c.args.mask) (take c.loop-entry.entry-index c.args.watched.now))
-    ∙ ap (map (masked c.args.handle.0 c.args.mask)) (take_all c.loop-entry.entry-index c.args.watched.now c.loop-entry-test.false)
+    ∙ ap (λ ys. map (masked c.args.handle.0 c.args.mask)
+    (take c.loop-entry.entry-index c.args.watched.now) ++ ys)
+    (drop_all c.loop-entry.entry-index c.args.watched.now c.loop-entry-test.false)
+    ∙ append-nil (map (masked c.args.handle.0 c.args.mask)
+    (take c.loop-entry.entry-index c.args.watched.now))
+    ∙ ap (map (masked c.args.handle.0 c.args.mask))
+    (take_all c.loop-entry.entry-index c.args.watched.now c.loop-entry-test.false)
     ∙ changed_by_map c.args.handle.0 c.args.mask c.args.watched.now

@@ -25,12 +25,28 @@ pub returns-in-Ok-wait-clause-leads : goal.returns-in-Ok-wait-clause-leads
 returns-in-Ok-wait-clause-leads g c t F h stands terms opened =
     let w = c.in-Ok.ensures.first t F h stands terms opened in
     let s = c.in-Ok-serve.ensures.ok t w.0 w.1 w.2 terms w.3 in
-    let e = c.in-Ok-wait.ensures.last t s.0 s.1 s.2 terms s.3.0 in
-    (e.0, e.1, e.2, (e.3 _ s.3, whole-so _ e.1 (e.2.tracks.watch.all_whole c.in-Ok-wait.ensures.whole)))
+    let e = c.in-Ok-wait.ensures.last t s.0 s.1 s.2 terms s.3.0 in (
+      e.0,
+      e.1,
+      e.2,
+      (
+        e.3 _ s.3,
+        whole-so _ e.1
+            (e.2.tracks.watch.all_whole c.in-Ok-wait.ensures.whole),
+      ),
+    )
 
 pub returns-in-Err-wait-clause-leads : goal.returns-in-Err-wait-clause-leads
 returns-in-Err-wait-clause-leads g c t F h stands terms opened =
     let w = c.in-Ok.ensures.first t F h stands terms opened in
     let s = c.in-Ok-serve.ensures.ok t w.0 w.1 w.2 terms w.3 in
-    let e = c.in-Err-wait.ensures.err t s.0 s.1 s.2 terms (inr s.3.0) in
-    (e.0, e.1, e.2, (e.3.0, whole-more _ _ s.1 e.1 c.in-Err-wait.ensures.later (whole-so _ s.1 (s.2.tracks.watch.all_whole c.in-Ok-serve.ensures.whole)) e.3.1))
+    let e = c.in-Err-wait.ensures.err t s.0 s.1 s.2 terms (inr s.3.0) in (
+      e.0,
+      e.1,
+      e.2,
+      (
+        e.3.0,
+        whole-more _ _ s.1 e.1 c.in-Err-wait.ensures.later
+            (whole-so _ s.1 (s.2.tracks.watch.all_whole c.in-Ok-serve.ensures.whole)) e.3.1,
+      ),
+    )

@@ -10,21 +10,28 @@ returns-in-Err-clause-err g c t F h stands terms may =
 
 pub returns-in-Err-NoMemory-clause-err : goal.returns-in-Err-NoMemory-clause-err
 returns-in-Err-NoMemory-clause-err g c t F h stands terms may =
-    let over = c.in-Ok.ensures.stands t F h stands in
-    (over.0, h, c.in-Err-NoMemory.ensures.err t over.0 h over.1, (can_end_unserved h may, grows-none 0 h))
+    let over = c.in-Ok.ensures.stands t F h stands in (
+      over.0,
+      h,
+      c.in-Err-NoMemory.ensures.err t over.0 h over.1,
+      (can_end_unserved h may, grows-none 0 h),
+    )
 
 pub returns-in-true-clause-err : goal.returns-in-true-clause-err
 returns-in-true-clause-err g c t F h stands terms may =
     let over = c.in-Ok.ensures.stands t F h stands in
-    either_wait _ _ _ _ t _ _ over.0 h c.in-Ok-poll.field-0 may over.1 (c.in-Ok-poll.ensures.ok t over.0 h over.1 terms.limit)
+    either_wait _ _ _ _ t _ _ over.0 h c.in-Ok-poll.field-0 may over.1
+    (c.in-Ok-poll.ensures.ok t over.0 h over.1 terms.limit)
 
 pub returns-in-false-clause-first : goal.returns-in-false-clause-first
 returns-in-false-clause-first g c t F h stands terms opened =
     let over = c.in-Ok.ensures.stands t F h stands in
-    let w = first_wait _ _ _ _ t _ _ over.0 h c.in-Ok-poll.field-0 opened over.1 (c.in-Ok-poll.ensures.ok t over.0 h over.1 terms.limit) in
+    let w = first_wait _ _ _ _ t _ _ over.0 h c.in-Ok-poll.field-0 opened over.1
+    (c.in-Ok-poll.ensures.ok t over.0 h over.1 terms.limit) in
     (w.0, w.1, w.2, w.3.0)
 
 pub returns-in-false-clause-last : goal.returns-in-false-clause-last
 returns-in-false-clause-last g c t F h stands terms shut =
     let over = c.in-Ok.ensures.stands t F h stands in
-    last_wait _ _ _ _ t _ _ over.0 h c.in-Ok-poll.field-0 (c.in-Ok-poll.ensures.ok t over.0 h over.1 terms.limit)
+    last_wait _ _ _ _ t _ _ over.0 h c.in-Ok-poll.field-0
+    (c.in-Ok-poll.ensures.ok t over.0 h over.1 terms.limit)

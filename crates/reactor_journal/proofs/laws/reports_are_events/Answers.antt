@@ -7,6 +7,8 @@ use Rattle.reactor_journal.proofs.laws.reports_are_events.Goals as goal
 
 pub returns : goal.returns
 returns g c journal e most legal r =
-    let here : is_event (e ∷ past_of journal) (length (past_of journal)) ≡ true = report_is_event most e (past_of journal) (Legal-last journal e most legal).0 r in
-    let placed : is_event (e ∷ past_of journal) (length journal) ≡ true = subst (λ (n : ℕ). is_event (e ∷ past_of journal) n ≡ true) (length-reverse journal) here in
+    let here : is_event (e ∷ past_of journal) (length (past_of journal)) ≡ true =
+    report_is_event most e (past_of journal) (Legal-last journal e most legal).0 r in
+    let placed : is_event (e ∷ past_of journal) (length journal) ≡ true =
+    subst (λ (n : ℕ). is_event (e ∷ past_of journal) n ≡ true) (length-reverse journal) here in
     ap (λ p. is_event p (length journal)) (past_of-more journal e) ∙ placed

@@ -1,5 +1,5 @@
 use Rattle.std.proofs.Common.{◌&&◌, sym, ap, ◌∙◌}
-use Rattle.reactor_journal.specs.Past as P
+use Rattle.reactor_summary.specs.reactor_journal.specs.Past as P
 use Rattle.reactor_state.specs.Sound.{handle_number}
 use Rattle.reactor_state.proofs.Lists.{passes}
 use Rattle.reactor_state.proofs.Rising.{any_found}
@@ -8,12 +8,19 @@ use Rattle.reactor_state.proofs.handles.is_wanted.Goals as goal
 pub returns-then-h : goal.returns-then-h
 returns-then-h c hi rising =
     c.has_kind.ensures ∙ sym (ap (λ b. b && P.has_kind c.in-Some.h.mask c.args.kind) c.if-h.true)
-    ∙ ap (passes (λ h. h.alive && P.has_kind h.mask c.args.kind)) (c.in-Some.ensures hi rising) ∙ sym (any_found handle_number 0 hi c.args.handle.0 (λ h. h.alive && P.has_kind h.mask c.args.kind) c.args.handles.now rising)
+    ∙ ap (passes (λ h. h.alive && P.has_kind h.mask c.args.kind)) (c.in-Some.ensures hi rising)
+    ∙ sym (any_found handle_number 0 hi c.args.handle.0
+    (λ h. h.alive && P.has_kind h.mask c.args.kind) c.args.handles.now rising)
 
 pub returns-else-h : goal.returns-else-h
 returns-else-h c hi rising =
     c.if-h.false ∙ sym (ap (λ b. b && P.has_kind c.in-Some.h.mask c.args.kind) c.if-h.false)
-    ∙ ap (passes (λ h. h.alive && P.has_kind h.mask c.args.kind)) (c.in-Some.ensures hi rising) ∙ sym (any_found handle_number 0 hi c.args.handle.0 (λ h. h.alive && P.has_kind h.mask c.args.kind) c.args.handles.now rising)
+    ∙ ap (passes (λ h. h.alive && P.has_kind h.mask c.args.kind)) (c.in-Some.ensures hi rising)
+    ∙ sym (any_found handle_number 0 hi c.args.handle.0
+    (λ h. h.alive && P.has_kind h.mask c.args.kind) c.args.handles.now rising)
 
 pub returns-in-None : goal.returns-in-None
-returns-in-None c hi rising = ap (passes (λ h. h.alive && P.has_kind h.mask c.args.kind)) (c.in-None.ensures hi rising) ∙ sym (any_found handle_number 0 hi c.args.handle.0 (λ h. h.alive && P.has_kind h.mask c.args.kind) c.args.handles.now rising)
+returns-in-None c hi rising = ap (passes (λ h. h.alive && P.has_kind h.mask c.args.kind))
+    (c.in-None.ensures hi rising) ∙ sym
+    (any_found handle_number 0 hi c.args.handle.0 (λ h. h.alive && P.has_kind h.mask c.args.kind)
+    c.args.handles.now rising)

@@ -8,4 +8,7 @@ use Rattle.reactor_state.specs.Tables.{is_free}
 use Rattle.reactor_state.proofs.waiting.first_free.Given as goal
 
 abbrev pub invariant-loop-place : goal.invariant-loop-place
-invariant-loop-place l = (hi : ℕ) → RisesIn handle_number 0 hi l.handles → find (λ (w : WaitingEvent). is_free l.handles l.opens w.handle.0) (deque_items l.queue) ≡ find (λ (w : WaitingEvent). is_free l.handles l.opens w.handle.0) (drop l.place (deque_items l.queue))
+invariant-loop-place l = (hi : ℕ) → RisesIn handle_number 0 hi l.handles
+    → find (λ (w : WaitingEvent). is_free l.handles l.opens w.handle.0) (deque_items l.queue)
+    ≡ find (λ (w : WaitingEvent). is_free l.handles l.opens w.handle.0)
+    (drop l.place (deque_items l.queue))

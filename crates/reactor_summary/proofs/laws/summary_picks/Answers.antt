@@ -6,8 +6,12 @@ use Rattle.reactor_summary.proofs.laws.summary_picks.Goals as goal
 
 pub returns-clause-that : goal.returns-clause-that
 returns-clause-that g c journal most w legal h =
-    let p : Picked (past_of journal) w = pick_picks most (past_of journal) (summary (past_of journal)) w legal (told most (past_of journal) legal) h in
+    let p : Picked (past_of journal) w =
+    pick_picks most (past_of journal) (summary (past_of journal)) w legal
+    (told most (past_of journal) legal) h in
     (p.pick, p.waits)
 
 pub returns-clause-none : goal.returns-clause-none
-returns-clause-none g c journal most i legal h = pick_none most (past_of journal) (summary (past_of journal)) i legal (told most (past_of journal) legal) h
+returns-clause-none g c journal most i legal h =
+    pick_none most (past_of journal) (summary (past_of journal)) i legal
+    (told most (past_of journal) legal) h

@@ -7,4 +7,6 @@ use Rattle.script_generator.specs.Texts.{text_of}
 use Rattle.script_generator.proofs.generator.push_pieces.Given as goal
 
 abbrev pub invariant-loop-conn : goal.invariant-loop-conn
-invariant-loop-conn l = l.out.items ≡ l.fn.out.items ++ text_of (map Stepping (map (piece_of l.piece l.seed l.round) (range_with_len 0 l.conn)))
+invariant-loop-conn l = l.out.items
+    ≡ l.fn.out.items ++ text_of (map Stepping
+    (map (piece_of l.piece l.seed l.round) (range_with_len 0 l.conn)))

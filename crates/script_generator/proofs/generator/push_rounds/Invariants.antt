@@ -6,4 +6,5 @@ use Rattle.script_generator.specs.Texts.{text_of}
 use Rattle.script_generator.proofs.generator.push_rounds.Given as goal
 
 abbrev pub invariant-loop-round : goal.invariant-loop-round
-invariant-loop-round l = l.out.items ≡ l.fn.out.items ++ text_of (flat_map (round_lines l.n l.seed) (range_with_len 0 l.round))
+invariant-loop-round l = l.out.items
+    ≡ l.fn.out.items ++ text_of (flat_map (round_lines l.n l.seed) (range_with_len 0 l.round))

@@ -1,5 +1,5 @@
 use Rattle.std.proofs.Common.{◌≡◌, drop}
-use Rattle.event_script.specs.Grammar.{digits_from}
+use Rattle.script_net.specs.event_script.specs.Grammar.{digits_from}
 use Rattle.script_text.proofs.words.digits.Given as goal
 
 abbrev pub invariant-loop-byte : goal.invariant-loop-byte

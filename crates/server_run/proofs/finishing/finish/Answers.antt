@@ -10,5 +10,9 @@ into_parts-requires g c =
 
 pub returns-clause-stands : goal.returns-clause-stands
 returns-clause-stands g c t first list stands none =
-    let s = stopped _ t first list c.stop.new.self _ none refl (c.stop.ensures.stands t first list stands) in
-    finished _ g.Q.TimerQueue.timers t first list c.args.core c.stop.new.self c.into_parts.result c.leave.result.parts s c.stop.ensures.rest.marks (c.into_parts.ensures.stands t first s.journal s.stands) c.into_parts.ensures.net c.leave.ensures.parts g.met.W.Watch.broke
+    let s = stopped _ t first list c.stop.new.self _ none refl
+    (c.stop.ensures.stands t first list stands) in
+    finished _ g.Q.TimerQueue.timers t first list c.args.core c.stop.new.self c.into_parts.result
+    c.leave.result.parts s c.stop.ensures.rest.marks
+    (c.into_parts.ensures.stands t first s.journal s.stands) c.into_parts.ensures.net
+    c.leave.ensures.parts g.met.W.Watch.broke

@@ -7,8 +7,44 @@ share-requires g c κs within =
     let fine = c.requires.1.1.1.1.1.1.1.1.1.1.1.1.1.1.0 in
     let start = c.requires.1.1.1.1.1.1.1.1.1.1.1.1.1.1.1.1 in
     let stands = c.in-Ok.ensures.opens g.terms start in
-    let terms = start.terms in
-    (search rules, (search rules, (search rules, (search rules, (search rules, (search rules, (search rules, (search rules, (search rules, (search rules, (search rules, (search rules, (search rules, (search rules, (fine, (terms, stands))))))))))))))))
+    let terms = start.terms in (
+      search rules,
+      (
+        search rules,
+        (
+          search rules,
+          (
+            search rules,
+            (
+              search rules,
+              (
+                search rules,
+                (
+                  search rules,
+                  (
+                    search rules,
+                    (
+                      search rules,
+                      (
+                        search rules,
+                        (
+                          search rules,
+                          (
+                            search rules,
+                            (search rules, (search rules, (fine, (terms, (stands, c.in-Ok.ensures.size))))),
+                          ),
+                        ),
+                      ),
+                    ),
+                  ),
+                ),
+              ),
+            ),
+          ),
+        ),
+      ),
+    )
 
 pub returns-in-Ok-clause-causes : goal.returns-in-Ok-clause-causes
-returns-in-Ok-clause-causes g c = causes_of _ _ _ c.in-Ok.core c.share.result c.in-Ok.ensures.counts c.share.ensures.causes
+returns-in-Ok-clause-causes g c = causes_of _ _ _ c.in-Ok.core c.share.result c.in-Ok.ensures.counts
+    c.share.ensures.causes

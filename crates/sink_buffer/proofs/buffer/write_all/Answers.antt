@@ -10,8 +10,11 @@ loop-at-preserved g c =
     let n = c.in-Bytes.count in
     let start = (g.K.Sink.facts c.args.output.now).text in
     let now = (g.K.Sink.facts c.write.new.self).text in
-    let both = grows-twice start (g.K.Sink.facts c.loop-at.output).text now (take at bytes) (take n (take (length bytes - at) (drop at bytes))) c.loop-at.invariant.1 c.in-Bytes.ensures.text in
-    let within : n ≤ length (take (length bytes - at) (drop at bytes)) = c.in-Bytes.ensures.within in (
+    let both = grows-twice start (g.K.Sink.facts c.loop-at.output).text now (take at bytes)
+    (take n (take (length bytes - at) (drop at bytes))) c.loop-at.invariant.1
+    c.in-Bytes.ensures.text in
+    let within : n ≤ length (take (length bytes - at) (drop at bytes)) =
+    c.in-Bytes.ensures.within in (
       omega (arith, within, length-part bytes at),
       subst (λ (front : List ℕ). GrowsBy start front now) (take-next bytes at n) both,
       c.in-Bytes.ensures.faults ∙ c.loop-at.invariant.2,

@@ -13,4 +13,6 @@ returns-then-comes_before-clause-place c =
 pub returns-clause-place : goal.returns-clause-place
 returns-clause-place c =
     let l = c.in-Some.ensures.item.3 in
-    put_last c.args.t.now c.args.timers.now c.requires (λ d pos. ap (λ u. comes_before c.args.t.now u) (sym (l.1 d)) ∙ sym c.if-comes_before.ensures)
+    put_last c.args.t.now c.args.timers.now c.requires
+    (λ d pos. ap (λ u. comes_before c.args.t.now u) (sym (l.1 d))
+    ∙ sym c.if-comes_before.ensures)

@@ -8,11 +8,15 @@ pub place_for-place-requires : goal.place_for-place-requires
 place_for-place-requires c =
     let e = from_place c.args.timers.now.items c.args.head in
     let v = c.deref.ensures.value in
-    subst (λ xs. is_rising (take (length xs - c.args.head) (drop c.args.head xs)) ≡ true) (sym v) (ap is_rising e ∙ c.requires.rising)
+    subst (λ xs. is_rising (take (length xs - c.args.head) (drop c.args.head xs)) ≡ true) (sym v)
+    (ap is_rising e ∙ c.requires.rising)
 
 pub returns-clause-items : goal.returns-clause-items
 returns-clause-items c =
     let xs = c.args.timers.now.items in
     let e = from_place xs c.args.head in
-    let p : insert (drop c.args.head xs) c.place_for-place.result c.args.t ≡ with_timer c.args.t (drop c.args.head xs) = rw e at (rw c.deref.ensures.value at c.place_for-place.ensures.place) in
-    ap (λ ys. drop c.args.head ys) c.in-Ok.ensures.items ∙ insert_behind xs c.args.head c.place_for-place.result c.args.t c.requires.within ∙ p
+    let p : insert (drop c.args.head xs) c.place_for-place.result c.args.t
+    ≡ with_timer c.args.t (drop c.args.head xs) =
+    rw e at (rw c.deref.ensures.value at c.place_for-place.ensures.place) in
+    ap (λ ys. drop c.args.head ys) c.in-Ok.ensures.items
+    ∙ insert_behind xs c.args.head c.place_for-place.result c.args.t c.requires.within ∙ p

@@ -10,7 +10,10 @@ returns-clause-covers c =
     let timers = timers_of c.args.places.now in
     let covers : Covers c.if-len-capacity.index.items timers =
     elim c.if-len-capacity.branch [
-      | then-len-capacity w ↦ subst (λ v. Covers v.items timers) (sym w.index-is) w.renew.ensures.covers
+      | then-len-capacity w ↦ subst (λ v. Covers v.items timers) (sym w.index-is)
+          w.renew.ensures.covers
       | else-len-capacity w ↦ subst (λ v. Covers v.items timers) (sym w.index-is) c.requires.covers
     ] in
-    covers_put c.if-len-capacity.index.items c.put.new.index.items timers c.args.t.now c.entry_of_timer.result c.entry_of_timer.ensures covers c.requires.fresh c.put.ensures.others
+    covers_put c.if-len-capacity.index.items c.put.new.index.items timers c.args.t.now
+    c.entry_of_timer.result c.entry_of_timer.ensures covers c.requires.fresh
+    c.put.ensures.others

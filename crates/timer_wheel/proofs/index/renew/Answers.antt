@@ -11,19 +11,30 @@ use Rattle.timer_wheel.proofs.index.renew.Goals as goal
 
 pub sort-requires : goal.sort-requires
 sort-requires c =
-    let all : take c.loop-place.place-index c.args.places.now ≡ c.args.places.now = take_all c.loop-place.place-index c.args.places.now (omega arith) in
-    let is : c.loop-place.index.items ≡ map entry_of_timer (timers_of c.args.places.now) = c.loop-place.invariant.0 ∙ ap (λ ps. map entry_of_timer (timers_of ps)) all in
-    record { apart = subst (λ xs. AllPairs (λ (e f : Numbered). e.timer ≢ f.timer) xs) (sym is) (entries_apart (timers_of c.args.places.now) c.requires.apart) }
+    let all : take c.loop-place.place-index c.args.places.now ≡ c.args.places.now =
+    take_all c.loop-place.place-index c.args.places.now (omega arith) in
+    let is : c.loop-place.index.items ≡ map entry_of_timer (timers_of c.args.places.now) =
+    c.loop-place.invariant.0 ∙ ap (λ ps. map entry_of_timer (timers_of ps)) all in
+    record {
+      apart = subst (λ xs. AllPairs (λ (e f : Numbered). e.timer ≢ f.timer) xs) (sym is)
+          (entries_apart (timers_of c.args.places.now) c.requires.apart);
+    }
 
 pub returns-clause-covers : goal.returns-clause-covers
 returns-clause-covers c =
-    let all : take c.loop-place.place-index c.args.places.now ≡ c.args.places.now = take_all c.loop-place.place-index c.args.places.now (omega arith) in
-    let is : c.loop-place.index.items ≡ map entry_of_timer (timers_of c.args.places.now) = c.loop-place.invariant.0 ∙ ap (λ ps. map entry_of_timer (timers_of ps)) all in
-    entries_cover (timers_of c.args.places.now) c.sort.new.index.items (subst (λ xs. IsPermutation xs c.sort.new.index.items) is c.sort.ensures.entries)
+    let all : take c.loop-place.place-index c.args.places.now ≡ c.args.places.now =
+    take_all c.loop-place.place-index c.args.places.now (omega arith) in
+    let is : c.loop-place.index.items ≡ map entry_of_timer (timers_of c.args.places.now) =
+    c.loop-place.invariant.0 ∙ ap (λ ps. map entry_of_timer (timers_of ps)) all in
+    entries_cover (timers_of c.args.places.now) c.sort.new.index.items
+    (subst (λ xs. IsPermutation xs c.sort.new.index.items) is c.sort.ensures.entries)
 
 pub returns-clause-len : goal.returns-clause-len
 returns-clause-len c =
-    let all : take c.loop-place.place-index c.args.places.now ≡ c.args.places.now = take_all c.loop-place.place-index c.args.places.now (omega arith) in
-    let is : c.loop-place.index.items ≡ map entry_of_timer (timers_of c.args.places.now) = c.loop-place.invariant.0 ∙ ap (λ ps. map entry_of_timer (timers_of ps)) all in
-    let n : length c.sort.new.index.items ≡ length c.loop-place.index.items = length_permutation c.loop-place.index.items c.sort.new.index.items c.sort.ensures.entries in
+    let all : take c.loop-place.place-index c.args.places.now ≡ c.args.places.now =
+    take_all c.loop-place.place-index c.args.places.now (omega arith) in
+    let is : c.loop-place.index.items ≡ map entry_of_timer (timers_of c.args.places.now) =
+    c.loop-place.invariant.0 ∙ ap (λ ps. map entry_of_timer (timers_of ps)) all in
+    let n : length c.sort.new.index.items ≡ length c.loop-place.index.items =
+    length_permutation c.loop-place.index.items c.sort.new.index.items c.sort.ensures.entries in
     omega (arith, n, ap length is, length-entries c.args.places.now)

@@ -1,5 +1,5 @@
 use Rattle.core_loop.specs.Idle.{IsIdle}
-use Rattle.core_rows.specs.RoundRobin.{round_robin_rows}
+use Rattle.test_nets.specs.RoundRobin.{round_robin_rows}
 use Rattle.bench_reactor.proofs.one_thread.runs.serve_all.Given as goal
 
 abbrev pub invariant-loop : goal.invariant-loop

@@ -1,4 +1,4 @@
-use Rattle.tp_rows.specs.Callers.{IsFree, SameRank}
+use Rattle.test_pool.specs.Callers.{IsFree, SameRank}
 use Rattle.bench_reactor.proofs.pool.calls.disturb.Given as goal
 
 abbrev pub invariant-loop : goal.invariant-loop

@@ -10,5 +10,6 @@ returns-clause-plays c = grind (arith, common_steps)
 
 pub returns-clause-sets : goal.returns-clause-sets
 returns-clause-sets c =
-    subst (λ n. SetsMaskOf (play_net_facts c.args.self.now) c.args.handle.0 c.args.mask (play_net_facts n)) (sym (returns-clause-plays c))
+    subst (λ n. SetsMaskOf (play_net_facts c.args.self.now) c.args.handle.0 c.args.mask
+    (play_net_facts n)) (sym (returns-clause-plays c))
     (sets_mask c.args.self.now c.args.handle.0 c.args.mask)

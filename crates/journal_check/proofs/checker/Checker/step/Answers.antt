@@ -11,5 +11,7 @@ use Rattle.journal_check.proofs.checker.Checker.step.Goals as goal
 pub returns-in-None-clause-index : goal.returns-in-None-clause-index
 returns-in-None-clause-index g c u sound next later =
     on_ok c.step.result (c.step.ensures sound next)
-    (λ new. subst (λ (s : S.Summary). IsUpToDate s (contains pair_cmp c.args.self.now.fronts) (contains nat_cmp c.args.self.now.closing)) (sym new)
-    (kept_none c.args.entry.now c.args.self.now.machine (contains pair_cmp c.args.self.now.fronts) (contains nat_cmp c.args.self.now.closing) sound (c.in-None.ensures sound) u))
+    (λ new. subst (λ (s : S.Summary). IsUpToDate s (contains pair_cmp c.args.self.now.fronts)
+    (contains nat_cmp c.args.self.now.closing)) (sym new)
+    (kept_none c.args.entry.now c.args.self.now.machine (contains pair_cmp c.args.self.now.fronts)
+    (contains nat_cmp c.args.self.now.closing) sound (c.in-None.ensures sound) u))

@@ -14,12 +14,18 @@ pub invariant_of-self : goal.invariant_of-self
 invariant_of-self c =
     record {
       ordered = c.remove.ensures.ordered;
-      own = subst (Each (λ (e : ℕ × LiveHandle). e.0 ≡ e.1.handle.0)) (sym c.remove.ensures.entries) (each_removed (λ (e : ℕ × LiveHandle). e.0 ≡ e.1.handle.0) (is_at (nat_cmp c.args.handle.0)) c.self.inside.live.entries c.self.invariant.own);
+      own = subst (Each (λ (e : ℕ × LiveHandle). e.0 ≡ e.1.handle.0)) (sym c.remove.ensures.entries)
+          (each_removed (λ (e : ℕ × LiveHandle). e.0 ≡ e.1.handle.0)
+          (is_at (nat_cmp c.args.handle.0)) c.self.inside.live.entries c.self.invariant.own);
     }
 
 pub returns : goal.returns
 returns c =
     ap values_of c.remove.ensures.entries
-    ∙ (values_removed (is_at (nat_cmp c.args.handle.0)) (λ (h : LiveHandle). c.args.handle.0 == h.handle.0) c.self.inside.live.entries (number_agrees handle_number c.args.handle.0 c.self.inside.live.entries c.self.invariant.own)
-    (ap (lookup (is_at (nat_cmp c.args.handle.0))) (sym c.remove.ensures.entries) ∙ c.remove.ensures.updates.1)
+    ∙ (values_removed (is_at (nat_cmp c.args.handle.0))
+    (λ (h : LiveHandle). c.args.handle.0 == h.handle.0) c.self.inside.live.entries
+    (number_agrees handle_number c.args.handle.0 c.self.inside.live.entries
+    c.self.invariant.own)
+    (ap (lookup (is_at (nat_cmp c.args.handle.0))) (sym c.remove.ensures.entries)
+    ∙ c.remove.ensures.updates.1)
     ∙ ap (filter (λ (h : LiveHandle). not (c.args.handle.0 == h.handle.0))) c.self.view_is)

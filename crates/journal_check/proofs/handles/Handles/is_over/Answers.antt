@@ -4,7 +4,9 @@ use Rattle.journal_check.specs.Numbered.{passes}
 use Rattle.journal_check.proofs.handles.Handles.is_over.Goals as goal
 
 pub returns-in-Some : goal.returns-in-Some
-returns-in-Some c = sym (c.get.ensures.asked (λ (h : LiveHandle). not h.alive) ∙ ap (passes (λ (h : LiveHandle). not h.alive)) c.in-Some.is)
+returns-in-Some c = sym (c.get.ensures.asked (λ (h : LiveHandle). not h.alive)
+    ∙ ap (passes (λ (h : LiveHandle). not h.alive)) c.in-Some.is)
 
 pub returns-in-None : goal.returns-in-None
-returns-in-None c = sym (c.get.ensures.asked (λ (h : LiveHandle). not h.alive) ∙ ap (passes (λ (h : LiveHandle). not h.alive)) c.in-None.is)
+returns-in-None c = sym (c.get.ensures.asked (λ (h : LiveHandle). not h.alive)
+    ∙ ap (passes (λ (h : LiveHandle). not h.alive)) c.in-None.is)

@@ -13,12 +13,17 @@ pub invariant_of-self-2 : goal.invariant_of-self-2
 invariant_of-self-2 c =
     record {
       ordered = c.in_ok-insert.ensures.ordered;
-      own = subst (Each (λ (e : ℕ × LiveHandle). e.0 ≡ e.1.handle.0)) (sym c.in_ok-insert.ensures.entries)
-          (each_inserted (λ (e : ℕ × LiveHandle). e.0 ≡ e.1.handle.0) nat_cmp c.self.inside.live.entries c.args.h.handle.0 c.args.h (exact_unsigned c.args.h.handle.0) c.self.invariant.own refl);
+      own = subst (Each (λ (e : ℕ × LiveHandle). e.0 ≡ e.1.handle.0))
+          (sym c.in_ok-insert.ensures.entries)
+          (each_inserted (λ (e : ℕ × LiveHandle). e.0 ≡ e.1.handle.0) nat_cmp
+          c.self.inside.live.entries c.args.h.handle.0 c.args.h
+          (exact_unsigned c.args.h.handle.0) c.self.invariant.own refl);
     }
 
 pub returns : goal.returns
 returns c below =
     ap values_of c.in_ok-insert.ensures.entries
-    ∙ (put_last handle_number c.args.h c.self.inside.live.entries c.self.invariant.own (subst (Each (λ (g : LiveHandle). g.handle.0 < c.args.h.handle.0)) (sym c.self.view_is) below)
+    ∙ (put_last handle_number c.args.h c.self.inside.live.entries c.self.invariant.own
+    (subst (Each (λ (g : LiveHandle). g.handle.0 < c.args.h.handle.0)) (sym c.self.view_is)
+    below)
     ∙ ap (λ (hs : List LiveHandle). hs ++ c.args.h ∷ []) c.self.view_is)

@@ -9,8 +9,17 @@ use Rattle.journal_check.proofs.machine.Machine.schedule.Goals as goal
 
 pub returns : goal.returns
 returns c fresh =
-    let a : ArmedTimer = record { deadline = c.args.first; timer = c.args.timer; handle = c.args.handle; every = c.args.every } in
+    let a : ArmedTimer = record {
+      deadline = c.args.first;
+      timer = c.args.timer;
+      handle = c.args.handle;
+      every = c.args.every;
+    } in
     let armed : c.arm.new.self ≡ S.with_timer a c.self.inside.armed =
-    c.in_ok-arm.ensures ∙ ap (S.with_timer a) (filter_all (λ (b : ArmedTimer). b.timer == c.args.timer) c.self.inside.armed (ap (λ (s : Summary). S.is_armed s c.args.timer) c.self.view_is ∙ fresh))
+    c.in_ok-arm.ensures ∙ ap (S.with_timer a)
+    (filter_all (λ (b : ArmedTimer). b.timer == c.args.timer) c.self.inside.armed
+    (ap (λ (s : Summary). S.is_armed s c.args.timer) c.self.view_is ∙ fresh))
     in
-    rw (armed, add-one) (ap (λ (s : Summary). after {N = ℕ} s (Scheduled c.args.timer c.args.handle c.args.first c.args.every)) c.self.view_is)
+    rw (armed, add-one) (ap (λ (s : Summary).
+    after {N = ℕ} s (Scheduled c.args.timer c.args.handle c.args.first c.args.every))
+    c.self.view_is)

@@ -6,4 +6,5 @@ use Rattle.journal_check.proofs.timers.Timers.arm.Goals as goal
 
 pub insert-requires : goal.insert-requires
 insert-requires c =
-    ap (list_any (λ (b : ArmedTimer). b.timer == c.args.a.timer)) c.disarm.ensures ∙ none_left (λ (b : ArmedTimer). b.timer == c.args.a.timer) c.args.self.now
+    ap (list_any (λ (b : ArmedTimer). b.timer == c.args.a.timer)) c.disarm.ensures
+    ∙ none_left (λ (b : ArmedTimer). b.timer == c.args.a.timer) c.args.self.now

@@ -12,12 +12,16 @@ use Rattle.journal_check.proofs.timers.Timers.is_armed.Goals as goal
 pub returns-in-None : goal.returns-in-None
 returns-in-None c =
     sym (ap (list_any (λ (b : ArmedTimer). b.timer == c.args.timer)) (sym c.self.view_is)
-    ∙ unled_none (found c.self.inside.numbered) (contains pair_cmp c.self.inside.owned) c.args.timer c.self.inside.order.entries (sym c.get.ensures.value ∙ c.in-None.is) c.self.invariant)
+    ∙ unled_none (found c.self.inside.numbered) (contains pair_cmp c.self.inside.owned) c.args.timer
+    c.self.inside.order.entries (sym c.get.ensures.value ∙ c.in-None.is) c.self.invariant)
 
 pub returns-in-Some : goal.returns-in-Some
 returns-in-Some c =
-    let led : found c.self.inside.numbered c.args.timer ≡ Some c.in-Some.a = sym c.get.ensures.value ∙ c.in-Some.is in
+    let led : found c.self.inside.numbered c.args.timer ≡ Some c.in-Some.a =
+    sym c.get.ensures.value ∙ c.in-Some.is in
     c.contains_key.ensures
-    ∙ (sym (any_looked_up (is_at (pair_cmp (c.in-Some.a.deadline, c.args.timer))) (λ (b : ArmedTimer). b.timer == c.args.timer) c.self.inside.order.entries
-    (led_agrees (found c.self.inside.numbered) (contains pair_cmp c.self.inside.owned) c.args.timer c.in-Some.a c.self.inside.order.entries led c.self.invariant))
+    ∙ (sym (any_looked_up (is_at (pair_cmp (c.in-Some.a.deadline, c.args.timer)))
+    (λ (b : ArmedTimer). b.timer == c.args.timer) c.self.inside.order.entries
+    (led_agrees (found c.self.inside.numbered) (contains pair_cmp c.self.inside.owned) c.args.timer
+    c.in-Some.a c.self.inside.order.entries led c.self.invariant))
     ∙ ap (list_any (λ (b : ArmedTimer). b.timer == c.args.timer)) c.self.view_is)

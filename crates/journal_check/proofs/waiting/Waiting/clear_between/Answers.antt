@@ -7,12 +7,17 @@ use Rattle.journal_check.proofs.Queue.{one_out, shorter}
 use Rattle.journal_check.proofs.waiting.Waiting.clear_between.Goals as goal
 
 pub loop-event-smaller : goal.loop-event-smaller
-loop-event-smaller c = subst (λ (xs : List WaitingEvent). length xs < length c.loop-event.self) (sym c.take.ensures) (shorter c.in-Some.event c.loop-event.self c.in-Some.ensures.found.waits)
+loop-event-smaller c = subst (λ (xs : List WaitingEvent). length xs < length c.loop-event.self)
+    (sym c.take.ensures) (shorter c.in-Some.event c.loop-event.self c.in-Some.ensures.found.waits)
 
 pub loop-event-preserved : goal.loop-event-preserved
 loop-event-preserved c =
-    ap (filter (λ (w : WaitingEvent). not (is_within c.args.low (c.args.last + 1) (lane_of w)))) c.take.ensures
-    ∙ (one_out (λ (w : WaitingEvent). is_within c.args.low (c.args.last + 1) (lane_of w)) c.in-Some.event c.loop-event.self c.in-Some.ensures.found.passes ∙ c.loop-event.invariant)
+    ap (filter (λ (w : WaitingEvent). not (is_within c.args.low (c.args.last + 1) (lane_of w))))
+    c.take.ensures
+    ∙ (one_out (λ (w : WaitingEvent). is_within c.args.low (c.args.last + 1) (lane_of w))
+    c.in-Some.event c.loop-event.self c.in-Some.ensures.found.passes ∙ c.loop-event.invariant)
 
 pub returns : goal.returns
-returns c = sym (filter_all (λ (w : WaitingEvent). is_within c.args.low (c.args.last + 1) (lane_of w)) c.loop-event.self (c.first_in.ensures.none c.in_default.is)) ∙ c.loop-event.invariant
+returns c = sym (filter_all (λ (w : WaitingEvent).
+    is_within c.args.low (c.args.last + 1) (lane_of w)) c.loop-event.self
+    (c.first_in.ensures.none c.in_default.is)) ∙ c.loop-event.invariant

@@ -10,5 +10,7 @@ use Rattle.journal_check.proofs.waiting.Waiting.find.Goals as goal
 pub returns : goal.returns
 returns c =
     c.get.ensures.value
-    ∙ (sym (find_looked_up (is_at (nat_cmp c.args.event)) (λ (w : WaitingEvent). w.event == c.args.event) c.self.inside.events.entries (own_agrees_back c.args.event c.self.inside.events.entries c.self.invariant.own))
+    ∙ (sym (find_looked_up (is_at (nat_cmp c.args.event))
+    (λ (w : WaitingEvent). w.event == c.args.event) c.self.inside.events.entries
+    (own_agrees_back c.args.event c.self.inside.events.entries c.self.invariant.own))
     ∙ ap (find (λ (w : WaitingEvent). w.event == c.args.event)) c.self.view_is)

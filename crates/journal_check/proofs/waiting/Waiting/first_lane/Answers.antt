@@ -7,4 +7,5 @@ use Rattle.journal_check.proofs.waiting.Waiting.first_lane.Goals as goal
 pub returns-clause-none : goal.returns-clause-none
 returns-clause-none c q =
     ap (list_any (λ (w : WaitingEvent). c.args.handle.0 == w.handle.0)) (sym c.self.view_is)
-    ∙ none_wide c.args.handle.0 c.self.inside.events.entries (c.first_lane.ensures.none q) c.self.invariant.narrow
+    ∙ none_wide c.args.handle.0 c.self.inside.events.entries (c.first_lane.ensures.none q)
+    c.self.invariant.narrow

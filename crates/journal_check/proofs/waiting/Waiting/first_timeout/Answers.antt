@@ -13,10 +13,17 @@ use Rattle.journal_check.proofs.waiting.Waiting.first_timeout.Goals as goal
 pub returns-clause-found : goal.returns-clause-found
 returns-clause-found c =
     if_some c.first_between.result c.first_between.ensures.found
-    (λ i least. subst (IsOne (λ (w : WaitingEvent). P.is_timeout_of c.args.timer w.upcall) i) c.self.view_is
-    (one_found timer_key (contains pair_cmp c.self.inside.timers) (λ (w : WaitingEvent). P.is_timeout_of c.args.timer w.upcall) c.args.timer (c.args.timer + 1) i c.self.inside.events.entries c.self.invariant.ordered c.self.invariant.own c.self.invariant.by_timer (timer_passes c.args.timer) least))
+    (λ i least. subst (IsOne (λ (w : WaitingEvent). P.is_timeout_of c.args.timer w.upcall) i)
+    c.self.view_is
+    (one_found timer_key (contains pair_cmp c.self.inside.timers)
+    (λ (w : WaitingEvent). P.is_timeout_of c.args.timer w.upcall) c.args.timer
+    (c.args.timer + 1) i c.self.inside.events.entries c.self.invariant.ordered
+    c.self.invariant.own c.self.invariant.by_timer (timer_passes c.args.timer) least))
 
 pub returns-clause-none : goal.returns-clause-none
 returns-clause-none c q =
     ap (list_any (λ (w : WaitingEvent). P.is_timeout_of c.args.timer w.upcall)) (sym c.self.view_is)
-    ∙ none_found timer_key (contains pair_cmp c.self.inside.timers) (λ (w : WaitingEvent). P.is_timeout_of c.args.timer w.upcall) c.args.timer (c.args.timer + 1) (values_of c.self.inside.events.entries) c.self.invariant.by_timer (timer_named c.args.timer) (c.first_between.ensures.none q)
+    ∙ none_found timer_key (contains pair_cmp c.self.inside.timers)
+    (λ (w : WaitingEvent). P.is_timeout_of c.args.timer w.upcall) c.args.timer
+    (c.args.timer + 1) (values_of c.self.inside.events.entries) c.self.invariant.by_timer
+    (timer_named c.args.timer) (c.first_between.ensures.none q)

@@ -5,4 +5,6 @@ use Rattle.journal_check.proofs.Queue.{one_is_any}
 use Rattle.journal_check.proofs.waiting.Waiting.has_timeout.Goals as goal
 
 pub returns : goal.returns
-returns c = c.is_some.ensures ∙ one_is_any (λ (w : WaitingEvent). P.is_timeout_of c.args.timer w.upcall) c.args.self.now c.first_timeout.result c.first_timeout.ensures.found c.first_timeout.ensures.none
+returns c = c.is_some.ensures ∙ one_is_any
+    (λ (w : WaitingEvent). P.is_timeout_of c.args.timer w.upcall) c.args.self.now
+    c.first_timeout.result c.first_timeout.ensures.found c.first_timeout.ensures.none

@@ -7,6 +7,7 @@ use Rattle.message_block.proofs.queue.MessageQueue.enqueue_tail.Goals as goal
 -- the bytes of the message are added
 pub invariant_of-self : goal.invariant_of-self
 invariant_of-self c =
-    let more : held_in c.push_back.new.self.items ≡ held_in c.self.inside.messages.items + length (bytes_of c.args.m) =
+    let more : held_in c.push_back.new.self.items
+    ≡ held_in c.self.inside.messages.items + length (bytes_of c.args.m) =
     ap held_in c.in-Ok.ensures.items ∙ held_in-push c.self.inside.messages.items c.args.m in
     grind (arith, common_steps)

@@ -11,8 +11,12 @@ pub returns-in-Err-clause-runs : goal.returns-in-Err-clause-runs
 returns-in-Err-clause-runs g c =
     let lines = c.in-Ok.lines in
     let made = c.in-Ok.ensures in
-    c.settle.ensures c.args.task c.in-Ok.side.takes c.in-Ok.side.puts [] [] (rw c.in-Err.ensures.err at c.there-worker.ensures)
+    c.settle.ensures c.args.task c.in-Ok.side.takes c.in-Ok.side.puts [] []
+    (rw c.in-Err.ensures.err at c.there-worker.ensures)
     (record {
-      sent = ap (λ (e : Pass Item Log). singly (view e).sent) c.take_rest.ensures.puts ∙ ap singly (c.stop.ensures.put ∙ ap (λ l. l ++ Stop ∷ []) made.sent);
-      came = c.take_rest.ensures.came [] (c.stop.ensures.came [] (in_none (singly (view lines.takes).got) lines.inbox (ap singly made.got) made.inbox.0 made.inbox.2));
+      sent = ap (λ (e : Pass Item Log). singly (view e).sent) c.take_rest.ensures.puts
+          ∙ ap singly (c.stop.ensures.put ∙ ap (λ l. l ++ Stop ∷ []) made.sent);
+      came = c.take_rest.ensures.came []
+          (c.stop.ensures.came [] (in_none (singly (view lines.takes).got) lines.inbox
+          (ap singly made.got) made.inbox.0 made.inbox.2));
     })

@@ -7,9 +7,13 @@ use Rattle.module_stream.proofs.active.ActiveTask.put.Goals as goal
 
 pub returns-in-Here-clause-given : goal.returns-in-Here-clause-given
 returns-in-Here-clause-given g c = λ first put answered h.
-    let before = subst (λ (r : Runner g.row.T.Denot). RunsIn g.T.Task.gives first put answered r) c.in-Here.is h in
+    let before = subst (λ (r : Runner g.row.T.Denot). RunsIn g.T.Task.gives first put answered r)
+    c.in-Here.is h in
     let here = c.put-in-Here.new.self in
-    subst (λ (l : List MessageState). Progress first (put ++ c.args.m ∷ []) l here.lost (g.T.Task.gives here.task))
-    (ap (λ (l : List MessageState). answered ++ l) (sym c.new.ensures) ∙ sym (append-nil (answered ++ c.new.result))
-    ∙ ap (λ (l : List MessageState). (answered ++ c.new.result) ++ l) (sym c.put-in-Here.ensures.held))
+    subst (λ (l : List MessageState). Progress first (put ++ c.args.m ∷ []) l here.lost
+    (g.T.Task.gives here.task))
+    (ap (λ (l : List MessageState). answered ++ l) (sym c.new.ensures)
+    ∙ sym (append-nil (answered ++ c.new.result))
+    ∙ ap (λ (l : List MessageState). (answered ++ c.new.result) ++ l)
+    (sym c.put-in-Here.ensures.held))
     (c.put-in-Here.ensures.given first put answered before)

@@ -13,9 +13,13 @@ returns g c = λ first put answered h.
     let child = c.args.self.child in
     let here = c.settle.result in
     let lines = c.args.self.lines in
-    subst (λ (gives : Gives). Progress gives put (answered ++ here.held.items) here.lost (g.T.Task.gives here.task)) h.task
-    (c.settle.ensures child.promise.task.value child.promise.takes.value child.promise.puts.value put answered c.join-worker.ensures
+    subst (λ (gives : Gives). Progress gives put (answered ++ here.held.items) here.lost
+    (g.T.Task.gives here.task)) h.task
+    (c.settle.ensures child.promise.task.value child.promise.takes.value child.promise.puts.value
+    put answered c.join-worker.ensures
     (record {
-      sent = ap (λ (e : Pass Item Log). singly (view e).sent) c.take_rest.ensures.puts ∙ ap singly c.stop.ensures.put ∙ singly_more (view lines.puts).sent Stop ∙ ap (λ l. l ++ Stop ∷ []) h.sent;
+      sent = ap (λ (e : Pass Item Log). singly (view e).sent) c.take_rest.ensures.puts
+          ∙ ap singly c.stop.ensures.put ∙ singly_more (view lines.puts).sent Stop
+          ∙ ap (λ l. l ++ Stop ∷ []) h.sent;
       came = c.take_rest.ensures.came answered (c.stop.ensures.came answered h.came);
     }))

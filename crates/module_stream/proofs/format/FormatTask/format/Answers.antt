@@ -4,7 +4,8 @@ use Rattle.module_stream.proofs.format.FormatTask.format.Goals as goal
 
 -- the message is a record
 pub returns-in-Some : goal.returns-in-Some
-returns-in-Some c = c.replace.ensures ∙ formats_record c.args.message c.in-Some.block (sym c.in-Some.is ∙ c.in_ok-block.ensures)
+returns-in-Some c = c.replace.ensures
+    ∙ formats_record c.args.message c.in-Some.block (sym c.in-Some.is ∙ c.in_ok-block.ensures)
 
 -- it is none
 pub returns-in-None : goal.returns-in-None

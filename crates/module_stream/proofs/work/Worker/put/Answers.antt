@@ -15,8 +15,11 @@ returns-then-self-clause-gave g c = λ first taken sent h. (
   sent,
   record {
     given = h.given;
-    progress = subst (λ lost. Progress first (taken ++ c.args.message ∷ []) sent lost (g.T.Task.gives c.args.self.now.task)) (sym c.if-self.true)
-        (progress_lost first (g.T.Task.gives c.args.self.now.task) (g.T.Task.gives c.args.self.now.task) taken sent c.args.message c.args.self.now.lost h.progress);
+    progress = subst (λ lost. Progress first (taken ++ c.args.message ∷ []) sent lost
+        (g.T.Task.gives c.args.self.now.task)) (sym c.if-self.true)
+        (progress_lost first (g.T.Task.gives c.args.self.now.task)
+        (g.T.Task.gives c.args.self.now.task) taken sent c.args.message c.args.self.now.lost
+        h.progress);
   },
 )
 
@@ -25,11 +28,16 @@ returns-in-Ok-clause-gave g c = λ first taken sent h.
     let out = c.in-Ok-One.out in
     let before = g.T.Task.gives c.args.self.now.task in
     let after = g.T.Task.gives c.gather.new.self.task in
-    let comes = subst (λ (p : Passed). Comes before (c.args.message ∷ []) (passed_on p) (g.T.Task.gives c.pass.new.self)) c.in-Ok-One.field-0-is c.in-Ok-One.ensures.comes in (
+    let comes = subst (λ (p : Passed).
+    Comes before (c.args.message ∷ []) (passed_on p) (g.T.Task.gives c.pass.new.self))
+    c.in-Ok-One.field-0-is c.in-Ok-One.ensures.comes in (
       sent ++ out ∷ [],
       record {
-        given = c.in-Ok.ensures.gathered sent (record { items = h.given.items; puts = h.given.puts; all = h.given.all });
-        progress = rw (c.gather.ensures.rest.0, c.gather.ensures.rest.2) (progress_put first before (g.T.Task.gives c.pass.new.self) taken sent (out ∷ []) c.args.message c.args.self.now.lost c.if-self.false h.progress comes);
+        given = c.in-Ok.ensures.gathered sent
+            (record { items = h.given.items; puts = h.given.puts; all = h.given.all });
+        progress = rw (c.gather.ensures.rest.0, c.gather.ensures.rest.2)
+            (progress_put first before (g.T.Task.gives c.pass.new.self) taken sent (out ∷ [])
+            c.args.message c.args.self.now.lost c.if-self.false h.progress comes);
       },
     )
 
@@ -37,8 +45,12 @@ pub returns-in-Err-gather-clause-gave : goal.returns-in-Err-gather-clause-gave
 returns-in-Err-gather-clause-gave g c = λ first taken sent h. (
   sent,
   record {
-    given = (let kept = c.in-Err-gather.ensures.lost sent (record { items = h.given.items; puts = h.given.puts; all = h.given.all }) in record { items = kept.items; puts = kept.puts; all = kept.all });
-    progress = progress_lost first (g.T.Task.gives c.args.self.now.task) (g.T.Task.gives c.gather.new.self.task) taken sent c.args.message c.args.self.now.lost h.progress;
+    given = (let kept = c.in-Err-gather.ensures.lost sent
+        (record { items = h.given.items; puts = h.given.puts; all = h.given.all }) in
+        record { items = kept.items; puts = kept.puts; all = kept.all });
+    progress = progress_lost first (g.T.Task.gives c.args.self.now.task)
+        (g.T.Task.gives c.gather.new.self.task) taken sent c.args.message c.args.self.now.lost
+        h.progress;
   },
 )
 
@@ -46,14 +58,22 @@ pub returns-in-Ok-Many-clause-gave : goal.returns-in-Ok-Many-clause-gave
 returns-in-Ok-Many-clause-gave g c = λ first taken sent h.
     let out = c.in-Ok-Many.out in
     let before = g.T.Task.gives c.args.self.now.task in
-    let comes = subst (λ (p : Passed). Comes before (c.args.message ∷ []) (passed_on p) (g.T.Task.gives c.pass.new.self)) c.in-Ok-Many.field-0-is c.in-Ok-Many.ensures.comes in
-    let given = c.send_gathered.ensures.given sent (record { items = h.given.items; puts = h.given.puts; all = h.given.all }) in (
+    let comes = subst (λ (p : Passed).
+    Comes before (c.args.message ∷ []) (passed_on p) (g.T.Task.gives c.pass.new.self))
+    c.in-Ok-Many.field-0-is c.in-Ok-Many.ensures.comes in
+    let given = c.send_gathered.ensures.given sent
+    (record { items = h.given.items; puts = h.given.puts; all = h.given.all }) in (
       sent ++ out,
       record {
         given = given_more sent out c.send_gathered.new.self _ given c.send_gathered.ensures.none
-            (c.send_all.ensures.sent ∙ ap (λ v. log true v.takes (v.sent ++ ones c.into_vec.result.items) v.got) given.puts ∙ ap (λ (l : List MessageState). log true false (given.items ++ ones l) []) c.into_vec.ensures)
+            (c.send_all.ensures.sent ∙ ap (λ v.
+            log true v.takes (v.sent ++ ones c.into_vec.result.items) v.got) given.puts
+            ∙ ap (λ (l : List MessageState). log true false (given.items ++ ones l) [])
+            c.into_vec.ensures)
             c.send_gathered.ensures.none;
-        progress = rw (c.send_gathered.ensures.rest.0, c.send_gathered.ensures.rest.2) (progress_put first before (g.T.Task.gives c.pass.new.self) taken sent out c.args.message c.args.self.now.lost c.if-self.false h.progress comes);
+        progress = rw (c.send_gathered.ensures.rest.0, c.send_gathered.ensures.rest.2)
+            (progress_put first before (g.T.Task.gives c.pass.new.self) taken sent out
+            c.args.message c.args.self.now.lost c.if-self.false h.progress comes);
       },
     )
 
@@ -62,6 +82,7 @@ returns-in-Err-clause-gave g c = λ first taken sent h. (
   sent,
   record {
     given = record { items = h.given.items; puts = h.given.puts; all = h.given.all };
-    progress = progress_lost first (g.T.Task.gives c.args.self.now.task) (g.T.Task.gives c.pass.new.self) taken sent c.args.message c.args.self.now.lost h.progress;
+    progress = progress_lost first (g.T.Task.gives c.args.self.now.task)
+        (g.T.Task.gives c.pass.new.self) taken sent c.args.message c.args.self.now.lost h.progress;
   },
 )

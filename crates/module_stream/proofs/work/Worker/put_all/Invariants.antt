@@ -12,6 +12,7 @@ invariant-loop-message g l =
     IsSamePass l.fn.self.puts l.self.puts
     × ((view l.self.puts).puts ≡ true)
     × (l.self.takes ≡ l.fn.self.takes)
-    × ((first : Gives) (taken sent : List MessageState) → Gave g.T.Task.gives first taken sent l.fn.self
+    × ((first : Gives) (taken sent : List MessageState)
+    → Gave g.T.Task.gives first taken sent l.fn.self
     → (all : List MessageState) × Gave g.T.Task.gives first (taken ++ l.yielded) all l.self)
     × (l.yielded ++ drain_items l.message-iterator ≡ l.fn.batch.messages.items)

@@ -19,5 +19,6 @@ invariant_of-drainer c =
       rests = (ap (λ m. m.0.stage) is, ap (λ m. m.1) is, ap (λ m. m.0.drains) is);
       apart = (ap (λ m. m.0.posts) is, ap (λ m. m.0.root) is, ap (λ m. m.0.flight) is);
       taken_is = sym (ap (λ m. length m.0.got) is);
-      counts_are = counts_none c.in_ok-counts.counts.items c.split_seat-other.result.me.0.got c.in_ok-counts.ensures (ap (λ m. m.0.got) is);
+      counts_are = counts_none c.in_ok-counts.counts.items c.split_seat-other.result.me.0.got
+          c.in_ok-counts.ensures (ap (λ m. m.0.got) is);
     }

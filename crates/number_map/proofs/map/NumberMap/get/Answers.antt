@@ -5,4 +5,7 @@ use Rattle.number_map.proofs.map.NumberMap.get.Goals as goal
 
 pub returns : goal.returns
 returns g c =
-    record { value = c.get.ensures ∙ (sym (looked_up c.self.inside.places c.args.number) ∙ ap (λ (m : Content g.row.V.Denot). found m c.args.number) c.self.view_is) }
+    record {
+      value = c.get.ensures ∙ (sym (looked_up c.self.inside.places c.args.number)
+          ∙ ap (λ (m : Content g.row.V.Denot). found m c.args.number) c.self.view_is);
+    }

@@ -12,7 +12,8 @@ returns-in-Failed-clause-kept g c t kept = record {
   sound = search rules;
   cause = search rules;
   took = search rules;
-  source_faults = λ f told. faults_rose c.args.self.now.failed f _ _ (kept.source_faults f told) c.in-Failed.ensures.rose;
+  source_faults = λ f told. faults_rose c.args.self.now.failed f _ _ (kept.source_faults f told)
+      c.in-Failed.ensures.rose;
   bytes = search rules;
   counts = search rules;
   at_end = search rules;

@@ -3,7 +3,8 @@ use Rattle.one_net.proofs.one_net.OneNet.into_retired.Goals as goal
 
 pub destroy_empty-requires : goal.destroy_empty-requires
 destroy_empty-requires g c =
-    let one : c.args.self.retired.items ≡ (c.requires.0, c.requires.1) ∷ [] = let e = c.requires.2 in cc in
+    let one : c.args.self.retired.items ≡ (c.requires.0, c.requires.1) ∷ [] = let e =
+    c.requires.2 in cc in
     let length_one = ap length one in
     grind arith
 

@@ -1,4 +1,4 @@
-use Rattle.reactor_journal.specs.Past.{past_of}
+use Rattle.reactor_model.specs.reactor_journal.specs.Past.{past_of}
 use Rattle.reactor_summary.specs.Summary.{summary}
 use Rattle.reactor_core.proofs.Begun.{over_no_seat}
 use Rattle.reactor_core.proofs.reactor.Core.into_parts.Goals as goal

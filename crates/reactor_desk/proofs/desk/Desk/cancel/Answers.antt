@@ -1,16 +1,21 @@
 use Rattle.std.proofs.Common.{refl}
 use Rattle.std.proofs.lemmas.Result.{on_ok_weaker, on_err_weaker}
-use Rattle.reactor_journal.specs.declared.entry.Entry.TheVariants.{Cancelled}
-use Rattle.reactor_summary.specs.Summary.{Summary}
+use Rattle.reactor_model.specs.reactor_journal.specs.declared.entry.Entry.TheVariants.{Cancelled}
+use Rattle.reactor_core.specs.reactor_summary.specs.Summary.{Summary}
 use Rattle.reactor_desk.proofs.Asked.{goes_on, as_before}
 use Rattle.reactor_desk.proofs.Marks.{core_rests, desk_keeps}
 use Rattle.reactor_desk.proofs.desk.Desk.cancel.Goals as goal
 
 pub returns-clause-ok : goal.returns-clause-ok
-returns-clause-ok g c = on_ok_weaker c.cancel.result (goes_on _ c.args.self.now c.cancel.new.self (λ (s : Summary). Cancelled c.args.timer) (λ s. refl)) c.cancel.ensures.ok
+returns-clause-ok g c = on_ok_weaker c.cancel.result
+    (goes_on _ c.args.self.now c.cancel.new.self c.cancel.ensures.rest.volume
+    (λ (s : Summary). Cancelled c.args.timer)
+    (λ s. refl)) c.cancel.ensures.ok
 
 pub returns-clause-err : goal.returns-clause-err
-returns-clause-err g c = on_err_weaker c.cancel.result (as_before _ c.args.self.now c.cancel.new.self) c.cancel.ensures.err
+returns-clause-err g c = on_err_weaker c.cancel.result
+    (as_before _ c.args.self.now c.cancel.new.self c.cancel.ensures.rest.volume)
+    c.cancel.ensures.err
 
 pub returns-clause-marks : goal.returns-clause-marks
 returns-clause-marks g c = desk_keeps _ _ _ (core_rests _ _ _ c.cancel.ensures.rest)

@@ -1,22 +1,28 @@
 use Rattle.std.proofs.Common.{refl}
 use Rattle.std.proofs.lemmas.Result.{on_ok_weaker, on_err_weaker}
-use Rattle.reactor_journal.specs.declared.entry.Entry.TheVariants.{Suspended}
-use Rattle.reactor_summary.specs.Summary.{Summary}
+use Rattle.reactor_model.specs.reactor_journal.specs.declared.entry.Entry.TheVariants.{Suspended}
+use Rattle.reactor_core.specs.reactor_summary.specs.Summary.{Summary}
 use Rattle.reactor_desk.proofs.Asked.{goes_on, as_before}
 use Rattle.reactor_desk.proofs.Marks.{core_rests, desk_keeps}
 use Rattle.reactor_desk.proofs.desk.Desk.suspend.Goals as goal
 
 pub returns-clause-ok : goal.returns-clause-ok
-returns-clause-ok g c = on_ok_weaker c.suspend.result (goes_on _ c.args.self.now c.suspend.new.self (λ (s : Summary). Suspended c.args.handle) (λ s. refl)) c.suspend.ensures.ok
+returns-clause-ok g c = on_ok_weaker c.suspend.result
+    (goes_on _ c.args.self.now c.suspend.new.self c.suspend.ensures.rest.volume
+    (λ (s : Summary). Suspended c.args.handle)
+    (λ s. refl)) c.suspend.ensures.ok
 
 pub returns-clause-err : goal.returns-clause-err
-returns-clause-err g c = on_err_weaker c.suspend.result (as_before _ c.args.self.now c.suspend.new.self) c.suspend.ensures.err
+returns-clause-err g c = on_err_weaker c.suspend.result
+    (as_before _ c.args.self.now c.suspend.new.self c.suspend.ensures.rest.volume)
+    c.suspend.ensures.err
 
 pub returns-clause-marks : goal.returns-clause-marks
 returns-clause-marks g c = desk_keeps _ _ _ (core_rests _ _ _ c.suspend.ensures.rest)
 
 pub suspend-requires : goal.suspend-requires
-suspend-requires g c = let o = c.requires.stands in record { stands = (o.0.run, o.1, o.2, o.3.core) }
+suspend-requires g c = let o = c.requires.stands in
+    record { stands = (o.0.run, o.1, o.2, o.3.core) }
 
 pub returns-clause-refused : goal.returns-clause-refused
 returns-clause-refused g c = c.suspend.ensures.refused

@@ -15,7 +15,12 @@ returns-in_err-reserve-2-clause-shows g c s shows = record {
 
 pub returns-in_err-reserve-2-clause-kept : goal.returns-in_err-reserve-2-clause-kept
 returns-in_err-reserve-2-clause-kept g c p has = record {
-  handles = omega (arith, has.handles, ap length c.in_ok-reserve.ensures.items, c.in_ok-reserve.ensures.capacity);
+  handles = omega (
+    arith,
+    has.handles,
+    ap length c.in_ok-reserve.ensures.items,
+    c.in_ok-reserve.ensures.capacity,
+  );
   timers = c.in_err-reserve-2.ensures.kept p.timers has.timers;
   waiting = has.waiting;
   opens = has.opens;
@@ -35,7 +40,12 @@ returns-in_err-reserve-3-clause-shows g c s shows = record {
 
 pub returns-in_err-reserve-3-clause-kept : goal.returns-in_err-reserve-3-clause-kept
 returns-in_err-reserve-3-clause-kept g c p has = record {
-  handles = omega (arith, has.handles, ap length c.in_ok-reserve.ensures.items, c.in_ok-reserve.ensures.capacity);
+  handles = omega (
+    arith,
+    has.handles,
+    ap length c.in_ok-reserve.ensures.items,
+    c.in_ok-reserve.ensures.capacity,
+  );
   timers = c.in_ok-reserve-2.ensures.kept p.timers has.timers;
   waiting = c.in_err-reserve-3.ensures.kept p.timeouts p.events has.waiting;
   opens = has.opens;
@@ -55,10 +65,20 @@ returns-in_err-reserve-4-clause-shows g c s shows = record {
 
 pub returns-in_err-reserve-4-clause-kept : goal.returns-in_err-reserve-4-clause-kept
 returns-in_err-reserve-4-clause-kept g c p has = record {
-  handles = omega (arith, has.handles, ap length c.in_ok-reserve.ensures.items, c.in_ok-reserve.ensures.capacity);
+  handles = omega (
+    arith,
+    has.handles,
+    ap length c.in_ok-reserve.ensures.items,
+    c.in_ok-reserve.ensures.capacity,
+  );
   timers = c.in_ok-reserve-2.ensures.kept p.timers has.timers;
   waiting = c.in_ok-reserve-3.ensures.kept p.timeouts p.events has.waiting;
-  opens = omega (arith, has.opens, ap length c.in_err-reserve-4.ensures.items, c.in_err-reserve-4.ensures.capacity);
+  opens = omega (
+    arith,
+    has.opens,
+    ap length c.in_err-reserve-4.ensures.items,
+    c.in_err-reserve-4.ensures.capacity,
+  );
 }
 
 pub returns-clause-shows : goal.returns-clause-shows
@@ -75,8 +95,18 @@ returns-clause-shows g c s shows = record {
 
 pub returns-clause-kept : goal.returns-clause-kept
 returns-clause-kept g c p has = record {
-  handles = omega (arith, has.handles, ap length c.in_ok-reserve.ensures.items, c.in_ok-reserve.ensures.capacity);
+  handles = omega (
+    arith,
+    has.handles,
+    ap length c.in_ok-reserve.ensures.items,
+    c.in_ok-reserve.ensures.capacity,
+  );
   timers = c.in_ok-reserve-2.ensures.kept p.timers has.timers;
   waiting = c.in_ok-reserve-3.ensures.kept p.timeouts p.events has.waiting;
-  opens = omega (arith, has.opens, ap length c.in_ok-reserve-4.ensures.items, c.in_ok-reserve-4.ensures.capacity);
+  opens = omega (
+    arith,
+    has.opens,
+    ap length c.in_ok-reserve-4.ensures.items,
+    c.in_ok-reserve-4.ensures.capacity,
+  );
 }

@@ -1,5 +1,5 @@
 use Rattle.std.proofs.Common.{ℕ, false, map, sym, ap, ◌∙◌, subst}
-use Rattle.reactor_journal.specs.declared.entry.Entry.TheVariants.{Resumed}
+use Rattle.reactor_summary.specs.reactor_journal.specs.declared.entry.Entry.TheVariants.{Resumed}
 use Rattle.reactor_summary.specs.Summary as S
 use Rattle.reactor_summary.specs.Summary.{Summary}
 use Rattle.reactor_state.specs.Rises.{RisesIn}
@@ -11,12 +11,17 @@ use Rattle.reactor_state.proofs.state.ReactorState.resume.Goals as goal
 
 pub returns-clause-steps : goal.returns-clause-steps
 returns-clause-steps g c s shows number =
-    let here : RisesIn handle_number 0 s.opened c.args.self.now.handles.items = subst (RisesIn handle_number 0 s.opened) (sym shows.tables.handles) shows.sound.handles in
+    let here : RisesIn handle_number 0 s.opened c.args.self.now.handles.items =
+    subst (RisesIn handle_number 0 s.opened) (sym shows.tables.handles) shows.sound.handles in
     record {
-      tables = tables_counted g.Q.TimerQueue.timers (record c.args.self.now { handles = c.set_suspended.new.handles }) (record s { handles = map (S.with_suspended c.args.handle.0 false) s.handles })
+      tables = tables_counted g.Q.TimerQueue.timers
+          (record c.args.self.now { handles = c.set_suspended.new.handles })
+          (record s { handles = map (S.with_suspended c.args.handle.0 false) s.handles })
           (record {
-            numbers = shows.tables.numbers ∙ ap (λ (k : ℕ). record (numbers_in s) { alive = k }) (sym (suspended_alive c.args.handle.0 false s.handles));
-            handles = c.set_suspended.ensures.items s.opened here ∙ ap (map (S.with_suspended c.args.handle.0 false)) shows.tables.handles;
+            numbers = shows.tables.numbers ∙ ap (λ (k : ℕ). record (numbers_in s) { alive = k })
+                (sym (suspended_alive c.args.handle.0 false s.handles));
+            handles = c.set_suspended.ensures.items s.opened here
+                ∙ ap (map (S.with_suspended c.args.handle.0 false)) shows.tables.handles;
             opens = shows.tables.opens;
             waiting = shows.tables.waiting;
             armed = shows.tables.armed;

@@ -1,4 +1,4 @@
-use Rattle.reactor_journal.specs.declared.entry.Entry.TheVariants.{Stale}
+use Rattle.reactor_summary.specs.reactor_journal.specs.declared.entry.Entry.TheVariants.{Stale}
 use Rattle.reactor_state.proofs.Soundness.{sound_after}
 use Rattle.reactor_state.proofs.Stepped.{tables_counted}
 use Rattle.reactor_state.proofs.state.ReactorState.skip.Goals as goal

@@ -14,9 +14,22 @@ invariant_of-self-2 c =
     let seats = ap (λ (s : SeatsContent). s.seats) same in
     let made = ap (λ (s : SeatsContent). s.made) same in
     record {
-      stands = stands_seats i.player p c.reserve.new.self p.seats i.player.changed v.stands (seats ∙ v.stands.seats) (ap (λ (s : SeatsContent). s.marks) same) v.stands.unwanted;
+      stands = stands_seats i.player p c.reserve.new.self p.seats i.player.changed v.stands
+          (seats ∙ v.stands.seats) (ap (λ (s : SeatsContent). s.marks) same) v.stands.unwanted;
       plays = v.plays;
       to_attach = omega (arith, made, c.in_ok-reserve.ensures.places);
-      to_retire = omega (arith, ap length seats, ap length c.in_ok-reserve-3.ensures.items, c.in_ok-reserve-3.ensures.ok, c.made.ensures.few, c.made.ensures.made, c.in-Some.ensures);
-      to_turn_away = omega (arith, ap length c.in_ok-reserve-2.ensures.items, c.in_ok-reserve-2.ensures.ok);
+      to_retire = omega (
+        arith,
+        ap length seats,
+        ap length c.in_ok-reserve-3.ensures.items,
+        c.in_ok-reserve-3.ensures.ok,
+        c.made.ensures.few,
+        c.made.ensures.made,
+        c.in-Some.ensures,
+      );
+      to_turn_away = omega (
+        arith,
+        ap length c.in_ok-reserve-2.ensures.items,
+        c.in_ok-reserve-2.ensures.ok,
+      );
     }

@@ -10,5 +10,6 @@ returns-clause-exactly c = grind (arith, common_steps)
 
 pub returns-clause-sets : goal.returns-clause-sets
 returns-clause-sets c =
-    subst (λ (n : NetContent). SetsMaskOf (script_net_facts c.args.self.now) c.args.handle.0 c.args.mask (script_net_facts n)) (sym (returns-clause-exactly c))
+    subst (λ (n : NetContent). SetsMaskOf (script_net_facts c.args.self.now) c.args.handle.0
+    c.args.mask (script_net_facts n)) (sym (returns-clause-exactly c))
     (sets_mask c.args.self.now c.args.handle.0 c.args.mask)

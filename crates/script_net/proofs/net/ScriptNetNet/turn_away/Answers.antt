@@ -17,8 +17,11 @@ invariant_of-self c =
     let gs = group_views i.player.groups.items in
     let p = played gs i.calls in
     let player = record i.player { seats = c.mark.new.self } in
-    let end : end_view c.place.result ≡ end_of_serial c.serial-serial.result = c.place.ensures ∙ ap end_of_serial (sym c.serial-serial.ensures) in
-    let gone = subst (λ (e : StepEnd). Stands player (dropped (e ∷ []) p)) end (stands_gone i.player p c.mark.new.self (end_view c.place.result) v.stands c.mark.ensures) in
+    let end : end_view c.place.result ≡ end_of_serial c.serial-serial.result =
+    c.place.ensures ∙ ap end_of_serial (sym c.serial-serial.ensures) in
+    let gone = subst (λ (e : StepEnd). Stands player (dropped (e ∷ []) p)) end
+    (stands_gone i.player p c.mark.new.self (end_view c.place.result) v.stands c.mark.ensures)
+    in
     let made = ap (λ (s : SeatsContent). s.made) c.mark.ensures in
     let room = ap (λ (s : SeatsContent). s.room) c.mark.ensures in
     let seats = ap (λ (s : SeatsContent). length s.seats) c.mark.ensures in
@@ -29,5 +32,12 @@ invariant_of-self c =
       plays = subst (λ (cs : List Call). Plays gs cs) (sym c.add.ensures) v.plays;
       to_attach = omega (arith, v.to_attach, made, room);
       to_retire = omega (arith, v.to_retire, seats);
-      to_turn_away = omega (arith, v.to_turn_away, long, c.in-Ok.ensures.capacity, c.requires, spare);
+      to_turn_away = omega (
+        arith,
+        v.to_turn_away,
+        long,
+        c.in-Ok.ensures.capacity,
+        c.requires,
+        spare,
+      );
     }

@@ -8,6 +8,8 @@ use Rattle.script_net.proofs.seats.Seats.report.Goals as goal
 
 pub returns : goal.returns
 returns c =
-    c.find_report.ensures ∙ ap (λ (ps : List Place). found_to ps (end_view c.args.end) (length ps)) c.deref.ensures.value
-    ∙ sym (reports c.self.inside.places.items (end_view c.args.end) (length c.self.inside.places.items))
+    c.find_report.ensures ∙ ap (λ (ps : List Place). found_to ps (end_view c.args.end) (length ps))
+    c.deref.ensures.value
+    ∙ sym (reports c.self.inside.places.items (end_view c.args.end)
+    (length c.self.inside.places.items))
     ∙ ap (λ (s : SeatsContent). report_at s.seats (step_at c.args.end)) c.self.view_is

@@ -1,4 +1,5 @@
-use Rattle.std.proofs.Common.{arith, ◌≡◌, ◌≤◌, ◌∙◌, ℕ, List, ◌++◌, ◌-◌, length, take, drop, ap, subst, append_assoc}
+use Rattle.std.proofs.Common.{arith, ◌≡◌, ◌≤◌, ◌∙◌, ℕ, List, ◌++◌, ◌-◌, length, take, drop, ap}
+use Rattle.std.proofs.Common.{subst, append_assoc}
 use Rattle.std.proofs.lemmas.List.{length-take-le}
 use Rattle.sink_buffer.specs.Gathers.{HasPut}
 use Rattle.sink_buffer.proofs.Texts.{take-next, length-part}
@@ -21,8 +22,13 @@ loop-at-preserved g c =
     let copied : length (take n rest) ≡ n = length-take-le n rest within in (
       omega (arith, count, here),
       λ since text h.
-          subst (λ (whole : List ℕ). HasPut g.K.Sink.facts since c.fill-at.new.self whole) (append_assoc text (take at bytes) (take n rest) ∙ ap (λ xs. text ++ xs) (take-next bytes at n))
-          (stands-more g.K.Sink.facts c.loop-at.self c.make_room.new.self c.fill-at.new.self (text ++ take at bytes) (take n rest) since
-          (omega (arith, copied, count, here, room)) c.make_room.ensures.text c.make_room.ensures.held c.make_room.ensures.output
-          c.fill-at.ensures.held c.fill-at.ensures.output c.fill-at.ensures.broken (c.loop-at.invariant.1 since text h)),
+          subst (λ (whole : List ℕ). HasPut g.K.Sink.facts since c.fill-at.new.self whole)
+          (append_assoc text (take at bytes) (take n rest)
+          ∙ ap (λ xs. text ++ xs) (take-next bytes at n))
+          (stands-more g.K.Sink.facts c.loop-at.self c.make_room.new.self c.fill-at.new.self
+          (text ++ take at bytes) (take n rest) since
+          (omega (arith, copied, count, here, room)) c.make_room.ensures.text
+          c.make_room.ensures.held c.make_room.ensures.output
+          c.fill-at.ensures.held c.fill-at.ensures.output c.fill-at.ensures.broken
+          (c.loop-at.invariant.1 since text h)),
     )

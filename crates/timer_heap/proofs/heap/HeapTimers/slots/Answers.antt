@@ -9,5 +9,7 @@ use Rattle.timer_heap.proofs.heap.HeapTimers.slots.Goals as goal
 pub returns-clause-content : goal.returns-clause-content
 returns-clause-content c =
     let slots : List Timer = c.args.self.now.slots in
-    let same : c.deref.result.now ≡ slots = c.deref.ensures.value ∙ ap (λ q. q.slots) c.self.view_is in
-    subst (λ s. IsPermutation (in_order slots) s) (sym same) (IsPermutation-sym slots (in_order slots) (permutation_in_order slots))
+    let same : c.deref.result.now ≡ slots =
+    c.deref.ensures.value ∙ ap (λ q. q.slots) c.self.view_is in
+    subst (λ s. IsPermutation (in_order slots) s) (sym same)
+    (IsPermutation-sym slots (in_order slots) (permutation_in_order slots))

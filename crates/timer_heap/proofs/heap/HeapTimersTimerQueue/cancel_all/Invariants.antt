@@ -9,8 +9,10 @@ invariant-loop-end l =
     let tree = l.self-inside.tree in
     let before = l.initial.self-inside.tree in
     record {
-      sound : IsSound tree.slots.items tree.keys.items tree.places.items l.self-inside.index.items (vec_capacity tree.slots) (vec_capacity l.self-inside.index);
-      others : without_handle l.handle.0 (in_order tree.slots.items) ≡ without_handle l.handle.0 (in_order before.slots.items);
+      sound : IsSound tree.slots.items tree.keys.items tree.places.items l.self-inside.index.items
+          (vec_capacity tree.slots) (vec_capacity l.self-inside.index);
+      others : without_handle l.handle.0 (in_order tree.slots.items)
+          ≡ without_handle l.handle.0 (in_order before.slots.items);
       keys : length tree.keys.items ≡ length before.keys.items;
       fewer : length tree.slots.items ≤ length before.slots.items;
       within : l.end ≤ length tree.slots.items;

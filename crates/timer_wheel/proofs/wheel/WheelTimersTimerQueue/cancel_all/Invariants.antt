@@ -13,7 +13,8 @@ invariant-loop-end g l =
     record {
       wheel : IsWheel (length before.heads.items) w.resolution w.heads.items w.places.items w.first;
       resolution : w.resolution ≡ before.resolution;
-      others : without_handle l.handle.0 (in_order (timers_of w.places.items)) ≡ without_handle l.handle.0 (in_order (timers_of before.places.items));
+      others : without_handle l.handle.0 (in_order (timers_of w.places.items))
+          ≡ without_handle l.handle.0 (in_order (timers_of before.places.items));
       capacity : vec_capacity w.places ≡ vec_capacity before.places;
       fewer : length w.places.items ≤ length before.places.items;
       index : w.index ≡ before.index;

@@ -9,37 +9,60 @@ use Rattle.timer_wheel.proofs.Kept.{covers_added, one_place_more}
 use Rattle.timer_wheel.proofs.wheel.WheelTimersTimerQueue.schedule.Goals as goal
 
 pub enter-requires-clause-covers : goal.enter-requires-clause-covers
-enter-requires-clause-covers g c = subst (λ ps. Covers c.self.inside.index.items (timers_of ps)) (sym c.deref.ensures.value) c.self.invariant.covers
+enter-requires-clause-covers g c =
+    subst (λ ps. Covers c.self.inside.index.items (timers_of ps)) (sym c.deref.ensures.value)
+    c.self.invariant.covers
 
 pub enter-requires-clause-apart : goal.enter-requires-clause-apart
-enter-requires-clause-apart g c = subst (λ ps. AreApart (timers_of ps)) (sym c.deref.ensures.value) c.self.invariant.wheel.apart
+enter-requires-clause-apart g c = subst (λ ps. AreApart (timers_of ps)) (sym c.deref.ensures.value)
+    c.self.invariant.wheel.apart
 
 pub enter-requires-clause-fresh : goal.enter-requires-clause-fresh
 enter-requires-clause-fresh g c =
     subst (λ ps. is_scheduled c.args.t.timer (timers_of ps) ≡ false) (sym c.deref.ensures.value)
-    (unscheduled c.args.t.timer (timers_of c.self.inside.places.items) (ap (λ q. is_scheduled c.args.t.timer (in_order (timers_of q.places))) c.self.view_is ∙ c.requires.fresh))
+    (unscheduled c.args.t.timer (timers_of c.self.inside.places.items)
+    (ap (λ q. is_scheduled c.args.t.timer (in_order (timers_of q.places))) c.self.view_is
+    ∙ c.requires.fresh))
 
 pub enter-requires-clause-room : goal.enter-requires-clause-room
 enter-requires-clause-room g c =
-    let spare : c.self.inside.room - length c.self.inside.places.items ≡ c.args.self.now.spare = ap (λ q. q.spare) c.self.view_is in
-    omega (arith, spare, c.requires.room, c.self.invariant.index_fits, ap length c.deref.ensures.value)
+    let spare : c.self.inside.room - length c.self.inside.places.items ≡ c.args.self.now.spare =
+    ap (λ q. q.spare) c.self.view_is in
+    omega (
+      arith,
+      spare,
+      c.requires.room,
+      c.self.invariant.index_fits,
+      ap length c.deref.ensures.value,
+    )
 
 pub add-requires-clause-fresh : goal.add-requires-clause-fresh
 add-requires-clause-fresh g c =
-    unscheduled c.args.t.timer (timers_of c.self.inside.places.items) (ap (λ q. is_scheduled c.args.t.timer (in_order (timers_of q.places))) c.self.view_is ∙ c.requires.fresh)
+    unscheduled c.args.t.timer (timers_of c.self.inside.places.items)
+    (ap (λ q. is_scheduled c.args.t.timer (in_order (timers_of q.places))) c.self.view_is
+    ∙ c.requires.fresh)
 
 pub invariant_of-self : goal.invariant_of-self
 invariant_of-self g c =
     let s = c.self.inside in
-    let fresh : is_scheduled c.args.t.timer (in_order (timers_of s.places.items)) ≡ false = ap (λ q. is_scheduled c.args.t.timer (in_order (timers_of q.places))) c.self.view_is ∙ c.requires.fresh in
-    let spare : s.room - length s.places.items ≡ c.args.self.now.spare = ap (λ q. q.spare) c.self.view_is in
-    let n : length c.add.new.places.items ≡ length s.places.items + 1 = one_place_more c.args.t s.places.items c.add.new.places.items c.add.ensures.timers in
+    let fresh : is_scheduled c.args.t.timer (in_order (timers_of s.places.items)) ≡ false =
+    ap (λ q. is_scheduled c.args.t.timer (in_order (timers_of q.places))) c.self.view_is
+    ∙ c.requires.fresh in
+    let spare : s.room - length s.places.items ≡ c.args.self.now.spare =
+    ap (λ q. q.spare) c.self.view_is in
+    let n : length c.add.new.places.items ≡ length s.places.items + 1 =
+    one_place_more c.args.t s.places.items c.add.new.places.items c.add.ensures.timers in
     record {
-      wheel = subst (λ f. IsWheel g.row.SPOKES s.resolution c.add.new.heads.items c.add.new.places.items f) (sym c.earlier-self-inside.ensures)
-          (wheel_added g.row.SPOKES s.resolution s.heads.items c.add.new.heads.items s.places.items c.add.new.places.items s.first c.args.t c.self.invariant.wheel fresh c.add.ensures.timers c.add.ensures.heads c.add.ensures.chains).1;
+      wheel = subst (λ f. IsWheel g.row.SPOKES s.resolution c.add.new.heads.items
+          c.add.new.places.items f) (sym c.earlier-self-inside.ensures)
+          (wheel_added g.row.SPOKES s.resolution s.heads.items c.add.new.heads.items s.places.items
+          c.add.new.places.items s.first c.args.t c.self.invariant.wheel fresh
+          c.add.ensures.timers c.add.ensures.heads c.add.ensures.chains).1;
       rising = c.enter.ensures.rising;
-      covers = covers_added c.enter.new.index.items (timers_of s.places.items) (timers_of c.add.new.places.items) c.args.t c.add.ensures.timers
-          (subst (λ ps. Covers c.enter.new.index.items (timers_of ps)) c.deref.ensures.value c.enter.ensures.covers) c.enter.ensures.there;
+      covers = covers_added c.enter.new.index.items (timers_of s.places.items)
+          (timers_of c.add.new.places.items) c.args.t c.add.ensures.timers
+          (subst (λ ps. Covers c.enter.new.index.items (timers_of ps)) c.deref.ensures.value
+          c.enter.ensures.covers) c.enter.ensures.there;
       fits = omega (arith, n, spare, c.requires.room);
       places_fit = omega (arith, c.add.ensures.capacity, c.self.invariant.places_fit);
       index_fits = omega (arith, c.enter.ensures.capacity, c.self.invariant.index_fits);
@@ -48,13 +71,19 @@ invariant_of-self g c =
 pub returns-clause-timers : goal.returns-clause-timers
 returns-clause-timers g c =
     let s = c.self.inside in
-    let fresh : is_scheduled c.args.t.timer (in_order (timers_of s.places.items)) ≡ false = ap (λ q. is_scheduled c.args.t.timer (in_order (timers_of q.places))) c.self.view_is ∙ c.requires.fresh in
-    (wheel_added g.row.SPOKES s.resolution s.heads.items c.add.new.heads.items s.places.items c.add.new.places.items s.first c.args.t c.self.invariant.wheel fresh c.add.ensures.timers c.add.ensures.heads c.add.ensures.chains).0
+    let fresh : is_scheduled c.args.t.timer (in_order (timers_of s.places.items)) ≡ false =
+    ap (λ q. is_scheduled c.args.t.timer (in_order (timers_of q.places))) c.self.view_is
+    ∙ c.requires.fresh in
+    (wheel_added g.row.SPOKES s.resolution s.heads.items c.add.new.heads.items s.places.items
+    c.add.new.places.items s.first c.args.t c.self.invariant.wheel fresh c.add.ensures.timers
+    c.add.ensures.heads c.add.ensures.chains).0
     ∙ ap (λ q. with_timer c.args.t (in_order (timers_of q.places))) c.self.view_is
 
 pub returns-clause-spare : goal.returns-clause-spare
 returns-clause-spare g c =
     let s = c.self.inside in
-    let spare : s.room - length s.places.items ≡ c.args.self.now.spare = ap (λ q. q.spare) c.self.view_is in
-    let n : length c.add.new.places.items ≡ length s.places.items + 1 = one_place_more c.args.t s.places.items c.add.new.places.items c.add.ensures.timers in
+    let spare : s.room - length s.places.items ≡ c.args.self.now.spare =
+    ap (λ q. q.spare) c.self.view_is in
+    let n : length c.add.new.places.items ≡ length s.places.items + 1 =
+    one_place_more c.args.t s.places.items c.add.new.places.items c.add.ensures.timers in
     omega (arith, n, spare, c.requires.room)

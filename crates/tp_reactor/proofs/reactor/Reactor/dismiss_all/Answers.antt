@@ -24,12 +24,32 @@ loop-seat-preserved g c =
       finite = tt;
       of = c.dismiss.ensures.of;
       root = ap (λ v. v.root) known ∙ c.loop-seat.invariant.root;
-      idle = (ap (λ v. v.base) known ∙ c.loop-seat.invariant.idle.0, ap (λ v. v.mine) known ∙ c.loop-seat.invariant.idle.1);
-      leave = all_tail (λ y. MayLeave c.args.self.now y) x rest (subst (λ l. All (λ y. MayLeave c.args.self.now y) l) is c.loop-seat.invariant.leave);
+      idle = (
+        ap (λ v. v.base) known ∙ c.loop-seat.invariant.idle.0,
+        ap (λ v. v.mine) known
+            ∙ c.loop-seat.invariant.idle.1,
+      );
+      leave = all_tail (λ y. MayLeave c.args.self.now y) x rest
+          (subst (λ l. All (λ y. MayLeave c.args.self.now y) l) is c.loop-seat.invariant.leave);
       done = λ left d.
           c.loop-seat.invariant.done left
-          (subst (λ l. Dismisses (record { ran = c.loop-seat.first; known = known_by old; posted = poster_view (poster_of old) }) (ends_of l) left) (sym is)
-          (dismissed_one (record { ran = c.loop-seat.first; known = known_by old; posted = poster_view (poster_of old) }) (end_of x) (ends_of rest) _ _ _ left (c.or_first-first.ensures ∙ ap (first_ran c.loop-seat.first) c.into_parts-worker.ensures.1) known
-          (c.dismiss.ensures.root.1 ∙ ap (λ w. ring.joined (poster_view (poster_of old)) (poster_view (poster_of w))) worker)
-          (c.dismiss.ensures.seen.0, subst (λ w. Begins (known_by w).seen (known_by c.dismiss.new.root).seen) worker c.dismiss.ensures.seen.1) d));
+          (subst (λ l. Dismisses (record {
+            ran = c.loop-seat.first;
+            known = known_by old;
+            posted = poster_view (poster_of old);
+          }) (ends_of l) left) (sym is)
+          (dismissed_one (record {
+            ran = c.loop-seat.first;
+            known = known_by old;
+            posted = poster_view (poster_of old);
+          }) (end_of x) (ends_of rest) _ _ _ left
+          (c.or_first-first.ensures ∙ ap (first_ran c.loop-seat.first)
+          c.into_parts-worker.ensures.1) known
+          (c.dismiss.ensures.root.1 ∙ ap (λ w.
+          ring.joined (poster_view (poster_of old)) (poster_view (poster_of w))) worker) (
+            c.dismiss.ensures.seen.0,
+            subst (λ w.
+                Begins (known_by w).seen (known_by c.dismiss.new.root).seen) worker
+                c.dismiss.ensures.seen.1,
+          ) d));
     }

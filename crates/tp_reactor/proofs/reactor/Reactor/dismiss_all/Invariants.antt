@@ -14,6 +14,15 @@ invariant-loop-seat g l = record {
   root : (known_by l.root).root ≡ true;
   idle : IsIdle l.root;
   leave : All (λ x. MayLeave l.fn.self x) (into_iter_items l.seat-iterator);
-  done : (left : WorkerEnd g.row.H-Note.Denot) → Dismisses (record { ran = l.first; known = known_by l.root; posted = poster_view (poster_of l.root) }) (ends_of (into_iter_items l.seat-iterator)) left
-      → Dismisses (record { ran = l.fn.ran; known = known_by l.fn.root; posted = poster_view (poster_of l.fn.root) }) (ends_of l.fn.hired.items) left;
+  done : (left : WorkerEnd g.row.H-Note.Denot)
+      → Dismisses (record {
+        ran = l.first;
+        known = known_by l.root;
+        posted = poster_view (poster_of l.root);
+      }) (ends_of (into_iter_items l.seat-iterator)) left
+      → Dismisses (record {
+        ran = l.fn.ran;
+        known = known_by l.fn.root;
+        posted = poster_view (poster_of l.fn.root);
+      }) (ends_of l.fn.hired.items) left;
 }

@@ -9,8 +9,10 @@ abbrev pub invariant-loop-root : goal.invariant-loop-root
 invariant-loop-root g l = record {
   of : IsOf l.root l.fn.self;
   known : known_by l.root ≡ hirer (known_by l.fn.root) (length l.hired.items);
-  posted : poster_view (poster_of l.root) ≡ hirer_posted (poster_view (poster_of l.fn.root)) (length l.hired.items);
-  hired : AreHired l.fn.self (known_by l.fn.root) (poster_view (poster_of l.fn.root)) 0 l.hired.items;
+  posted : poster_view (poster_of l.root)
+      ≡ hirer_posted (poster_view (poster_of l.fn.root)) (length l.hired.items);
+  hired : AreHired l.fn.self (known_by l.fn.root) (poster_view (poster_of l.fn.root)) 0
+      l.hired.items;
   few : length l.hired.items ≤ l.many;
   places : l.many ≤ vec_capacity l.hired;
 }

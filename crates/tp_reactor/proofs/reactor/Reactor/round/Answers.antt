@@ -1,26 +1,35 @@
 use Rattle.std.proofs.Common.{refl, ap}
 use Rattle.notify_ring.specs.Words.{poster_view}
 use Rattle.tp_reactor.specs.Working.{ran_of}
-use Rattle.tp_reactor.proofs.Rounds.{kin_same, led_kin, ready_of, quiet_free, serves_kin, serves_round, idles_round}
+use Rattle.tp_reactor.proofs.Rounds.{kin_same, led_kin, ready_of, quiet_free, serves_kin}
+use Rattle.tp_reactor.proofs.Rounds.{serves_round, idles_round}
 use Rattle.tp_reactor.proofs.reactor.Reactor.round.Goals as goal
 
 pub serve-requires-clause-ready : goal.serve-requires-clause-ready
-serve-requires-clause-ready g c = ready_of _ _ c.args.most_ms c.args.led _ c.in-Job.is c.requires.led
+serve-requires-clause-ready g c = ready_of _ _ c.args.most_ms c.args.led _ c.in-Job.is
+    c.requires.led
 
 pub returns-in-Job-clause-kin : goal.returns-in-Job-clause-kin
-returns-in-Job-clause-kin g c = serves_kin _ c.args.most_ms c.args.until _ _ _ _ _ c.serve.result c.serve.ensures.serves
+returns-in-Job-clause-kin g c = serves_kin _ c.args.most_ms c.args.until _ _ _ _ _ c.serve.result
+    c.serve.ensures.serves
 
 pub returns-in-Job-clause-goes : goal.returns-in-Job-clause-goes
-returns-in-Job-clause-goes g c v led = serves_round _ c.args.most_ms c.args.until c.args.led _ v _ _ _ _ c.serve.result c.in-Job.is led c.serve.ensures.serves
+returns-in-Job-clause-goes g c v led =
+    serves_round _ c.args.most_ms c.args.until c.args.led _ v _ _ _ _ c.serve.result c.in-Job.is led
+    c.serve.ensures.serves
 
 pub lead_on-requires-clause-free : goal.lead_on-requires-clause-free
-lead_on-requires-clause-free g c = quiet_free _ _ c.args.most_ms c.args.led c.in-Quiet.is c.requires.led
+lead_on-requires-clause-free g c =
+    quiet_free _ _ c.args.most_ms c.args.led c.in-Quiet.is c.requires.led
 
 pub returns-in-Quiet-clause-kin : goal.returns-in-Quiet-clause-kin
-returns-in-Quiet-clause-kin g c = led_kin _ _ _ c.args.most_ms c.lead_on.result c.lead_on.ensures.led
+returns-in-Quiet-clause-kin g c = led_kin _ _ _ c.args.most_ms c.lead_on.result
+    c.lead_on.ensures.led
 
 pub returns-in-Quiet-clause-goes : goal.returns-in-Quiet-clause-goes
-returns-in-Quiet-clause-goes g c v led = idles_round _ c.args.most_ms c.args.until c.args.led v _ _ _ _ c.lead_on.result c.in-Quiet.is led c.lead_on.ensures.led (ap poster_view c.lead_on.ensures.poster)
+returns-in-Quiet-clause-goes g c v led =
+    idles_round _ c.args.most_ms c.args.until c.args.led v _ _ _ _ c.lead_on.result c.in-Quiet.is
+    led c.lead_on.ensures.led (ap poster_view c.lead_on.ensures.poster)
 
 pub returns-in-Over-clause-kin : goal.returns-in-Over-clause-kin
 returns-in-Over-clause-kin g c = kin_same _

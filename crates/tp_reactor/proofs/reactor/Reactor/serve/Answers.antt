@@ -5,10 +5,15 @@ use Rattle.tp_reactor.proofs.reactor.Reactor.serve.Goals as goal
 
 pub returns-in-Some-clause-serves : goal.returns-in-Some-clause-serves
 returns-in-Some-clause-serves g c =
-    serves_on _ c.args.most_ms c.args.until c.args.job c.run-done.result c.settle_on-led.result.0 c.settle_on-led.result.1 c.in-Some.led _ _ _ _ _ _ c.run-done.ensures.same c.in-Some.is c.settle_on-led.ensures.settled c.tell.ensures.pass
+    serves_on _ c.args.most_ms c.args.until c.args.job c.run-done.result c.settle_on-led.result.0
+    c.settle_on-led.result.1 c.in-Some.led _ _ _ _ _ _ c.run-done.ensures.same c.in-Some.is
+    c.settle_on-led.ensures.settled c.tell.ensures.pass
     (ap poster_view c.settle_on-led.ensures.poster) c.tell.ensures.posts
 
 pub returns-in-None-clause-serves : goal.returns-in-None-clause-serves
 returns-in-None-clause-serves g c =
-    serves_after _ c.args.most_ms c.args.until c.args.job c.run-done.result c.settle_on-led.result.0 c.settle_on-led.result.1 c.lead_now.result _ _ _ _ _ _ _ _ c.run-done.ensures.same c.in-None.is c.settle_on-led.ensures.settled c.tell.ensures.pass
-    (ap poster_view c.settle_on-led.ensures.poster) c.tell.ensures.posts c.lead_now.ensures.led (ap poster_view c.lead_now.ensures.poster)
+    serves_after _ c.args.most_ms c.args.until c.args.job c.run-done.result c.settle_on-led.result.0
+    c.settle_on-led.result.1 c.lead_now.result _ _ _ _ _ _ _ _ c.run-done.ensures.same
+    c.in-None.is c.settle_on-led.ensures.settled c.tell.ensures.pass
+    (ap poster_view c.settle_on-led.ensures.poster) c.tell.ensures.posts c.lead_now.ensures.led
+    (ap poster_view c.lead_now.ensures.poster)

@@ -9,8 +9,13 @@ loop-init g c = record {
   finite = tt;
   of = c.lead-led.ensures.of;
   kin = led_kin _ _ _ c.args.most_ms c.lead-led.result c.lead-led.ensures.led;
-  rounds = begin_rounds _ c.args.most_ms c.args.until _ _ _ _ c.lead-led.result (ap poster_view c.lead-led.ensures.poster) c.lead-led.ensures.led;
-  room = λ w. omega (arith, c.requires.room w, ap (λ p. length (poster_view p).posted) c.lead-led.ensures.poster);
+  rounds = begin_rounds _ c.args.most_ms c.args.until _ _ _ _ c.lead-led.result
+      (ap poster_view c.lead-led.ensures.poster) c.lead-led.ensures.led;
+  room = λ w. omega (
+    arith,
+    c.requires.room w,
+    ap (λ p. length (poster_view p).posted) c.lead-led.ensures.poster,
+  );
   once = omega (arith, ap (λ p. length (poster_view p).posted) c.lead-led.ensures.poster);
 }
 
@@ -20,10 +25,12 @@ loop-preserved g c = record {
   finite = tt;
   of = c.round.ensures.of;
   kin = kin_then _ _ _ c.loop.invariant.kin c.round.ensures.kin;
-  rounds = go_round _ c.args.most_ms c.args.until _ _ _ _ _ _ c.loop.led c.in-Ok.next c.loop.invariant.rounds c.in-Ok.ensures.goes;
+  rounds = go_round _ c.args.most_ms c.args.until _ _ _ _ _ _ c.loop.led c.in-Ok.next
+      c.loop.invariant.rounds c.in-Ok.ensures.goes;
   room = c.round.ensures.room;
   once = omega (arith, c.loop.invariant.once, c.round.ensures.once);
 }
 
 pub returns-in-Err-clause-runs : goal.returns-in-Err-clause-runs
-returns-in-Err-clause-runs g c = end_rounds _ c.args.most_ms c.args.until _ _ _ _ _ _ c.loop.led c.in-Err.ran c.loop.invariant.rounds c.in-Err.ensures.goes
+returns-in-Err-clause-runs g c = end_rounds _ c.args.most_ms c.args.until _ _ _ _ _ _ c.loop.led
+    c.in-Err.ran c.loop.invariant.rounds c.in-Err.ensures.goes

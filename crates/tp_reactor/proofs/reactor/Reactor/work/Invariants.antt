@@ -1,6 +1,6 @@
 use Rattle.std.proofs.Common.{◌≡◌, ◌<◌, ◌≤◌, ◌+◌, ◌^◌, cond, length, true}
 use Rattle.notify_ring.specs.Words.{poster_view}
-use Rattle.reactor_state.specs.State.{Shows, HasPlaces, IsPlaced}
+use Rattle.reactor_core.specs.reactor_state.specs.State.{Shows, HasPlaces, IsPlaced}
 use Rattle.reactor_core.specs.Stands.{meaning}
 use Rattle.tp_reactor.specs.Words.{posted_of, known_by, IsOf, SameKin}
 use Rattle.tp_reactor.proofs.Rounds.{RoundsLed}
@@ -13,8 +13,13 @@ invariant-loop g l =
       finite : (goal.iterator-loop g).is_finite l.iterator';
       of : IsOf l.worker l.fn.self;
       kin : SameKin (known_by l.fn.worker) (known_by l.worker);
-      rounds : RoundsLed (meaning g.H.EventHandler.means g.M.Net.facts g.M.Net.keeps (Shows g.Q.TimerQueue.timers) (HasPlaces g.Q.TimerQueue.spare) IsPlaced g.W.Watch.stands g.W.Watch.faults g.W.Watch.is_broken g.W.Watch.whole g.V.Volumes.facts) l.fn.most_ms l.fn.until
-          (known_by l.fn.worker) (poster_view l.fn.worker.poster) l.led (known_by l.worker) (poster_view l.worker.poster);
-      room : l.waits ≡ true → length (posted_of l.worker) < 2 ^ 56;
-      once : length (posted_of l.worker) + cond l.waits 1 0 ≤ length (posted_of l.fn.worker) + cond l.fn.waits 1 0;
+      rounds : RoundsLed (meaning g.H.EventHandler.means g.M.Net.facts g.M.Net.keeps
+          (Shows g.Q.TimerQueue.timers) (HasPlaces g.Q.TimerQueue.spare) IsPlaced g.W.Watch.stands
+          g.W.Watch.faults g.W.Watch.is_broken g.W.Watch.whole g.V.Volumes.facts) l.fn.most_ms
+          l.fn.until
+          (known_by l.fn.worker) (poster_view l.fn.worker.poster) l.led (known_by l.worker)
+          (poster_view l.worker.poster);
+      room : l.owes_notice ≡ true → length (posted_of l.worker) < 2 ^ 56;
+      once : length (posted_of l.worker) + cond l.owes_notice 1 0
+          ≤ length (posted_of l.fn.worker) + cond l.fn.owes_notice 1 0;
     }

@@ -1,0 +1,77 @@
+use denote.Exit.{no}
+use denote.Param.Send.{param_send, param_sync, arg_send}
+use Rattle.std.proofs.Common.{rules, ◌≡◌, ◌+◌, ◌∙◌, ap, sym, subst, refl}
+use Rattle.journal_text.proofs.journal_sink.JournalSink.TheSendSync as sends
+use Rattle.journal_text.specs.JournalSink as journals
+use Rattle.cmd_line.specs.declared.options.Form.TheVariants.{Journal}
+use Rattle.cmd_replay.specs.Outputs.{Writes, text_in}
+use Rattle.cmd_replay.specs.Playing.{terms_of_content}
+use Rattle.cmd_replay.specs.Replays.{EndsAs, end_by}
+use Rattle.cmd_replay.specs.declared.ends.ReplayEnd.{ReplayEnd}
+use Rattle.cmd_replay.proofs.RunsScript.{can-play, ends-as, leaves-kept, leaves-so, number_is}
+use Rattle.cmd_replay.proofs.RunsScript.{put_back, rose-kept, runs-script, steady-kept}
+use Rattle.cmd_replay.proofs.Writing.{by-journal, writes-along}
+use Rattle.cmd_replay.proofs.forms.run_journal.Goals as goal
+
+pub play-served-requires : goal.play-served-requires
+play-served-requires g c κs within =
+    let unlimited = c.requires.limit in
+    let same = sym c.new-watch.ensures.output in
+    let o = g.K.Sink.facts (journals.sink_of c.new-watch.result) in
+    let t = terms_of_content c.args.asked.connections c.args.asked.idle c.args.script o
+    (g.V.Volumes.facts c.args.volumes) in
+    let seen = c.new-watch.ensures.stands t refl
+    (λ text told. ap (λ k. (g.K.Sink.facts k).text) same ∙ told)
+    (λ n told. ap (λ k. (g.K.Sink.facts k).faults) same ∙ number_is _ n told) in
+    let can = can-play (journals.PutsJournal g.K.Sink.facts) g.V.Volumes.facts c.args.asked
+    c.args.script c.args.timers c.new-watch.result c.args.volumes o c.requires.timers unlimited
+    seen in (
+      search rules,
+      (
+        search rules,
+        (
+          search rules,
+          (
+            param_send _ _ (arg_send _ no _ (sends.the_send _ c.type_bounds.send-K)),
+            (
+              param_send _ _ c.type_bounds.send-V,
+              (param_sync _ _ c.type_bounds.sync-R, (c.requires.fine, (can, (refl, unlimited)))),
+            ),
+          ),
+        ),
+      ),
+    )
+
+pub returns : goal.returns
+returns g c = λ groups text.
+    let o = g.K.Sink.facts c.args.output in
+    let v = g.V.Volumes.facts c.args.volumes in
+    let kept = c.kept_of-ending.result in
+    let played = c.play-served.result in
+    let served = put_back played kept in
+    let is_kept = c.kept_of-ending.ensures in
+    let net = steady-kept played kept is_kept c.play-served.ensures.net in
+    let rose = rose-kept g.V.Volumes.facts v.faults played kept is_kept
+    c.play-served.ensures.volumes in
+    let broken = journals.is_broken served.parts.watch in
+    let left = leaves-so (journals.PutsJournal g.K.Sink.facts) g.V.Volumes.facts c.args.asked
+    c.args.script groups (g.K.Sink.facts (journals.sink_of c.new-watch.result)) o v played
+    (ap g.K.Sink.facts c.new-watch.ensures.output) text c.requires.limit
+    c.play-served.ensures.leaves in
+    let l = leaves-kept (journals.PutsJournal g.K.Sink.facts) g.V.Volumes.facts _ c.args.asked
+    groups played kept is_kept left in
+    let is : c.end_by-end.result ≡ end_by broken served.ending =
+    c.end_by-end.ensures ∙ ap (λ b. end_by b served.ending) c.broken.ensures in
+    let ends = ends-as broken served.ending v.faults _ net rose in
+    let written = writes-along broken served.ending o _ _
+    (by-journal g.K.Sink.facts _ o served.parts.watch l.journal refl refl l.watch) in
+    runs-script (journals.PutsJournal g.K.Sink.facts) g.K.Sink.facts g.V.Volumes.facts Journal
+    c.args.asked groups o v served c.end_by-end.result c.into_output.result l
+    (subst (λ (e : ReplayEnd). EndsAs e served.ending v.faults
+    (g.V.Volumes.facts served.parts.volumes).faults) (sym is) ends)
+    (subst (λ k. Writes Journal c.end_by-end.result o
+    (text_in Journal (c.args.asked.connections + 1) l.journal) (g.K.Sink.facts k))
+    (sym c.into_output.ensures)
+    (subst (λ (e : ReplayEnd). Writes Journal e o
+    (text_in Journal (c.args.asked.connections + 1) l.journal)
+    (g.K.Sink.facts (journals.sink_of served.parts.watch))) (sym is) written))

@@ -1,7 +1,0 @@
-use Rattle.code_table.specs.Tables.{names_in}
-use Rattle.code_table.proofs.BothWays.{by_its_name, by_its_code}
-use Rattle.code_table.proofs.laws.names_and_codes_go_both_ways.Goals as goal
-
-pub returns : goal.returns
-returns g c = λ code name.
-    (by_its_name (names_in c.args.table.now) c.args.table.now.distinct code name, by_its_code (names_in c.args.table.now) c.args.table.now.distinct code name)

@@ -1,6 +1,0 @@
-use Rattle.std.proofs.Common.{◌∙◌}
-use Rattle.code_table.proofs.BothWays.{by_name}
-use Rattle.code_table.proofs.table.CodeTable.code_of.Goals as goal
-
-pub returns : goal.returns
-returns g c = c.row_code.ensures ∙ by_name c.args.self.now.rows.now c.args.name.now

@@ -1,6 +1,0 @@
-use Rattle.std.proofs.Common.{◌∙◌}
-use Rattle.code_table.proofs.BothWays.{by_code}
-use Rattle.code_table.proofs.table.CodeTable.name_of.Goals as goal
-
-pub returns : goal.returns
-returns g c = c.row_name.ensures ∙ by_code c.args.self.now.rows.now c.args.code

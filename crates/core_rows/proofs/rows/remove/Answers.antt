@@ -1,5 +1,0 @@
-use Rattle.core_rows.proofs.Idling.{removes_or}
-use Rattle.core_rows.proofs.rows.remove.Goals as goal
-
-pub returns : goal.returns
-returns g c = removes_or _ _ _ c.remove.result c.requires c.remove.ensures.ok c.remove.ensures.err

@@ -1,0 +1,6 @@
+//! What a thread sleeps on until another thread has something for it.
+#![tactic(auto)]
+
+mod doorbell;
+
+pub use doorbell::Doorbell;

@@ -1,5 +1,0 @@
-use Rattle.few_entries.proofs.Short.{short}
-use Rattle.few_entries.proofs.laws.journal_is_short.Goals as goal
-
-pub returns : goal.returns
-returns g c q answer groups journal r = short _ q answer groups journal r

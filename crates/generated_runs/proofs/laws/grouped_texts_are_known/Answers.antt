@@ -1,5 +1,0 @@
-use Rattle.generated_runs.proofs.Grouped.{has_grouped_text}
-use Rattle.generated_runs.proofs.laws.grouped_texts_are_known.Goals as goal
-
-pub returns : goal.returns
-returns c = has_grouped_text

@@ -1,3 +1,0 @@
-pub mod Asking
-pub mod Summing
-pub mod Generating

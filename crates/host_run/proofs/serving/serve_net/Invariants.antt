@@ -1,4 +1,0 @@
-use Rattle.host_run.proofs.serving.serve_net.Given as goal
-
-abbrev pub ghost-serve : goal.ghost-serve
-ghost-serve g a = g.terms

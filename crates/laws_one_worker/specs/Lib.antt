@@ -1,0 +1,17 @@
+pub mod Alone
+pub mod Laws
+pub use Rattle.laws_script_calls.specs.acceptor
+pub use Rattle.laws_script_calls.specs.event_script
+pub use Rattle.laws_script_calls.specs.laws_script_turns
+pub use Rattle.laws_script_calls.specs.laws_script_told
+pub use Rattle.laws_script_calls.specs.laws_script_runs
+pub use Rattle.laws_script_serial
+pub use Rattle.tp_reactor
+pub use Rattle.laws_script_calls.specs.log_handler
+pub use Rattle.laws_script_calls.specs.ev_base
+pub use Rattle.laws_script_calls.specs.ev_types
+pub use Rattle.laws_script_calls.specs.log_handler.specs.log_lines
+pub use Rattle.tp_reactor.specs.reactor_core
+pub use Rattle.tp_reactor.specs.reactor_desk
+pub use Rattle.laws_script_calls.specs.reactor_journal
+pub use Rattle.laws_script_calls.specs.reactor_summary

@@ -1,0 +1,15 @@
+pub mod Laws
+pub mod Leaving
+pub use Rattle.laws_script_runs.specs.reactor_journal
+pub use Rattle.reactor_core.specs.reactor_summary
+pub use Rattle.laws_script_runs.specs.reactor_model
+pub use Rattle.reactor_core
+pub use Rattle.laws_script_runs.specs.laws_by_turns
+pub use Rattle.laws_script_runs.specs.log_handler
+pub use Rattle.laws_script_runs.specs.acceptor
+pub use Rattle.laws_script_runs.specs.laws_script_told
+pub use Rattle.laws_script_runs
+pub use Rattle.laws_script_runs.specs.ev_types
+pub use Rattle.laws_script_runs.specs.event_script
+pub use Rattle.laws_script_runs.specs.laws_script_turns
+pub use Rattle.laws_script_runs.specs.log_handler.specs.ev_base

@@ -1,0 +1,14 @@
+pub mod Complete
+pub use Rattle.laws_script_runs
+pub use Rattle.laws_script_runs.specs.acceptor
+pub use Rattle.laws_script_runs.specs.cdr_record
+pub use Rattle.laws_script_runs.specs.ev_base
+pub use Rattle.laws_script_runs.specs.ev_types
+pub use Rattle.laws_script_runs.specs.event_script
+pub use Rattle.laws_script_runs.specs.laws_by_turns
+pub use Rattle.laws_script_runs.specs.laws_script_turns
+pub use Rattle.laws_script_runs.specs.laws_turns
+pub use Rattle.laws_script_runs.specs.log_handler
+pub use Rattle.laws_script_runs.specs.log_lines
+pub use Rattle.laws_script_runs.specs.reactor_journal
+pub use Rattle.laws_script_runs.specs.reactor_model

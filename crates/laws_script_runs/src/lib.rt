@@ -1,0 +1,7 @@
+//! Whole runs of the logging server over a script: which journals they have, and what those say.
+#![tactic(auto)]
+
+pub mod laws;
+
+pub use log_handler::ServerNote;
+pub use reactor_model::EventHandler;

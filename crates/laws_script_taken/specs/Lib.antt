@@ -1,0 +1,15 @@
+pub mod Taken
+pub mod Laws
+pub use Rattle.laws_script_complete.specs.laws_script_runs
+pub use Rattle.laws_script_complete
+pub use Rattle.laws_script_complete.specs.acceptor
+pub use Rattle.laws_script_complete.specs.cdr_record
+pub use Rattle.laws_script_complete.specs.ev_base
+pub use Rattle.laws_script_complete.specs.ev_types
+pub use Rattle.laws_script_complete.specs.event_script
+pub use Rattle.laws_script_complete.specs.laws_by_turns
+pub use Rattle.laws_script_complete.specs.laws_script_runs.specs.laws_script_told
+pub use Rattle.laws_script_complete.specs.log_handler
+pub use Rattle.laws_script_complete.specs.log_lines
+pub use Rattle.laws_script_complete.specs.reactor_journal
+pub use Rattle.laws_script_complete.specs.reactor_model

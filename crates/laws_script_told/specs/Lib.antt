@@ -1,0 +1,3 @@
+pub mod Told
+pub mod Laws
+pub use Rattle.laws_reports

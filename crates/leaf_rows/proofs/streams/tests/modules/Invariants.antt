@@ -1,7 +1,0 @@
-use Rattle.std.proofs.Common.{◌≡◌, false}
-use Rattle.module_stream.specs.Streams.{has_started}
-use Rattle.leaf_rows.proofs.streams.tests.modules.Given as goal
-
--- no message was put yet
-abbrev pub invariant-loop-turn : goal.invariant-loop-turn
-invariant-loop-turn g l = has_started l.stream ≡ false

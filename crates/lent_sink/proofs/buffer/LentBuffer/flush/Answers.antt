@@ -1,7 +1,0 @@
-use Rattle.std.proofs.Common.{refl}
-use Rattle.lent_sink.proofs.Gathering.{wrote_held}
-use Rattle.lent_sink.proofs.buffer.LentBuffer.flush.Goals as goal
-
-pub returns-clause-text : goal.returns-clause-text
-returns-clause-text g c = λ start put h.
-    wrote_held g.K.Sink.facts start c.args.self.now _ put c.write_all-done.result c.if-self.false (rw c.as_slice.ensures at c.write_all-done.ensures.writes) c.clear-2.ensures.held refl h

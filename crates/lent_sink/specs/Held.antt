@@ -1,6 +1,0 @@
--- Bytes in a fixed place.
-use Rattle.std.specs.Prelude.{ℕ, List, take}
-use Rattle.lent_sink.specs.declared.held.HeldBytes.{HeldBytes}
-
-abbrev pub held_in : HeldBytes → List ℕ
-held_in held = take held.count held.bytes

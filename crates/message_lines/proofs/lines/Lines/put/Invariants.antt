@@ -1,9 +1,0 @@
-use Rattle.std.proofs.Common.{◌≡◌}
-use Rattle.crossbeam_queue.specs.Passes.{view}
-use Rattle.message_lines.specs.Caller.{KeepsWhatCame, AreSame}
-use Rattle.message_lines.proofs.lines.Lines.put.Given as goal
-
--- nothing was put yet
-abbrev pub invariant-loop : goal.invariant-loop
-invariant-loop g l = KeepsWhatCame l.fn.self l.self × (l.self.inbox.lost ≡ l.fn.self.inbox.lost) × ((view l.self.puts).sent ≡ (view l.fn.self.puts).sent)
-    × AreSame l.fn.self l.self × (l.item ≡ l.fn.item)

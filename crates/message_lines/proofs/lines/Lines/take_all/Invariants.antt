@@ -1,7 +1,0 @@
-use Rattle.std.proofs.Common.{◌≡◌}
-use Rattle.message_lines.specs.Caller.{KeepsWhatCame, AreSame}
-use Rattle.message_lines.proofs.lines.Lines.take_all.Given as goal
-
--- nothing was lost
-abbrev pub invariant-loop : goal.invariant-loop
-invariant-loop g l = KeepsWhatCame l.fn.self l.self × (l.self.inbox.lost ≡ l.fn.self.inbox.lost) × (l.self.puts ≡ l.fn.self.puts) × AreSame l.fn.self l.self

@@ -1,8 +1,0 @@
-//! The command `logd one`: one connection on a source, to its closing line, and the status of its run.
-#![tactic(auto)]
-
-mod connection;
-mod status;
-
-pub use connection::{Ran, one};
-pub use status::Status;

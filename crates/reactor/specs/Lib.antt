@@ -1,0 +1,16 @@
+pub use Rattle.core_loop
+pub use Rattle.ev_base
+pub use Rattle.timer_queue
+pub use Rattle.reactor_model
+pub use Rattle.reactor_model.specs.ev_types
+pub use Rattle.reactor_model.specs.reactor_journal
+pub use Rattle.reactor_core
+pub use Rattle.reactor_core.specs.reactor_summary
+pub use Rattle.reactor_core.specs.reactor_state
+pub use Rattle.reactor_core.specs.laws_turns
+pub use Rattle.tp_reactor
+pub use Rattle.tp_reactor.specs.leader_token
+pub use Rattle.tp_reactor.specs.notify_ring
+pub use Rattle.tp_reactor.specs.reactor_desk
+pub use Rattle.tp_reactor.specs.laws_by_turns
+pub use Rattle.tp_reactor.specs.leader_token.specs.list_lemmas

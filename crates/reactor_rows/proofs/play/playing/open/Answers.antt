@@ -1,9 +1,0 @@
-use Rattle.std.proofs.Common.{[], refl, None}
-use Rattle.ev_base.specs.Terms.{open_terms}
-use Rattle.reactor_rows.proofs.play.playing.open.Goals as goal
-
-pub registered-requires : goal.registered-requires
-registered-requires g c =
-    let t = open_terms c.args.asked.most in
-    let fits = c.new-taker.ensures.fits t None c.requires.listener (λ offers told. cc) (λ time told. cc) c.requires.given.numbered in
-    (t, 0, [], c.in-Ok.ensures, (fits, ((λ limit told. cc), refl)))

@@ -1,5 +1,0 @@
-use Rattle.tp_rows.specs.Callers.{IsFree, SameRank}
-use Rattle.reactor_rows.proofs.pool.pools.disturb.Given as goal
-
-abbrev pub invariant-loop : goal.invariant-loop
-invariant-loop g l = IsFree l.fn.pool l.worker × SameRank l.fn.worker l.worker

@@ -1,5 +1,0 @@
-use Rattle.reactor_turns.proofs.Opens.{moment_is}
-use Rattle.reactor_turns.proofs.laws.moment_is_now.Goals as goal
-
-pub returns : goal.returns
-returns g c past = moment_is past

@@ -1,4 +1,0 @@
-//! Laws over the definitions of the journal: what the turns of a handler have to do with its life, and which events are open.
-#![tactic(auto)]
-
-pub mod laws;

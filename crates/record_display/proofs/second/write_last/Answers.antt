@@ -1,7 +1,0 @@
-use Rattle.std.proofs.Common.{rules}
-use Rattle.record_display.specs.Pipelines.{text_of}
-use Rattle.record_display.proofs.Texts.{gathers-behind}
-use Rattle.record_display.proofs.second.write_last.Goals as goal
-
-pub returns-then-is_broken-clause-text : goal.returns-then-is_broken-clause-text
-returns-then-is_broken-clause-text g c = λ o put h. gathers-behind g.K.Sink.facts o c.args.lines put (text_of c.args.messages) (search rules) h

@@ -1,4 +1,0 @@
-//! What a run over a script has done where it is over: all connections were accepted, and what was to be read was read.
-#![tactic(auto)]
-
-pub mod laws;

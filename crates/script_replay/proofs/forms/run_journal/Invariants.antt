@@ -1,6 +1,0 @@
-use Rattle.journal_text.specs.JournalSink.{sink_of}
-use Rattle.script_replay.specs.Playing.{terms_of_content}
-use Rattle.script_replay.proofs.forms.run_journal.Given as goal
-
-abbrev pub ghost-play : goal.ghost-play
-ghost-play g a = terms_of_content a.asked.connections a.asked.idle a.script (g.K.Sink.facts (sink_of a.watch)) (g.V.Volumes.facts a.volumes)

@@ -1,4 +1,0 @@
-pub mod Steps
-pub mod Connections
-pub mod Runs
-pub mod Laws

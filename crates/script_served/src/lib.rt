@@ -1,5 +1,0 @@
-//! What a run of the server over a script leaves: its journal follows the script, and where it ended because nothing could be reported any
-//! more, it is a whole run of the script.
-#![tactic(auto)]
-
-pub mod laws;

@@ -1,5 +1,0 @@
-use Rattle.script_taken.proofs.Connections.{connections_taken}
-use Rattle.script_taken.proofs.laws.connections_are_taken.Goals as goal
-
-pub returns : goal.returns
-returns g c t idle groups journal runs conn accepted = connections_taken g.H.EventHandler.means t idle groups journal runs conn accepted

@@ -1,4 +1,0 @@
-//! What the connections of a run over a script took and noted, and how they were closed, however the run ended.
-#![tactic(auto)]
-
-pub mod laws;

@@ -1,4 +1,0 @@
-//! A run of one worker over a script has the serial journal of that script.
-#![tactic(auto)]
-
-pub mod laws;

@@ -1,0 +1,7 @@
+//! Rows of connectors and dialled ends in memory, called without a reactor.
+#![tactic(auto)]
+
+#[cfg(test)]
+mod connectors;
+#[cfg(test)]
+mod diallers;

@@ -1,0 +1,18 @@
+//! Worked examples of the logging server's commands: what is written, in how many writes, the
+//! journal, and the status; and the program's top call over sockets.
+#![tactic(auto)]
+
+#[cfg(test)]
+mod asserts;
+#[cfg(test)]
+mod line_rows;
+#[cfg(test)]
+mod long_rows;
+#[cfg(test)]
+mod one_rows;
+#[cfg(test)]
+mod running;
+#[cfg(test)]
+mod sockets;
+#[cfg(test)]
+mod text_rows;

@@ -1,0 +1,5 @@
+use Rattle.test_pool.specs.Callers.{IsFree, SameRank}
+use Rattle.test_workers.proofs.pools.fill.Given as goal
+
+abbrev pub invariant-loop : goal.invariant-loop
+invariant-loop g l = IsFree l.fn.pool l.root × SameRank l.fn.root l.root

@@ -1,5 +1,0 @@
-use Rattle.std.proofs.Common.{[]}
-use Rattle.token_rows.proofs.log.two_writers.Given as goal
-
-abbrev pub ghost-new : goal.ghost-new
-ghost-new g a = (tt, [])

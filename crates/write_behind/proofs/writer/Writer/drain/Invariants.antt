@@ -1,0 +1,10 @@
+use Rattle.std.proofs.Common.{◌≡◌, false}
+use Rattle.rtrb.specs.Ring.{sent, SameProducer}
+use Rattle.write_behind.proofs.writer.Writer.drain.Given as goal
+
+-- nothing more was put
+abbrev pub invariant-loop : goal.invariant-loop
+invariant-loop g l =
+    (goal.iterator-loop g).can_next l.iterator' × (goal.iterator-loop g).is_finite l.iterator'
+    × SameProducer l.fn.producer l.producer × (sent l.producer ≡ sent l.fn.producer)
+    × (l.fn.self.whole ≡ false → l.self.whole ≡ false)
