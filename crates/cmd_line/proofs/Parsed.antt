@@ -24,7 +24,7 @@ use Rattle.cmd_line.proofs.Texts.{texts_kept}
 -- ---- any line
 
 -- what is parsed is what one level of the line's arguments makes of the words
-record IsParser (app : App) (top : Text) (line : Line) : Type 0 where
+pub record IsParser (app : App) (top : Text) (line : Line) : Type 0 where
   pub fault : (words : List Text) → fault_of app words
       ≡ level_fault (shape_of top line) [] (held [] None) words false []
   pub found : (words : List Text) → matches_of app words
@@ -35,7 +35,7 @@ refused_some [] none = absurd none
 refused_some (k ∷ kinds) some = grind arith
 
 -- both refuse the words, or the parse finds the texts of the entries
-abbrev Parsed : App → Line → List Text → Option (List Entry) → Type 0
+abbrev pub Parsed : App → Line → List Text → Option (List Entry) → Type 0
 Parsed app line words None = are_taken app words ≡ false
 Parsed app line words (Some entries) = (are_taken app words ≡ true)
     × ((name : Text) → has_name name line.flags ≡ false
@@ -63,7 +63,7 @@ parsed_by app top line words (Some entries) is agree =
           ∙ ap has_flag (first_of-text rows entries name agree.1),
     )
 
-parsed : (app : App) (top : Text) (line : Line) (words : List Text) → IsParser app top line
+pub parsed : (app : App) (top : Text) (line : Line) (words : List Text) → IsParser app top line
     → AreWords words → Parsed app line words (given line words)
 parsed app top line words is are =
     parsed_by app top line words (given line words) is

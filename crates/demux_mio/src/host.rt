@@ -11,7 +11,7 @@ use mio::net::TcpListener;
 use mio::{Poll, Waker};
 use std::alloc::Global;
 use std::io;
-use std::net::{Ipv4Addr, Net as Sockets, SocketAddr};
+use std::net::{IpAddr, Ipv4Addr, Net as Sockets, SocketAddr};
 use std::sync::{Arc, Wait};
 use std::thread::Threads;
 use std::time::{Clock, Instant};
@@ -28,14 +28,19 @@ impl Wake for MioWake {
     }
 }
 
-/// A host of sockets on 127.0.0.1. It keeps the runtime, of which sockets and the clock are asked.
+/// A host of sockets on one address, 127.0.0.1 unless it is told another one. It keeps the runtime,
+/// of which sockets and the clock are asked.
 #[derive(Drop)]
 pub struct MioHost<R> {
     rt: R,
+    address: IpAddr,
     faults: u64,
     ports: PortLog,
     closer: Option<Closer>,
 }
+
+/// The address of this machine alone.
+const LOCAL: IpAddr = IpAddr::V4(Ipv4Addr::LOCALHOST);
 
 /// What the system gave for a listener.
 #[derive(Drop)]
@@ -47,7 +52,7 @@ struct Opened {
 }
 
 impl<R: Sockets + Clock + Copy> MioHost<R> {
-    ghost use Rattle.demux_mio.specs.Hosts.{mio_host_faults};
+    ghost use Rattle.demux_mio.specs.Hosts.{mio_host_faults, mio_host_ports};
 
     /// A host that made no call. Its nets close a connection where its end is retired.
     pub fn new(rt: R) -> MioHost<R>
@@ -55,10 +60,20 @@ impl<R: Sockets + Clock + Copy> MioHost<R> {
     {
         MioHost {
             rt,
+            address: LOCAL,
             faults: 0,
             ports: PortLog::none(),
             closer: None,
         }
+    }
+
+    /// From now on it listens to this address. One that is none of this machine's fails each
+    /// `listen`.
+    pub fn set_address(&mut self, address: IpAddr)
+        ensures faults { mio_host_faults self.new ≡ mio_host_faults self.old }
+        ensures ports { mio_host_ports self.new ≡ mio_host_ports self.old }
+    {
+        self.address = address;
     }
 
     /// Asks the system for all that a listener wants.
@@ -66,7 +81,7 @@ impl<R: Sockets + Clock + Copy> MioHost<R> {
         let poll = Poll::new(&self.rt)?;
         let waker = Waker::new(poll.registry(), WAKER)?;
         let shared = Shared::new(poll.registry().try_clone()?, waker);
-        let address = SocketAddr::from((Ipv4Addr::LOCALHOST, port));
+        let address = SocketAddr::from((self.address, port));
         let listener = TcpListener::bind(&self.rt, address)?;
         let start = Instant::now(&self.rt)?;
         Ok(Opened {
@@ -91,6 +106,7 @@ impl<R: Sockets + Clock + Threads + Wait + Copy + Send + 'static> MioHost<R> {
     {
         MioHost {
             rt,
+            address: LOCAL,
             faults: 0,
             ports: PortLog::none(),
             closer: Closer::start(rt, alloc),

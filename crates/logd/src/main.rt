@@ -3,8 +3,9 @@
 
 use cmd_line::Command;
 use demux_mio::MioHost;
-use ev_base::{StdSink, StdSource};
+use ev_base::{NoMemory, StdSink, StdSource};
 use logging_server::{Served, fault_line, logd_main};
+use program_words::{Called, HELP, Own, USAGE, VERSION, call_of};
 use reactor_model::DropVolumes;
 use std::alloc::{AllocError, Global};
 use std::net::Net;
@@ -15,7 +16,10 @@ use std::time::Clock;
 use std::{env, io};
 
 /// The status of words that are none of the program's.
-const USAGE: u8 = 1;
+const WRONG_WORDS: u8 = 1;
+
+/// The status of a failed write.
+const WRITE_FAILED: u8 = 4;
 
 /// The status of want of memory.
 const OUT_OF_MEMORY: u8 = 6;
@@ -25,23 +29,43 @@ const LARGE_BLOCK: usize = 4 << 20;
 
 fn main(rt: HostRuntime) -> ExitCode {
     keep_freed_memory(&rt);
-    let words = match command_words(&rt) {
-        Ok(words) => words,
+    let called = match given_words(&rt) {
+        Ok(words) => call_of(rt.alloc(), words),
         Err(status) => return end_with(&rt, status, 0),
     };
-    let mut host = host_for(rt, rt.alloc(), &words);
+    match called {
+        Ok(Some(Called::Help)) => show(&rt, HELP),
+        Ok(Some(Called::Version)) => show(&rt, VERSION),
+        Ok(Some(Called::Command { own, rest })) => run(rt, own, &rest),
+        Ok(None) => end_with(&rt, WRONG_WORDS, 0),
+        Err(NoMemory) => end_with(&rt, OUT_OF_MEMORY, 0),
+    }
+}
+
+/// Runs the command that these words call.
+fn run(rt: HostRuntime, own: Own, words: &[String]) -> ExitCode {
+    let mut host = host_for(rt, rt.alloc(), words);
+    host.set_address(own.address);
     let input = StdSource::new(rt.stdin());
     let output = StdSink::new(rt.stdout());
     let Served { status, at, .. } = logd_main(
         &rt,
         rt.alloc(),
-        &words,
+        words,
         &mut host,
         input,
         output,
         DropVolumes,
     );
     end_with(&rt, status, at)
+}
+
+/// Writes what the program says of itself.
+fn show(rt: &HostRuntime, text: &str) -> ExitCode {
+    match print!(rt; "{text}") {
+        Ok(()) => ExitCode::SUCCESS,
+        Err(_) => end_with(rt, WRITE_FAILED, 0),
+    }
 }
 
 /// Takes a large block and lets it go. From then on the C library's allocator keeps up to twice as
@@ -53,10 +77,10 @@ fn keep_freed_memory(rt: &HostRuntime) {
 
 /// The words after the program's name, or the status with which to end where there are none to be
 /// had: a word that is not UTF-8 is a faulty command line.
-fn command_words(rt: &HostRuntime) -> Result<Vec<String>, u8> {
+fn given_words(rt: &HostRuntime) -> Result<Vec<String>, u8> {
     let args = env::args(rt).map_err(|error| match error.kind() {
         io::ErrorKind::OutOfMemory => OUT_OF_MEMORY,
-        _ => USAGE,
+        _ => WRONG_WORDS,
     })?;
     let words: Result<Vec<String>, AllocError> = args.skip(1).collect(rt.alloc());
     words.map_err(|_| OUT_OF_MEMORY)
@@ -83,8 +107,12 @@ fn host_for<R: Net + Clock + Threads + Wait + Copy + Send + 'static>(
     }
 }
 
-/// Says on standard error what the status means, where it is not 0, and ends with it.
+/// Says on standard error what the status means, unless it is 0, and ends with it. With wrong words
+/// it says how the program is called, too.
 fn end_with(rt: &HostRuntime, status: u8, at: u64) -> ExitCode {
     let _ = eprint!(rt; "{}", fault_line(status, at));
+    if status == WRONG_WORDS {
+        let _ = eprint!(rt; "{USAGE}");
+    }
     ExitCode::from(status)
 }

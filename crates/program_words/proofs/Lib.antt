@@ -1,0 +1,3 @@
+pub mod Dashes
+pub mod Options
+pub mod Parts

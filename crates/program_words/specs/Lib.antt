@@ -1,0 +1,3 @@
+pub use Rattle.cmd_line
+pub mod Parting
+pub mod Calling
