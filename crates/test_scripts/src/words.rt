@@ -2,6 +2,7 @@
 //! is an answer where there is memory no contract says.
 use crate::asserts::{assert_same, assert_same_in};
 use cmd_line::Command;
+use program_words::{Called, call_of};
 use std::alloc::{AllocError, Global};
 use std::test::Fail;
 
@@ -67,6 +68,46 @@ fn lines_of_words_call_their_commands(rt: HostRuntime) -> Result<(), Fail> {
         assert_same_in(&rt, line, text.as_str(), expected);
     }
     Ok(())
+}
+
+/// Words of the program, and what they call: help, the version, or the words that a command sees,
+/// after the address that was taken off.
+static CALLS: [(&str, &str); 8] = [
+    ("--help", "help"),
+    ("--version", "version"),
+    ("--version --help", "127.0.0.1: --version --help"),
+    ("one", "127.0.0.1: one"),
+    ("serve --port 7000", "127.0.0.1: serve --port 7000"),
+    ("serve --address ::1 --port 7000", "::1: serve --port 7000"),
+    ("serve --port 7000 --address=0.0.0.0", "0.0.0.0: serve --port 7000"),
+    ("serve --address 1.2.3 --port 7000", "none"),
+];
+
+#[test]
+fn words_of_the_program_are_taken_off(rt: HostRuntime) -> Result<(), Fail> {
+    for &(line, expected) in &CALLS {
+        let text = match call_of(rt.alloc(), words_of(rt.alloc(), line)?)? {
+            Some(called) => text_of(rt.alloc(), &called)?,
+            None => String::from_str(rt.alloc(), "none")?,
+        };
+        assert_same_in(&rt, line, text.as_str(), expected);
+    }
+    Ok(())
+}
+
+fn text_of(alloc: Global, called: &Called) -> Result<String, AllocError> {
+    match called {
+        Called::Help => String::from_str(alloc, "help"),
+        Called::Version => String::from_str(alloc, "version"),
+        Called::Command { own, rest } => {
+            let mut text = format!(in alloc; "{}:", own.address)?;
+            for word in rest {
+                text.push(' ')?;
+                text.push_str(word)?;
+            }
+            Ok(text)
+        }
+    }
 }
 
 fn words_of(alloc: Global, line: &str) -> Result<Vec<String>, AllocError> {
