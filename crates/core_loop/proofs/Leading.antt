@@ -117,10 +117,13 @@ module _ {H E N : Type 0} (means : Handling H E N) (t : Terms) where
       (s.0, reaches_then a b s.0 first earlier r s.1, s.2, s.3)
 
   ended_then : (until : Option ℕ) (ended : Option RunEnd) (over first : ℕ)
-      (a b c : List (Entry N)) → StaysBelow until a b
+      (a b c : List (Entry N)) (steps : List (List (Entry N))) → Reaches means t a steps b
+      → StaysBelow until a b
       → EndedSo means t until ended over b first c → EndedSo means t until ended over a first c
-  ended_then until (Some end.Enough) over first a b c below e = record {
+  ended_then until (Some end.Enough) over first a b c steps r below e = record {
+    earlier = e.earlier ++ steps;
     between = e.between;
+    reaches = reaches_then a b e.between steps e.earlier r e.reaches;
     entries = e.entries;
     turn = e.turn;
     is = e.is;
@@ -128,8 +131,10 @@ module _ {H E N : Type 0} (means : Handling H E N) (t : Terms) where
     below = below_then until a b e.between below e.below;
     enough = e.enough;
   }
-  ended_then until (Some end.Over) over first a b c below e = record {
+  ended_then until (Some end.Over) over first a b c steps r below e = record {
+    earlier = e.earlier ++ steps;
     between = e.between;
+    reaches = reaches_then a b e.between steps e.earlier r e.reaches;
     entries = e.entries;
     wait = e.wait;
     is = e.is;
@@ -137,13 +142,13 @@ module _ {H E N : Type 0} (means : Handling H E N) (t : Terms) where
     none = e.none;
     below = below_then until a b c below e.below;
   }
-  ended_then until (Some end.Stopped) over first a b c below e =
+  ended_then until (Some end.Stopped) over first a b c steps r below e =
       (below_then until a b c below e.0, e.1)
-  ended_then until (Some end.Broken) over first a b c below e = below_then until a b c below e
-  ended_then until (Some end.NetFault) over first a b c below e = below_then until a b c below e
-  ended_then until (Some end.VolumeFault) over first a b c below e = below_then until a b c below e
-  ended_then until (Some end.NoMemory) over first a b c below e = below_then until a b c below e
-  ended_then until None over first a b c below e = below_then until a b c below e
+  ended_then until (Some end.Broken) over first a b c steps r below e = below_then until a b c below e
+  ended_then until (Some end.NetFault) over first a b c steps r below e = below_then until a b c below e
+  ended_then until (Some end.VolumeFault) over first a b c steps r below e = below_then until a b c below e
+  ended_then until (Some end.NoMemory) over first a b c steps r below e = below_then until a b c below e
+  ended_then until None over first a b c steps r below e = below_then until a b c below e
 
   -- a run went on, and then came to this
   pub runs_then : (until : Option ℕ) (ended : Option RunEnd) (before_over over F first : ℕ)
@@ -153,7 +158,7 @@ module _ {H E N : Type 0} (means : Handling H E N) (t : Terms) where
       record {
         steps = s.steps ++ r.steps;
         reaches = reaches_then a b c r.steps s.steps r.reaches s.reaches;
-        ends = ended_then until ended over first a b c r.ends s.ends;
+        ends = ended_then until ended over first a b c r.steps r.reaches r.ends s.ends;
       }
 
   -- a run that is where it began
@@ -341,7 +346,9 @@ module _ {H M Q' W V N E : Type 0} (m : Meaning H M Q' W V N E) (t : Terms) wher
       goes_so h _ (RunsSo m.means until (Some end.Enough) over t h) new a
       (runs_once m.means t until (Some end.Enough) over a.first h a.so.0 a.history (inr a.so.1) a.so.2
       (record {
+        earlier = [];
         between = h;
+        reaches = refl;
         entries = a.so.0;
         turn = a.so.1;
         is = a.so.2;
@@ -371,7 +378,9 @@ module _ {H M Q' W V N E : Type 0} (m : Meaning H M Q' W V N E) (t : Terms) wher
       let is : b.history ≡ h ++ b.so.entries = b.so.is ∙ ap (λ k. k ++ b.so.entries) same in
       runs_once m.means t until (Some end.Over) over b.first h b.so.entries b.history (inl b.so.wait) is
       (record {
+        earlier = [];
         between = h;
+        reaches = refl;
         entries = b.so.entries;
         wait = b.so.wait;
         is = is;

@@ -165,7 +165,9 @@ StaysBelow until before h =
 -- and not before it. Its entries are held.
 pub record EndsEnough {H E N : Type 0} (means : Handling H E N) (t : Terms) (until : Option ℕ)
     (before : List (Entry N)) (first : ℕ) (h : List (Entry N)) : Type 0 where
+  pub earlier : List (List (Entry N))
   pub between : List (Entry N)
+  pub reaches : Reaches means t before earlier between
   pub entries : List (Entry N)
   pub turn : IsTurn means t between entries
   pub is : h ≡ between ++ entries
@@ -175,9 +177,11 @@ pub record EndsEnough {H E N : Type 0} (means : Handling H E N) (t : Terms) (unt
 
 -- The last step was a wait, that of the reactor's last mark, which was answered Over, and there is
 -- no upcall to make.
-pub record EndsOver {N : Type 0} (until : Option ℕ) (over : ℕ)
-    (before h : List (Entry N)) : Type 0 where
+pub record EndsOver {H E N : Type 0} (means : Handling H E N) (t : Terms) (until : Option ℕ)
+    (over : ℕ) (before h : List (Entry N)) : Type 0 where
+  pub earlier : List (List (Entry N))
   pub between : List (Entry N)
+  pub reaches : Reaches means t before earlier between
   pub entries : List (Entry N)
   pub wait : IsWait entries
   pub is : h ≡ between ++ entries
@@ -189,7 +193,7 @@ pub record EndsOver {N : Type 0} (until : Option ℕ) (over : ℕ)
 abbrev pub EndedSo : {H E N : Type 0} → Handling H E N → Terms → Option ℕ → Option RunEnd → ℕ
     → List (Entry N) → ℕ → List (Entry N) → Type 0
 EndedSo means t until (Some end.Enough) over before first h = EndsEnough means t until before first h
-EndedSo means t until (Some end.Over) over before first h = EndsOver until over before h
+EndedSo means t until (Some end.Over) over before first h = EndsOver means t until over before h
 EndedSo means t until (Some end.Stopped) over before first h =
     StaysBelow until before h × ((summary (past_of h)).ended ≡ true)
 EndedSo means t until (Some end.Broken) over before first h = StaysBelow until before h
