@@ -172,15 +172,21 @@ stopped_still old new (Err y) i is ended err =
     (idle_same old new i (err i.terms i.first i.history i.stands), ended is)
 
 -- a look that found no upcall to make
-pub none_next : {H M Q W V N E : Type 0} {m : Meaning H M Q W V N E} (core : Core H M Q W V N E)
-    (i : IsIdle m core) (found : Bool) → found ≡ is_some (pick (sum i.history)) → found ≡ false
-    → HasNoPick (past_of i.history)
-none_next core i found says is =
-    no_pick i.terms.most (past_of i.history) i.stands.tracks.legal (empty _ (sym says ∙ is))
+pub none_found : {H M Q W V N E : Type 0} {m : Meaning H M Q W V N E} (core : Core H M Q W V N E)
+    (t : Terms) (F : ℕ) (h : List (Entry N)) → Stands m t core F h → (found : Bool)
+    → found ≡ is_some (pick (sum h)) → found ≡ false → HasNoPick (past_of h)
+none_found core t F h stands found says is =
+    no_pick t.most (past_of h) stands.tracks.legal (empty _ (sym says ∙ is))
   where
     empty : {A : Type 0} (x : Option A) → is_some x ≡ false → x ≡ None
     empty None q = refl
     empty (Some a) q = cc
+
+pub none_next : {H M Q W V N E : Type 0} {m : Meaning H M Q W V N E} (core : Core H M Q W V N E)
+    (i : IsIdle m core) (found : Bool) → found ≡ is_some (pick (sum i.history)) → found ≡ false
+    → HasNoPick (past_of i.history)
+none_next core i found says is =
+    none_found core i.terms i.first i.history i.stands found says is
 
 -- a handing over leaves the history
 pub hands_over : {H M Q W V N E : Type 0} {m : Meaning H M Q W V N E} (old new : Core H M Q W V N E)

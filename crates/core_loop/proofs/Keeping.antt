@@ -1,20 +1,25 @@
 -- Entries that change neither which events are open nor that a reactor was stopped.
 use Rattle.std.proofs.Common.{map, ℕ, ◌≡◌, Bool, true, false, not, List, [], ◌∷◌, ◌++◌, refl, sym}
 use Rattle.std.proofs.Common.{ap, ◌∙◌, subst, Option, Some, None}
+use Rattle.std.specs.Prelude.{if◌then◌else◌}
 use Rattle.std.proofs.lemmas.List.{append-nil, append_assoc}
 use Rattle.ev_base.specs.ev_types.specs.declared.upcall.Handle.{Handle}
+use Rattle.ev_base.specs.ev_types.specs.declared.upcall.Kind.{Kind}
 use Rattle.ev_base.specs.ev_types.specs.declared.upcall.Mask.{Mask}
 use Rattle.reactor_model.specs.reactor_journal.specs.declared.entry.Entry.{Entry}
 use Rattle.reactor_model.specs.reactor_journal.specs.declared.entry.Entry.TheVariants.{Opened}
 use Rattle.reactor_model.specs.reactor_journal.specs.declared.entry.Entry.TheVariants.{Polled, Due}
 use Rattle.reactor_model.specs.reactor_journal.specs.declared.entry.Entry.TheVariants.{Removed}
 use Rattle.reactor_model.specs.reactor_journal.specs.declared.entry.Entry.TheVariants.{Closed}
+use Rattle.reactor_model.specs.reactor_journal.specs.declared.entry.Entry.TheVariants.{Posted}
+use Rattle.reactor_model.specs.reactor_journal.specs.declared.entry.Entry.TheVariants.{Stale}
 use Rattle.reactor_model.specs.reactor_journal.specs.Past.{past_of}
 use Rattle.reactor_model.specs.reactor_journal.proofs.Turning.{past_of-more}
-use Rattle.reactor_core.specs.reactor_summary.specs.Summary.{Summary, summary, step}
+use Rattle.reactor_core.specs.reactor_summary.specs.Summary.{Summary, summary, step, is_alive}
 use Rattle.reactor_core.specs.reactor_summary.specs.declared.parts.LiveHandle.{LiveHandle}
 use Rattle.ev_base.specs.declared.net.Report.{Report}
 use Rattle.reactor_core.specs.Polling.{due_of, ready_of}
+use Rattle.reactor_core.specs.Postings.{posting}
 use Rattle.reactor_core.specs.Settling.{IsClosing}
 use Rattle.reactor_core.specs.Registering.{registered}
 use Rattle.reactor_core.specs.Removing.{AreRemovals}
@@ -99,3 +104,20 @@ keeps_registered h s handle mask None = keeps_one h (Opened handle mask) refl (�
 keeps_registered h s handle mask (Some timer) =
     keeps_both h (Opened handle mask ∷ []) _ (keeps_one h (Opened handle mask) refl (λ q. q))
     (keeps_one (h ++ Opened handle mask ∷ []) _ refl (λ q. q))
+
+-- a notification
+pub keeps_posting : {N : Type 0} → (h : List (Entry N)) (handle : Handle) (kind : Kind)
+    (from seq : ℕ) → Keeps h (posting (sum h) handle kind from seq ∷ [])
+keeps_posting {N = N} h handle kind from seq =
+    keeps_one h _ (opens (is_alive (sum h) handle.0)) (ended (is_alive (sum h) handle.0))
+  where
+    opens : (b : Bool) → (step {N = N} (sum h)
+        (if b then Posted handle kind from seq else Stale handle from seq)).opens ≡ (sum h).opens
+    opens true = refl
+    opens false = refl
+
+    ended : (b : Bool) → (sum h).ended ≡ true
+        → (step {N = N} (sum h) (if b then Posted handle kind from seq else Stale handle from
+        seq)).ended ≡ true
+    ended true q = q
+    ended false q = q

@@ -58,7 +58,7 @@ gave_none m old new (Ok (Some x)) t F h st is gave = cc
 gave_none m old new (Ok None) t F h st is gave = (gave t F h st).1
 gave_none m old new (Err x) t F h st is gave = cc
 
-no_pick : {H M Q W V N E : Type 0} (m : Meaning H M Q W V N E) (old new : Core H M Q W V N E)
+pub no_pick : {H M Q W V N E : Type 0} (m : Meaning H M Q W V N E) (old new : Core H M Q W V N E)
     (result : Result (Option (Job H N E)) StartRefused) (t : Terms) (F : ℕ) (h : List (Entry N))
     → Stands m t old F h → result ≡ Ok None
     → StartGave m old result new → HasNoPick (past_of h)
@@ -82,7 +82,7 @@ has_none m old new result i is gave = (
   no_pick m old new result i.terms i.first i.history i.stands is gave,
 )
 
-both_ways : (b : Bool) → b ≡ true → b ≡ false → ⊥
+pub both_ways : (b : Bool) → b ≡ true → b ≡ false → ⊥
 both_ways b is off = false≢true (sym off ∙ is)
 
 -- where an upcall was started there was one to make
@@ -105,6 +105,20 @@ pub one_open : (moment : ℕ) (w : Option WaitingEvent) → length (opens_from m
 one_open moment None = omega arith
 one_open moment (Some w) = omega arith
 
+-- where no upcall is on its way, one is behind the start of one
+pub one_started : {N : Type 0} → (h : List (Entry N)) (event : ℕ) → (sum h).opens ≡ []
+    → length (sum (h ++ Started event ∷ [])).opens ≤ 1
+one_started {N = N} h event none =
+    let started : (sum (h ++ Started event ∷ [])).opens
+    ≡ (sum h).opens ++ opens_from (sum h).moment (waiting_event (sum h) event) =
+    ap (λ (s : Summary). s.opens) (sum_more h (Started event)) in
+    omega (
+      arith,
+      one_open (sum h).moment (waiting_event (sum h) event),
+      ap length started,
+      ap (λ os. length (os ++ opens_from (sum h).moment (waiting_event (sum h) event))) none,
+    )
+
 -- behind the start of an idle reactor one upcall is on its way
 pub goes_out : {H M Q W V N E : Type 0} (m : Meaning H M Q W V N E) (old new : Core H M Q W V N E)
     (result : Result (Option (Job H N E)) StartRefused) (job : Job H N E) (done : Done H N E)
@@ -114,25 +128,14 @@ pub goes_out : {H M Q W V N E : Type 0} (m : Meaning H M Q W V N E) (old new : C
 goes_out {N = N} m old new result job done i is gave run =
     let gives : StartGives m i.terms i.first i.history (Some job) new =
     gave_some m old new result job i.terms i.first i.history i.stands is gave in
-    let h : List (Entry N) = i.history ++ Started job.event ∷ [] in
-    let started : (sum h).opens ≡ (sum i.history).opens
-    ++ opens_from (sum i.history).moment (waiting_event (sum i.history) job.event) =
-    ap (λ (s : Summary). s.opens) (sum_more i.history (Started job.event)) in
     record {
       terms = i.terms;
       limit = i.limit;
       first = i.first;
-      history = h;
+      history = i.history ++ Started job.event ∷ [];
       stands = gives.1;
       fits = fits_started m i.terms i.history job.event done (run i.terms _ gives.2);
-      one_open = omega (
-        arith,
-        one_open (sum i.history).moment
-            (waiting_event (sum i.history) job.event),
-        ap length started,
-        ap (λ os. length (os ++ opens_from (sum i.history).moment
-            (waiting_event (sum i.history) job.event))) i.none_open,
-      );
+      one_open = one_started i.history job.event i.none_open;
     }
 
 -- what was started is out
@@ -186,29 +189,38 @@ none_of : {A : Type 0} (xs : List A) → length xs ≤ 0 → xs ≡ []
 none_of [] le = refl
 none_of (x ∷ xs) le = absurd (omega (arith, le))
 
+-- behind the settling of the one upcall that was on its way, none is
+pub none_left : {H M Q W V N E : Type 0} (m : Meaning H M Q W V N E) (old new : Core H M Q W V N E)
+    (done : Done H N E) (settled : _) (t : Terms) (F : ℕ) (h : List (Entry N))
+    (fits : DoneFits m.means t (past_of h) done) → length (sum h).opens ≤ 1
+    → (st : Settles m t F h done old new settled)
+    → (sum (((h ++ returned done ∷ []) ++ st.closing) ++ st.acted)).opens ≡ []
+none_left {N = N} m old new done settled t F h fits one st =
+    let fewer = opens_returned (sum h) done.event done.turn.answer done.turn.note _ fits.event in
+    let back : (sum (h ++ returned done ∷ [])).opens ≡ [] =
+    ap (λ (s : Summary). s.opens) (sum_more h (returned done))
+    ∙ none_of _ (omega (arith, one, fewer)) in
+    let k : Keeps (h ++ returned done ∷ []) st.closing =
+    keeps_closing (h ++ returned done ∷ []) _ done.handle st.closing st.is_closing in
+    let l : Keeps ((h ++ returned done ∷ []) ++ st.closing) st.acted =
+    keeps_acted ((h ++ returned done ∷ []) ++ st.closing) _ _ _ done.turn.act _ _ st.acted
+    st.is_acted in
+    l.opens ∙ (k.opens ∙ back)
+
 pub settles_closed : {H M Q W V N E : Type 0} (m : Meaning H M Q W V N E)
     (old new : Core H M Q W V N E) (done : Done H N E) (settled : _) {bound : Option (Option ℕ)}
     (i : IsOutOn m bound old done)
     → Settles m i.terms i.first i.history done old new settled
     → HasClosedOn m bound settled.closed new
-settles_closed {N = N} m old new done settled i st =
-    let h : List (Entry N) = i.history in
-    let fewer = opens_returned (sum h) done.event done.turn.answer done.turn.note _ i.fits.event in
-    let back : (sum (h ++ returned done ∷ [])).opens ≡ [] =
-    ap (λ (s : Summary). s.opens) (sum_more h (returned done))
-    ∙ none_of _ (omega (arith, i.one_open, fewer)) in
-    let k : Keeps (h ++ returned done ∷ []) st.closing =
-    keeps_closing (h ++ returned done ∷ []) _ done.handle st.closing st.is_closing in
-    let l : Keeps ((h ++ returned done ∷ []) ++ st.closing) st.acted =
-    keeps_acted ((h ++ returned done ∷ []) ++ st.closing) _ _ _ done.turn.act _ _ st.acted
-    st.is_acted in (
-      record {
-        terms = i.terms;
-        limit = i.limit;
-        first = i.first;
-        history = ((h ++ returned done ∷ []) ++ st.closing) ++ st.acted;
-        stands = st.stands;
-        none_open = l.opens ∙ (k.opens ∙ back);
-      },
-      st.closed,
-    )
+settles_closed m old new done settled i st = (
+  record {
+    terms = i.terms;
+    limit = i.limit;
+    first = i.first;
+    history = ((i.history ++ returned done ∷ []) ++ st.closing) ++ st.acted;
+    stands = st.stands;
+    none_open =
+        none_left m old new done settled i.terms i.first i.history i.fits i.one_open st;
+  },
+  st.closed,
+)

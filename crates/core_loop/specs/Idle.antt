@@ -7,10 +7,10 @@ use Rattle.timer_queue.specs.declared.timer.Timer.{Timer}
 use Rattle.reactor_model.specs.reactor_journal.specs.declared.entry.Entry.{Entry}
 use Rattle.reactor_model.specs.reactor_journal.specs.Past.{past_of, count}
 use Rattle.reactor_core.specs.reactor_summary.specs.Summary.{summary}
-use Rattle.reactor_core.specs.Stands.{Meaning, Stands, StandsWith}
+use Rattle.reactor_core.specs.Stands.{From, Meaning, Stands, StandsWith}
 use Rattle.reactor_core.specs.Beginning.{IsOver, PartsStand}
 use Rattle.reactor_core.specs.Marks.{is_polled}
-use Rattle.reactor_core.specs.Views.{net_of, over_of, volumes_of}
+use Rattle.reactor_core.specs.Views.{net_of, over_of, volumes_of, watch_of}
 use Rattle.reactor_core.specs.declared.reactor.Parts.{Parts}
 use Rattle.reactor_core.specs.Registering.{IsOffered}
 use Rattle.reactor_core.specs.Upcalls.{DoneFits, HasNoPick}
@@ -80,18 +80,6 @@ abbrev pub IsOutOrIdle : {H M Q W V N E : Type 0} → Meaning H M Q W V N E → 
     → Option (Done H N E) → Type 0
 IsOutOrIdle m core done = IsOutOrIdleOn m None core done
 
--- whatever binds the limit of waits, it goes from idle to that
-abbrev pub StartsUpcall : {H M Q W V N E : Type 0} → Meaning H M Q W V N E → Core H M Q W V N E
-    → Option (Done H N E) → Core H M Q W V N E → Type 0
-StartsUpcall m old done new =
-    (bound : Option (Option ℕ)) → IsIdleOn m bound old → IsOutOrIdleOn m bound new done
-
--- and back
-abbrev pub EndsUpcall : {H M Q W V N E : Type 0} → Meaning H M Q W V N E → Core H M Q W V N E
-    → Done H N E → Core H M Q W V N E → Type 0
-EndsUpcall m old done new =
-    (bound : Option (Option ℕ)) → IsOutOn m bound old done → IsIdleOn m bound new
-
 -- it stands for a history that is over
 abbrev pub WasStopped : {H M Q W V N E : Type 0} → Meaning H M Q W V N E → Core H M Q W V N E
     → Type 0
@@ -129,6 +117,7 @@ StepEndsSo m until waits end.Enough core =
 StepEndsSo m until waits end.Over core = WasOver m core
 StepEndsSo m until waits end.Stopped core = HasEnded m core
 StepEndsSo m until waits end.NetFault core = Rose waits (m.facts (net_of core)).failed_waits
+StepEndsSo m until waits end.Broken core = ⊥
 StepEndsSo m until waits end.VolumeFault core = ⊥
 StepEndsSo m until waits end.NoMemory core = Unit {0}
 
@@ -138,10 +127,18 @@ FailsVolume before end.VolumeFault now = Rose before now
 FailsVolume before end.NoMemory now = Unit {0}
 FailsVolume before _ now = ⊥
 
+-- its watch failed: where the terms name the count of faults at the start, it rose since
+pub record HasBroken {H M Q W V N E : Type 0} (m : Meaning H M Q W V N E)
+    (core : Core H M Q W V N E) : Type 0 where
+  pub told : m.is_broken (watch_of core) ≡ true
+  pub rose : From m core (λ t F h. (before : ℕ) → t.output_faults ≡ Some before
+      → Rose before (m.faults (watch_of core)))
+
 -- behind the end of a loop
 abbrev pub EndsSo : {H M Q W V N E : Type 0} → Meaning H M Q W V N E → Option ℕ → ℕ → ℕ → RunEnd
     → Core H M Q W V N E → Type 0
 EndsSo m until waits faults end.VolumeFault core = Rose faults (m.volumes (volumes_of core)).faults
+EndsSo m until waits faults end.Broken core = HasBroken m core
 EndsSo m until waits faults end.Enough core = StepEndsSo m until waits end.Enough core
 EndsSo m until waits faults end.Over core = StepEndsSo m until waits end.Over core
 EndsSo m until waits faults end.Stopped core = StepEndsSo m until waits end.Stopped core

@@ -4,4 +4,4 @@
 
 mod turns;
 
-pub use turns::{RunEnd, close, poll, register, run, turn};
+pub use turns::{RunEnd, close, poll, post, register, run, turn};

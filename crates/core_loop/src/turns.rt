@@ -1,21 +1,28 @@
 //! The calls of a one-thread reactor whose upcalls are settled as soon as they were made.
-ghost use Rattle.std.specs.Prelude.{◌≡◌, ℕ, IfErr, IfNone, IfOk, IfSome, None, OnErr, OnOk, Some};
+ghost use Rattle.std.specs.Prelude.{◌≡◌, ℕ, List, IfErr, IfNone, IfOk, IfSome, None, OnOk, Some};
+ghost use Rattle.ev_base.specs.Terms.{Terms};
 ghost use Rattle.ev_base.specs.Counts.{Rose};
+ghost use Rattle.reactor_model.specs.reactor_journal.specs.declared.entry.Entry.{Entry};
 ghost use Rattle.reactor_model.specs.reactor_journal.specs.Past.{past_of};
 ghost use Rattle.reactor_core.specs.Faults.{HasNotFallen};
 ghost use Rattle.reactor_core.specs.Offering.{RegisterGives};
 ghost use Rattle.reactor_core.specs.Polling.{FitsLimit, Polls};
 ghost use Rattle.reactor_core.specs.Refusals.{LeavesOffer};
 ghost use Rattle.reactor_core.specs.Registering.{IsOffered};
-ghost use Rattle.reactor_core.specs.Stands.{From};
-ghost use Rattle.reactor_core.specs.Views.{net_of, volumes_of};
-ghost use Rattle.core_loop.specs.Idle.{EndsUpcall, EndsSo, FailsVolume, StartsUpcall, HasClosed};
-ghost use Rattle.core_loop.specs.Idle.{HasEnded, HasNoUpcall, IsIdle, IsOut, LeavesParts, MayTake};
+ghost use Rattle.reactor_core.specs.Removing.{StopsOnce};
+ghost use Rattle.reactor_core.specs.reactor_summary.specs.Summary.{summary};
+ghost use Rattle.reactor_core.specs.Stands.{From, Stands};
+ghost use Rattle.reactor_core.specs.Views.{marks_of, net_of, over_of, volumes_of};
+ghost use Rattle.core_loop.specs.Idle.{EndsSo, FailsVolume, HasClosed, HasEnded, HasNoUpcall};
+ghost use Rattle.core_loop.specs.Idle.{IsIdle, LeavesParts, MayTake};
 ghost use Rattle.core_loop.specs.Idle.{StaysIdle, StaysWithin, StepEndsSo, WaitedOver, WasStopped};
+ghost use Rattle.core_loop.specs.Leading.{Leads, LeadsWithin, LeavesFrom, NoneOpen, PolledSo};
+ghost use Rattle.core_loop.specs.Leading.{PostedSo, RunsSo, TurnedSo, is_enough};
 
-use ev_base::{Handle, Mask, Net};
+use ev_base::{Handle, Kind, Mask, Net};
 use reactor_core::{
-    Core, Done, HandOverRefused, Means, Parts, PollRefused, Polled, RegisterRefused, StartRefused,
+    Core, HandOverRefused, Means, Parts, PollRefused, Polled, PostRefused, RegisterRefused,
+    StartRefused,
 };
 use reactor_model::{EventHandler, Volumes, Watch};
 use std::sync::Wait;
@@ -31,6 +38,8 @@ pub enum RunEnd {
     Over,
     /// The reactor was stopped.
     Stopped,
+    /// The watch failed.
+    Broken,
     /// A wait failed, and the net's count of failed waits rose.
     NetFault,
     /// A volume of the journal was not taken, and the volumes' count of faults rose.
@@ -59,51 +68,6 @@ pub fn register<
     core.register(handler, mask, None)
 }
 
-/// Starts the next upcall and makes it. It is to be settled.
-fn start<
-    H: EventHandler,
-    M: Net<End = H::End>,
-    Q: TimerQueue,
-    W: Watch<H::Note>,
-    V: Volumes<H::Note>,
->(core: &mut Core<H, M, Q, W, V>) -> Result<Option<Done<H>>, StartRefused>
-    requires { IsIdle ⟦<Core<H, M, Q, W, V> as Means>⟧.m core.old }
-    ensures ok { IfOk result (λ done. StartsUpcall ⟦<Core<H, M, Q, W, V> as Means>⟧.m core.old done
-        core.new) }
-    ensures some { (done : Done H H.Note H.End) → result ≡ Ok (Some done)
-        → HasNoUpcall ⟦<Core<H, M, Q, W, V> as Means>⟧.m core.old → ⊥ }
-    ensures none { result ≡ Ok None → HasNoUpcall ⟦<Core<H, M, Q, W, V> as Means>⟧.m core.new }
-    ensures err { OnErr result (StaysIdle ⟦<Core<H, M, Q, W, V> as Means>⟧.m core.old core.new) }
-    ensures waits { (M.facts (net_of core.new)).failed_waits
-        ≡ (M.facts (net_of core.old)).failed_waits }
-    ensures volumes { volumes_of core.new ≡ volumes_of core.old }
-{
-    match core.start() {
-        Ok(Some(job)) => Ok(Some(job.run())),
-        Ok(None) => Ok(None),
-        Err(refused) => Err(refused),
-    }
-}
-
-/// Settles the upcall that is on its way. Tells how many handlers were closed or refused until
-/// then.
-fn settle<
-    H: EventHandler,
-    M: Net<End = H::End>,
-    Q: TimerQueue,
-    W: Watch<H::Note>,
-    V: Volumes<H::Note>,
->(core: &mut Core<H, M, Q, W, V>, done: Done<H>) -> u64
-    requires { IsOut ⟦<Core<H, M, Q, W, V> as Means>⟧.m core.old done }
-    ensures closed { HasClosed ⟦<Core<H, M, Q, W, V> as Means>⟧.m result core.new }
-    ensures back { EndsUpcall ⟦<Core<H, M, Q, W, V> as Means>⟧.m core.old done core.new }
-    ensures waits { (M.facts (net_of core.new)).failed_waits
-        ≡ (M.facts (net_of core.old)).failed_waits }
-    ensures volumes { volumes_of core.new ≡ volumes_of core.old }
-{
-    core.settle(done).closed
-}
-
 /// Makes the next upcall and settles it, and tells how many handlers were closed or refused until
 /// then. None comes exactly where there is no upcall to make.
 pub fn turn<
@@ -121,12 +85,18 @@ pub fn turn<
         → HasNoUpcall ⟦<Core<H, M, Q, W, V> as Means>⟧.m core.old → ⊥ }
     ensures none { result ≡ Ok None → HasNoUpcall ⟦<Core<H, M, Q, W, V> as Means>⟧.m core.new }
     ensures stays { StaysIdle ⟦<Core<H, M, Q, W, V> as Means>⟧.m core.old core.new }
+    ensures leads { Leads ⟦<Core<H, M, Q, W, V> as Means>⟧.m (TurnedSo H.means result) core.old
+        core.new }
     ensures waits { (M.facts (net_of core.new)).failed_waits
         ≡ (M.facts (net_of core.old)).failed_waits }
     ensures volumes { volumes_of core.new ≡ volumes_of core.old }
+    ensures marks { marks_of core.new ≡ marks_of core.old }
 {
-    match start(core) {
-        Ok(Some(done)) => Ok(Some(settle(core, done))),
+    match core.start() {
+        Ok(Some(job)) => {
+            let done = job.run();
+            Ok(Some(core.settle(done).closed))
+        }
         Ok(None) => Ok(None),
         Err(refused) => Err(refused),
     }
@@ -146,6 +116,8 @@ pub fn poll<
     ensures waits_once { IfOk result (λ polled. From ⟦<Core<H, M, Q, W, V> as Means>⟧.m core.old
         (λ t F h. FitsLimit t most_ms
         → Polls ⟦<Core<H, M, Q, W, V> as Means>⟧.m t F h most_ms polled core.old core.new)) }
+    ensures leads { LeadsWithin ⟦<Core<H, M, Q, W, V> as Means>⟧.m most_ms
+        (λ t before first h. PolledSo result (over_of core.new) before h) core.old core.new }
     ensures over { result ≡ Ok Polled.Over
         → WaitedOver ⟦<Core<H, M, Q, W, V> as Means>⟧.m core.new }
     ensures stopped { result ≡ Err PollRefused.Stopped → HasEnded ⟦<Core<H, M, Q, W, V> as Means>⟧.m
@@ -159,6 +131,28 @@ pub fn poll<
     core.poll(most_ms)
 }
 
+/// Posts a notification (`Core::post`). Its answers are those of that call.
+pub fn post<
+    H: EventHandler,
+    M: Net<End = H::End>,
+    Q: TimerQueue,
+    W: Watch<H::Note>,
+    V: Volumes<H::Note>,
+>(
+    core: &mut Core<H, M, Q, W, V>,
+    handle: Handle,
+    kind: Kind,
+    from: u64,
+    seq: u64,
+) -> Result<(), PostRefused>
+    requires { IsIdle ⟦<Core<H, M, Q, W, V> as Means>⟧.m core.old }
+    ensures idle { IsIdle ⟦<Core<H, M, Q, W, V> as Means>⟧.m core.new }
+    ensures leads { Leads ⟦<Core<H, M, Q, W, V> as Means>⟧.m
+        (λ t before first h. PostedSo handle kind from seq result before h) core.old core.new }
+{
+    core.post(handle, kind, from, seq)
+}
+
 /// Hands a volume of the journal over where one is due.
 fn hand_over<
     H: EventHandler,
@@ -169,6 +163,8 @@ fn hand_over<
 >(core: &mut Core<H, M, Q, W, V>) -> Result<(), RunEnd>
     requires { IsIdle ⟦<Core<H, M, Q, W, V> as Means>⟧.m core.old }
     ensures stays { StaysIdle ⟦<Core<H, M, Q, W, V> as Means>⟧.m core.old core.new }
+    ensures leads { Leads ⟦<Core<H, M, Q, W, V> as Means>⟧.m (λ t before first h. h ≡ before)
+        core.old core.new }
     ensures net { net_of core.new ≡ net_of core.old }
     ensures ok { OnOk result ((V.facts (volumes_of core.new)).faults
         ≡ (V.facts (volumes_of core.old)).faults) }
@@ -179,6 +175,16 @@ fn hand_over<
         Ok(_) => Ok(()),
         Err(HandOverRefused::Failed) => Err(RunEnd::VolumeFault),
         Err(HandOverRefused::NoMemory) => Err(RunEnd::NoMemory),
+    }
+}
+
+/// Whether as many handlers were closed or refused as are asked for.
+fn is_enough(until: Option<u64>, closed: u64) -> bool
+    ensures { result ≡ is_enough until closed }
+{
+    match until {
+        Some(enough) => enough <= closed,
+        None => false,
     }
 }
 
@@ -193,6 +199,8 @@ fn step<
     requires { IsIdle ⟦<Core<H, M, Q, W, V> as Means>⟧.m core.old }
     ensures idle { IsIdle ⟦<Core<H, M, Q, W, V> as Means>⟧.m core.new }
     ensures within { StaysWithin ⟦<Core<H, M, Q, W, V> as Means>⟧.m most_ms core.old core.new }
+    ensures leads { LeadsWithin ⟦<Core<H, M, Q, W, V> as Means>⟧.m most_ms
+        (RunsSo H.means until result (over_of core.new)) core.old core.new }
     ensures ends { IfSome result (λ end. StepEndsSo ⟦<Core<H, M, Q, W, V> as Means>⟧.m until
         (M.facts (net_of core.old)).failed_waits end core.new) }
     ensures waits { HasNotFallen (M.facts (net_of core.old)).failed_waits
@@ -200,10 +208,8 @@ fn step<
     ensures volumes { volumes_of core.new ≡ volumes_of core.old }
 {
     match turn(core) {
-        Ok(Some(closed)) => match until {
-            Some(enough) if enough <= closed => Some(RunEnd::Enough),
-            _ => None,
-        },
+        Ok(Some(closed)) if is_enough(until, closed) => Some(RunEnd::Enough),
+        Ok(Some(_)) => None,
         Ok(None) => match poll(core, most_ms) {
             Ok(Polled::Over) if !core.has_next() => Some(RunEnd::Over),
             Ok(_) => None,
@@ -215,7 +221,8 @@ fn step<
     }
 }
 
-/// Hands a volume over where one is due, and makes one step. Tells why the loop ends, if it does.
+/// Looks whether the watch failed, hands a volume over where one is due, and makes one step. Tells
+/// why the loop ends, if it does.
 fn advance<
     H: EventHandler,
     M: Net<End = H::End>,
@@ -226,6 +233,8 @@ fn advance<
     requires { IsIdle ⟦<Core<H, M, Q, W, V> as Means>⟧.m core.old }
     ensures idle { IsIdle ⟦<Core<H, M, Q, W, V> as Means>⟧.m core.new }
     ensures within { StaysWithin ⟦<Core<H, M, Q, W, V> as Means>⟧.m most_ms core.old core.new }
+    ensures leads { LeadsWithin ⟦<Core<H, M, Q, W, V> as Means>⟧.m most_ms
+        (RunsSo H.means until result (over_of core.new)) core.old core.new }
     ensures ends { IfSome result (λ end. EndsSo ⟦<Core<H, M, Q, W, V> as Means>⟧.m until
         (M.facts (net_of core.old)).failed_waits (V.facts (volumes_of core.old)).faults end
         core.new) }
@@ -234,6 +243,9 @@ fn advance<
     ensures volumes { IfNone result ((V.facts (volumes_of core.new)).faults
         ≡ (V.facts (volumes_of core.old)).faults) }
 {
+    if core.is_broken() {
+        return Some(RunEnd::Broken);
+    }
     match hand_over(core) {
         Ok(()) => step(core, most_ms, until),
         Err(end) => Some(end),
@@ -242,7 +254,8 @@ fn advance<
 
 /// Makes turns, and waits, at most `most_ms` milliseconds, where there is none to make, until
 /// `until` handlers were closed or refused, nothing can be reported any more, the reactor is
-/// stopped, or something fails.
+/// stopped, or something fails. The history goes on by those turns and waits alone, and a run that
+/// ends at `Enough` ends with the turn that brought it there, whose entries are held.
 pub fn run<
     R: Wait,
     H: EventHandler,
@@ -254,6 +267,8 @@ pub fn run<
     requires { IsIdle ⟦<Core<H, M, Q, W, V> as Means>⟧.m core.old }
     ensures idle { IsIdle ⟦<Core<H, M, Q, W, V> as Means>⟧.m core.new }
     ensures within { StaysWithin ⟦<Core<H, M, Q, W, V> as Means>⟧.m most_ms core.old core.new }
+    ensures leads { LeadsWithin ⟦<Core<H, M, Q, W, V> as Means>⟧.m most_ms
+        (RunsSo H.means until (Some result) (over_of core.new)) core.old core.new }
     ensures ends { EndsSo ⟦<Core<H, M, Q, W, V> as Means>⟧.m until
         (M.facts (net_of core.old)).failed_waits (V.facts (volumes_of core.old)).faults result
         core.new }
@@ -276,6 +291,8 @@ fn stop<
 >(core: &mut Core<H, M, Q, W, V>)
     requires { IsIdle ⟦<Core<H, M, Q, W, V> as Means>⟧.m core.old }
     ensures stopped { WasStopped ⟦<Core<H, M, Q, W, V> as Means>⟧.m core.new }
+    ensures stops { From ⟦<Core<H, M, Q, W, V> as Means>⟧.m core.old (λ t F h.
+        StopsOnce ⟦<Core<H, M, Q, W, V> as Means>⟧.m t F h core.new (summary (past_of h)).ended) }
     ensures waits { (M.facts (net_of core.new)).failed_waits
         ≡ (M.facts (net_of core.old)).failed_waits }
     ensures attaches { (M.facts (net_of core.new)).failed_attaches
@@ -294,6 +311,9 @@ pub fn close<
 >(core: Core<H, M, Q, W, V>) -> Parts<H::Note, M, Q, W, V>
     requires { IsIdle ⟦<Core<H, M, Q, W, V> as Means>⟧.m core }
     ensures leaves { LeavesParts ⟦<Core<H, M, Q, W, V> as Means>⟧.m Q.timers result }
+    ensures from { (t : Terms) (F : ℕ) (h : List (Entry H.Note))
+        → Stands ⟦<Core<H, M, Q, W, V> as Means>⟧.m t core F h → NoneOpen h
+        → LeavesFrom ⟦<Core<H, M, Q, W, V> as Means>⟧.m Q.timers t F h result }
     ensures waits { (M.facts result.net).failed_waits ≡ (M.facts (net_of core)).failed_waits }
     ensures attaches { (M.facts result.net).failed_attaches
         ≡ (M.facts (net_of core)).failed_attaches }

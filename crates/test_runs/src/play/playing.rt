@@ -1,30 +1,25 @@
 //! How a script is played: on a reactor of its own, with the acceptor.
-ghost use Rattle.std.specs.Prelude.{◌≡◌, ◌≤◌, ℕ, List, [], IfOk, None, true};
+ghost use Rattle.std.specs.Prelude.{◌≡◌, ◌≤◌, [], IfOk, true};
 ghost use Rattle.ev_base.specs.Net.{IsNew};
 ghost use Rattle.ev_base.specs.Host.{GivesListener};
-ghost use Rattle.ev_base.specs.Terms.{Terms, open_terms};
-ghost use Rattle.log_handler.specs.declared.note.ServerNote.{ServerNote};
-ghost use Rattle.reactor_model.specs.reactor_journal.specs.declared.entry.Entry.{Entry};
-ghost use Rattle.reactor_model.specs.reactor_journal.specs.Past.{past_of};
-ghost use Rattle.reactor_core.specs.Polling.{FitsLimit};
-ghost use Rattle.reactor_core.specs.Registering.{IsOffered};
-ghost use Rattle.reactor_core.specs.Stands.{Stands, StandsWith};
+ghost use Rattle.ev_base.specs.Terms.{open_terms};
+ghost use Rattle.reactor_core.specs.Stands.{Stands};
 ghost use Rattle.acceptor.specs.Idle.{IsIdleTime};
-ghost use Rattle.acceptor.specs.Servers.{servers};
 ghost use Rattle.script_net.specs.NetContent.{script_net_facts, script_net_keeps};
 ghost use Rattle.script_net.specs.ScriptEnd.{script_end_facts, ScriptEndKeeps};
-ghost use Rattle.test_one_thread.specs.Running.{CanServe, GoesOn, IsIdle, NoneOpen};
+ghost use Rattle.core_loop.specs.Idle.{IsIdle, MayTake};
 
 use acceptor::{Acceptor, ServerHandler};
-use ev_base::{Handle, Host, Mask, Why};
+use core_loop::{RunEnd, close, post, register, run};
+use ev_base::{Handle, Host, Kind, Mask, Why};
 use log_handler::ServerNote;
 use reactor_core::{Core, Means, Parts};
 use reactor_model::{DropVolumes, EventHandler, Watch};
 use script_net::{ScriptEnd, ScriptHost, ScriptNet};
 use script_text::parse_script;
 use std::alloc::Global;
+use std::sync::Wait;
 use std::test::Fail;
-use test_one_thread::{Ran, finish, run};
 use timer_queue::SortedTimers;
 
 /// What a script is played with.
@@ -65,28 +60,6 @@ fn is_idle_time(idle: Option<u64>) -> bool
     }
 }
 
-/// Registers the acceptor, and tells whether it was taken.
-fn register<W: Watch<ServerNote> + Drop>(
-    core: &mut Player<W>,
-    acceptor: ServerHandler<ScriptEnd>,
-) -> bool
-    requires { StandsWith ⟦<Player<W> as Means>⟧.m
-        (λ t h. IsOffered (servers script_end_facts ScriptEndKeeps) t (past_of h) acceptor)
-        core.old }
-    ensures { (t : Terms) (F : ℕ) (h : List (Entry ServerNote))
-        → Stands ⟦<Player<W> as Means>⟧.m t core.old F h → NoneOpen h
-        → IsOffered (servers script_end_facts ScriptEndKeeps) t (past_of h) acceptor
-        → GoesOn ⟦<Player<W> as Means>⟧.m t h (λ before now. Unit {0}) core.new }
-{
-    match core.register(acceptor, Mask::READ, None) {
-        Ok(_) => true,
-        Err((back, _)) => {
-            back.handle_close(Why::Refused);
-            false
-        }
-    }
-}
-
 /// Takes a reactor apart, and gives its watch.
 fn watch_of<W: Watch<ServerNote> + Drop>(core: Player<W>) -> W
     requires { IsIdle ⟦<Player<W> as Means>⟧.m core }
@@ -98,7 +71,7 @@ fn watch_of<W: Watch<ServerNote> + Drop>(core: Player<W>) -> W
         timers,
         watch,
         volumes: _,
-    } = finish(core);
+    } = close(core);
     drop(journal);
     drop(net);
     drop(timers);
@@ -110,17 +83,18 @@ fn registered<W: Watch<ServerNote> + Drop>(
     core: Player<W>,
     acceptor: ServerHandler<ScriptEnd>,
 ) -> Result<Player<W>, Fail>
-    requires { StandsWith ⟦<Player<W> as Means>⟧.m
-        (λ t h. IsOffered (servers script_end_facts ScriptEndKeeps) t (past_of h) acceptor
-        × (FitsLimit t None × NoneOpen h)) core }
-    ensures { IfOk result (λ core. CanServe ⟦<Player<W> as Means>⟧.m None core) }
+    requires { MayTake ⟦<Player<W> as Means>⟧.m core acceptor }
+    ensures { IfOk result (λ core. IsIdle ⟦<Player<W> as Means>⟧.m core) }
 {
     let mut core = core;
-    if register(&mut core, acceptor) {
-        return Ok(core);
+    match register(&mut core, acceptor, Mask::READ) {
+        Ok(_) => Ok(core),
+        Err((back, _)) => {
+            back.handle_close(Why::Refused);
+            watch_of(core);
+            Err("the acceptor was not registered".into())
+        }
     }
-    watch_of(core);
-    Err("the acceptor was not registered".into())
 }
 
 /// A reactor over a net that made no call.
@@ -162,7 +136,7 @@ fn open<W: Watch<ServerNote> + Drop>(
     requires greatest { asked.most ≤ 4097 }
     requires idle { IsIdleTime asked.idle }
     requires watch { W.stands (open_terms asked.most) watch [] }
-    ensures { IfOk result (λ core. CanServe ⟦<Player<W> as Means>⟧.m None core) }
+    ensures { IfOk result (λ core. IsIdle ⟦<Player<W> as Means>⟧.m core) }
 {
     let taker = Acceptor::new(alloc, listener, asked.idle);
     let acceptor = ServerHandler::Listen(taker);
@@ -192,12 +166,13 @@ fn listen(alloc: Global, script: &str, most: u64) -> Result<(ScriptNet, ScriptEn
 }
 
 /// Plays a script, and gives how its run ended and the watch, which saw its journal.
-pub(crate) fn play<W: Watch<ServerNote> + Drop>(
+pub(crate) fn play<R: Wait, W: Watch<ServerNote> + Drop>(
+    rt: &R,
     alloc: Global,
     script: &str,
     asked: Asked,
     watch: W,
-) -> Result<(Ran, W), Fail>
+) -> Result<(RunEnd, W), Fail>
     requires { W.stands (open_terms asked.most) watch [] }
 {
     if !is_fine(asked) {
@@ -205,19 +180,23 @@ pub(crate) fn play<W: Watch<ServerNote> + Drop>(
     }
     let (net, listener) = listen(alloc, script, asked.most)?;
     let core = open(alloc, net, listener, asked, watch)?;
-    Ok(serve(core, asked.until))
+    Ok(serve(rt, core, asked.until))
 }
 
 /// Serves what a net reports until it is over, or was stopped by a notice behind so many closings
 /// and refusals.
-fn serve<W: Watch<ServerNote> + Drop>(core: Player<W>, until: Option<u64>) -> (Ran, W)
-    requires { CanServe ⟦<Player<W> as Means>⟧.m None core }
+fn serve<R: Wait, W: Watch<ServerNote> + Drop>(
+    rt: &R,
+    core: Player<W>,
+    until: Option<u64>,
+) -> (RunEnd, W)
+    requires { IsIdle ⟦<Player<W> as Means>⟧.m core }
 {
     let mut core = core;
-    let until = match until {
-        Some(count) => Some((count, Handle(0))),
-        None => None,
-    };
-    let ran = run(&mut core, None, until);
-    (ran, watch_of(core))
+    let mut end = run(rt, &mut core, None, until);
+    if end == RunEnd::Enough {
+        let _ = post(&mut core, Handle(0), Kind::Except, 0, 0);
+        end = run(rt, &mut core, None, None);
+    }
+    (end, watch_of(core))
 }

@@ -1,4 +1,5 @@
 use Rattle.core_loop.proofs.Idling.{any_limit, polls, polls_on, same_limit, stopped_still}
+use Rattle.core_loop.proofs.Leading.{polls_so}
 use Rattle.core_loop.proofs.turns.poll.Goals as goal
 
 pub poll-requires : goal.poll-requires
@@ -34,3 +35,9 @@ returns-clause-stopped g c = λ is.
     let i = c.requires.0 in
     stopped_still c.args.core.now c.poll.new.self c.poll.result i is
     (c.poll.ensures.stopped i.terms i.first i.history i.stands).0 c.poll.ensures.err
+
+pub returns-clause-leads : goal.returns-clause-leads
+returns-clause-leads g c = λ t F h stands fits none.
+    polls_so _ t c.args.core.now c.poll.new.self c.args.most_ms c.poll.result _ F h stands fits none
+    c.poll.ensures.ok c.poll.ensures.err (λ g at. c.poll.ensures.number t F g at)
+    (c.poll.ensures.stopped t F h stands).0

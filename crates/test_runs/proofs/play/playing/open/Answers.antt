@@ -7,4 +7,14 @@ registered-requires g c =
     let t = open_terms c.args.asked.most in
     let fits = c.new-taker.ensures.fits t None c.requires.listener (λ offers told. cc)
     (λ time told. cc) c.requires.given.numbered in
-    (t, 0, [], c.in-Ok.ensures, (fits, ((λ limit told. cc), refl)))
+    (
+      record {
+        terms = t;
+        limit = refl;
+        first = 0;
+        history = [];
+        stands = c.in-Ok.ensures;
+        none_open = refl;
+      },
+      fits,
+    )

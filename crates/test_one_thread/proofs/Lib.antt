@@ -1,4 +1,0 @@
-pub mod Keeping
-pub mod Serving
-pub mod Counting
-pub mod Notices
