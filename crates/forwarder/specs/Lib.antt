@@ -1,0 +1,10 @@
+pub mod Feeding
+pub mod ForwardEnds
+pub mod ForwardLaws
+pub mod ForwardNets
+pub mod Waiting
+pub mod Readings
+pub mod Forwarding
+pub mod Services
+pub mod Forwarded
+pub mod ServiceLaws
