@@ -33,8 +33,8 @@ IsWritten (Some written) bytes = written ≡ bytes
 -- a bad record stands at this place of the bytes, or, at the end of the input, an unfinished one
 abbrev pub StopsAtRecord : EndFacts → List ℕ → ℕ → Type 0
 StopsAtRecord e taken at = ((decode taken).stop ≡ Malformed at)
-    ⊎ ((e.over ≡ true) × (n : ℕ) × ((decode taken).stop ≡ Partial n)
-    × (at ≡ told (taken_of taken)))
+    ⊎ ((e.over ≡ true) × ((n : ℕ) × ((decode taken).stop ≡ Partial n)
+    × (at ≡ told (taken_of taken))))
 
 -- what stands behind why it reads no more
 abbrev pub HasStopped : ForwardEnding → List ℕ → EndFacts → Type 0
@@ -86,11 +86,17 @@ pub record HasForwarded (s : State) : Type 0 where
 -- ---- all turns
 
 -- how many turns, timeouts apart, were answered Keep
+abbrev pub is_rest : Answer → ℕ
+is_rest Keep = 1
+is_rest Again = 0
+is_rest Close = 0
+
 abbrev pub rest_of : Upcall → Answer → ℕ
 rest_of (Timeout timer) answer = 0
-rest_of _ Keep = 1
-rest_of _ Again = 0
-rest_of _ Close = 0
+rest_of Input answer = is_rest answer
+rest_of Output answer = is_rest answer
+rest_of Except answer = is_rest answer
+rest_of (Notice kind) answer = is_rest answer
 
 abbrev pub rests_in : List (Item ForwardNote) → ℕ
 rests_in [] = 0

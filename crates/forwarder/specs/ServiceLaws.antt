@@ -22,7 +22,7 @@ pub stays_when_asked : {E S : Type 0} {G : Ghosts E} (tells : E → EndFacts)
     → ForwardKeeps tells keeps source t new → HasServed tells source service old had
     → HasServed tells source service new had
 stays_when_asked tells keeps source t service old new answer had asked kept served = record {
-  turned = turned_when_asked service (forward_facts tells source old)
+  turned = turned_when_asked (standing service (forward_facts tells source old))
       (forward_facts tells source new) answer had asked served.turned;
   few = served.few;
 }

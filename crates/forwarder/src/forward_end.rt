@@ -8,9 +8,7 @@ ghost use Rattle.one_net.specs.OneKeeps.{StartsAt};
 ghost use Rattle.forwarder.specs.ForwardEnds.{peer_of, input_end, forward_facts, ForwardKeeps};
 
 use crate::peer::Peer;
-use ev_base::{
-    DialEnd, Finish, Got, Handle, Mask, Net, NetFailed, PeerEnd, Sent, Source, Taken,
-};
+use ev_base::{DialEnd, Finish, Got, Handle, Mask, Net, NetFailed, PeerEnd, Sent, Source, Taken};
 use one_net::OneEnd;
 
 /// How many bytes are read at most: 2^40.

@@ -1,7 +1,8 @@
 //! The forwarding service.
-ghost use Rattle.std.specs.Prelude.{◌≡◌, ◌≤◌, ◌⊎◌, [], None, length, OnOk, OnErr};
+ghost use Rattle.std.specs.Prelude.{◌≡◌, ◌≢◌, ◌≤◌, ◌⊎◌, [], None, length, OnOk, OnErr};
 ghost use Rattle.ev_base.specs.Terms.{KeepsOn};
 ghost use Rattle.ev_base.specs.End.{EndFacts};
+ghost use Rattle.reactor_model.specs.Turns.{IsTimeout};
 ghost use Rattle.connector.specs.Serving.{IsSameDial};
 ghost use Rattle.forwarder.specs.Waiting.{most_held};
 
@@ -51,7 +52,7 @@ impl<E, S> Drop for Forwarder<E, S> {
 
 impl<E: DialEnd, S: Source> Forwarder<E, S> {
     ghost use Rattle.ev_base.specs.End.{IsFresh};
-    ghost use Rattle.forwarder.specs.Forwarding.{State, Forwards, Reads, Writes, TakesPiece};
+    ghost use Rattle.forwarder.specs.Forwarding.{Serves, Forwards, Reads, Writes, TakesPiece};
     ghost use Rattle.forwarder.specs.Forwarding.{LacksMemory, may_read, may_write, note_of};
     ghost use Rattle.forwarder.specs.Forwarding.{concluded, answer_of};
     ghost use Rattle.forwarder.specs.Forwarded.{HasServed};
@@ -72,6 +73,23 @@ impl<E: DialEnd, S: Source> Forwarder<E, S> {
             bytes: 0,
             ended: None,
             end: PhantomData,
+        }
+    }
+
+    /// Makes one turn: at a timeout it does nothing.
+    fn turn(&mut self, end: &mut ForwardEnd<E, S>, up: Upcall) -> Answer
+        ensures serves { (state_of E.tells S.facts self.old end.old).ended ≡ None
+            → Serves up (state_of E.tells S.facts self.old end.old) result
+            (state_of E.tells S.facts self.new end.new) }
+        ensures timeout { IsTimeout up → result ≢ Answer.Again }
+        ensures kept { KeepsOn (ForwardKeeps E.tells E.keeps S.facts) end.old end.new }
+        ensures same { IsSameDial (forward_facts E.tells S.facts end.old)
+            (forward_facts E.tells S.facts end.new) }
+        ensures few { held_of self.old ≤ most_held → held_of self.new ≤ most_held }
+    {
+        match up {
+            Upcall::Timeout { .. } => Answer::Keep,
+            _ => self.forward(end),
         }
     }
 
@@ -227,16 +245,8 @@ impl<E: DialEnd, S: Source> Service for Forwarder<E, S> {
 
     ghost serves = { λ t service end had. HasServed E.tells S.facts service end had };
 
-    fn live(
-        &mut self,
-        end: &mut ForwardEnd<E, S>,
-        up: Upcall,
-        _now: u64,
-    ) -> (Answer, ForwardNote) {
-        let answer = match up {
-            Upcall::Timeout { .. } => Answer::Keep,
-            _ => self.forward(end),
-        };
+    fn live(&mut self, end: &mut ForwardEnd<E, S>, up: Upcall, _now: u64) -> (Answer, ForwardNote) {
+        let answer = self.turn(end, up);
         (answer, self.note())
     }
 

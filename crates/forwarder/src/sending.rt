@@ -1,6 +1,6 @@
 //! What waits to be sent.
-ghost use Rattle.std.specs.Prelude.{◌≡◌, ◌≤◌, ◌<◌, ◌^◌, ◌==◌, [], length, drop, OnOk, OnErr, true};
-ghost use Rattle.forwarder.specs.Waiting.{most_held, front_bytes, front_rest};
+ghost use Rattle.std.specs.Prelude.{◌≡◌, ◌≤◌, ◌^◌, ◌==◌, [], length, drop, OnOk, OnErr};
+ghost use Rattle.forwarder.specs.Waiting.{most_held, front_bytes};
 
 use ev_base::NoMemory;
 use message_block::{Block, HIGH, LOW, Message, MessageQueue};
@@ -44,7 +44,7 @@ impl Sending {
     pub(crate) fn is_empty(&self) -> bool
         ensures { result ≡ (length self.now.waiting == 0) }
     {
-        self.at as u64 >= self.front_length() && self.queue.bytes() == 0
+        self.at as u64 >= length_of(&self.front) && self.queue.bytes() == 0
     }
 
     /// Puts bytes where nothing waits. After `NoMemory` nothing waits still.
@@ -79,17 +79,6 @@ impl Sending {
         }
     }
 
-    /// How many bytes the message has that is being sent.
-    fn front_length(&self) -> u64
-        ensures length { result ≡ length (front_bytes self.now.front) }
-        ensures within { result ≤ 2 ^ 30 }
-    {
-        match &self.front {
-            Some(message) => message.total_length(),
-            None => 0,
-        }
-    }
-
     /// All that waits, where the queue holds none.
     pub(crate) fn front(&self) -> &[u8]
         requires { self.now.held ≡ 0 }
@@ -108,6 +97,18 @@ impl Sending {
         ensures sent { self.new.waiting ≡ drop count self.old.waiting }
         ensures held { self.new.held ≡ 0 }
     {
+        let _length = length_of(&self.front);
         self.at += count;
+    }
+}
+
+/// How many bytes a message has, or none.
+fn length_of(message: &Option<Message>) -> u64
+    ensures length { result ≡ length (front_bytes message.now) }
+    ensures within { result ≤ 2 ^ 30 }
+{
+    match message {
+        Some(message) => message.total_length(),
+        None => 0,
     }
 }
