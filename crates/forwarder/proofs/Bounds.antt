@@ -1,9 +1,8 @@
 -- How long what is sent of records is: at most eight sevenths of their spellings, since these have
 -- 28 bytes at least and a longer spelling has 4 more.
 use Rattle.std.proofs.Common.{◌≡◌, ◌≤◌, ◌<◌, ◌+◌, ◌*◌, ◌∙◌, ◌&&◌, ℕ, zero, suc, Bool, true, false}
-use Rattle.std.proofs.Common.{List, [], ◌∷◌, ◌++◌, length, take, drop, nat_lt, nat_le, refl, sym, ap}
-use Rattle.std.proofs.Common.{arith, if◌then◌else◌, Option, Some, None, subst}
-use Rattle.std.specs.List.{list_all}
+use Rattle.std.proofs.Common.{List, [], ◌∷◌, ◌++◌, length, drop, refl, sym, ap}
+use Rattle.std.proofs.Common.{arith, if◌then◌else◌}
 use Rattle.std.proofs.lemmas.Bool.Decides.{nat_tests}
 use Rattle.std.proofs.lemmas.List.{length-append, length-drop, length-take, append_cancel_left}
 use Rattle.byteorder.specs.Numbers.{length-bytes_high_first}
@@ -14,8 +13,8 @@ use Rattle.cdr_record.specs.declared.grammar.First.TheVariants.{More, Bad, One}
 use Rattle.cdr_record.specs.declared.decoder.Fed.{Fed}
 use Rattle.cdr_record.specs.Grammar.{first_of, record_in, octet, payload_length, fields_length}
 use Rattle.cdr_record.specs.Grammar.{message_length, seconds_size, seconds_width, order_of}
-use Rattle.cdr_record.specs.Spelling.{bytes_of, spelling, seconds_bytes, canon, canon_2}
-use Rattle.cdr_record.specs.Decoding.{DecoderState, StandsFor, decode, records_of, left_of}
+use Rattle.cdr_record.specs.Spelling.{bytes_of, spelling, canon, canon_2}
+use Rattle.cdr_record.specs.Decoding.{DecoderState, StandsFor, records_of, left_of}
 use Rattle.cdr_record.specs.Feeding.{Feeds}
 use Rattle.cdr_record.proofs.Growing.{first_one, one_within, seconds_size-most, verdict}
 use Rattle.cdr_record.proofs.Growing.{first_verdict, bad_stays}
@@ -46,22 +45,38 @@ parts a k p s u m x = rw (
   length-append m x,
 ) refl
 
-length-canon : (r : LogRecord) → length (canon r Big) ≤ 28 + length r.text
-unfolding spelling order_of seconds_size seconds_width
-length-canon r = let all = parts _ _ _ _ _ _ r.text in
-    omega (arith, all, length-bytes 4 _, length-bytes 4 _)
+-- the fields of a spelling
+length-fields : (size a k p s u m : ℕ) (x : List ℕ) → length (bytes_of Big 4 a
+    ++ (bytes_of Big 4 k ++ (bytes_of Big 4 p ++ (bytes_of Big size s ++ (bytes_of Big 4 u
+    ++ (bytes_of Big 4 m ++ x)))))) ≡ 20 + size + length x
+length-fields size a k p s u m x = omega (
+  arith,
+  parts (bytes_of Big 4 a) (bytes_of Big 4 k) (bytes_of Big 4 p) (bytes_of Big size s)
+      (bytes_of Big 4 u) (bytes_of Big 4 m) x,
+  length-bytes 4 a,
+  length-bytes 4 k,
+  length-bytes 4 p,
+  length-bytes size s,
+  length-bytes 4 u,
+  length-bytes 4 m,
+)
 
-length-canon_2 : (r : LogRecord) → length (canon_2 r Big) ≤ 32 + length r.text
+length-canon : (r : LogRecord) → length (canon r Big) ≡ 28 + length r.text
 unfolding spelling order_of seconds_size seconds_width
-length-canon_2 r = let all = parts _ _ _ _ _ _ r.text in
-    omega (arith, all, length-bytes 4 _, length-bytes 4 _)
+length-canon r =
+    ap (λ (n : ℕ). suc (suc (suc (suc n)))) (length-fields 4 _ _ _ _ _ _ r.text) ∙ omega arith
+
+length-canon_2 : (r : LogRecord) → length (canon_2 r Big) ≡ 32 + length r.text
+unfolding spelling order_of seconds_size seconds_width
+length-canon_2 r =
+    ap (λ (n : ℕ). suc (suc (suc (suc n)))) (length-fields 8 _ _ _ _ _ _ r.text) ∙ omega arith
 
 length-sent_as : (r : LogRecord) → length (sent_as r) ≤ 32 + length r.text
 length-sent_as r = by (fits_1 r)
   where
     by : (b : Bool) → length (if b then canon r Big else canon_2 r Big) ≤ 32 + length r.text
     by true = omega (arith, length-canon r)
-    by false = length-canon_2 r
+    by false = omega (arith, length-canon_2 r)
 
 -- the message of a record at the front is as long as its field says, at most
 length-text : (t : List ℕ) → length (record_in t).text ≤ message_length t
@@ -139,14 +154,14 @@ pieces_none = record { short = refl; few = omega arith }
 pieces_by : (left piece : List ℕ) (v : First) → first_of left ≡ v
     → ((n : ℕ) → first_of left ≡ One n → ⊥) → length piece ≤ 4096
     → ArePieces (records_of (left ++ piece))
-pieces_by left piece More e no h =
+pieces_by left piece More e none h =
     let b = bounded (left ++ piece) in record {
       short = b.short;
       few = omega (arith, b.size, length-append left piece, few_left left e, h);
     }
-pieces_by left piece (Bad w) e no h =
+pieces_by left piece (Bad w) e none h =
     rw (stops_at (left ++ piece) (Bad w) (bad_stays left piece w e) tt).records pieces_none
-pieces_by left piece (One n) e no h = absurd (no n e)
+pieces_by left piece (One n) e none h = absurd (none n e)
 
 none_left : (t : List ℕ) (n : ℕ) → first_of (left_of t) ≡ One n → ⊥
 none_left t n e = by (first_of (left_of t)) e (is_left t).stops

@@ -7,7 +7,7 @@ use Rattle.std.proofs.lemmas.Bool.Decides.{nat_tests}
 use Rattle.std.proofs.lemmas.Grind.{flat_map-append}
 use Rattle.std.proofs.lemmas.List.{append_assoc, take-append-drop, length-append, length-take}
 use Rattle.ev_base.specs.ev_types.specs.declared.upcall.Answer.{Answer}
-use Rattle.ev_base.specs.ev_types.specs.declared.upcall.Answer.TheVariants.{Keep, Again, Close}
+use Rattle.ev_base.specs.ev_types.specs.declared.upcall.Answer.TheVariants.{Keep}
 use Rattle.ev_base.specs.ev_types.specs.declared.upcall.Upcall.{Upcall}
 use Rattle.ev_base.specs.ev_types.specs.declared.upcall.Upcall.TheVariants.{Input, Output, Except}
 use Rattle.ev_base.specs.ev_types.specs.declared.upcall.Upcall.TheVariants.{Timeout, Notice}
@@ -25,26 +25,26 @@ use Rattle.cdr_record.specs.declared.decoder.Fed.{Fed}
 use Rattle.cdr_record.specs.declared.grammar.First.{First}
 use Rattle.cdr_record.specs.declared.grammar.First.TheVariants.{More, Bad, One}
 use Rattle.cdr_record.specs.Grammar.{first_of}
-use Rattle.cdr_record.specs.Decoding.{DecoderState, StandsFor, Stop, Malformed, decode, records_of}
+use Rattle.cdr_record.specs.Decoding.{DecoderState, StandsFor, Malformed, Partial, decode, records_of}
 use Rattle.cdr_record.specs.Decoding.{left_of, taken_of, bad_at, bad_of, stop_at, unfinished}
-use Rattle.cdr_record.specs.Feeding.{Feeds, fresh}
+use Rattle.cdr_record.specs.Feeding.{Feeds}
 use Rattle.cdr_record.proofs.Cutting.{goes_on, stops_at, first_nil}
 use Rattle.cdr_record.proofs.Taking.{keeps_left, fresh_stands}
 use Rattle.reactor_model.specs.reactor_journal.specs.Event.{Item}
 use Rattle.reactor_model.specs.Handling.{NoClose, EndsInClose, GoesOn, IsClose}
 use Rattle.forwarder.specs.Feeding.{sent_as, sent_all, feed}
 use Rattle.forwarder.specs.Readings.{stop_of, stop_at_end}
-use Rattle.forwarder.specs.Forwarding.{State, at_start, more, none_wait, may_read, TakesPiece}
-use Rattle.forwarder.specs.Forwarding.{LacksMemory, TakesRead, ReadsOnce, Reads, may_write}
+use Rattle.forwarder.specs.Forwarding.{State, at_start, more, none_wait, may_read}
+use Rattle.forwarder.specs.Forwarding.{TakesRead, ReadsOnce, Reads, may_write}
 use Rattle.forwarder.specs.Forwarding.{TakesWrite, WritesOnce, Writes, ending_by, concluded}
 use Rattle.forwarder.specs.Forwarding.{answer_of, Forwards, Serves, Turns, Course, note_of}
-use Rattle.forwarder.specs.Forwarded.{IsWritten, StopsAtRecord, HasStopped, EndedSo, IfSo}
+use Rattle.forwarder.specs.Forwarded.{IsWritten, HasStopped, EndedSo, IfSo}
 use Rattle.forwarder.specs.Forwarded.{GoesOnFrom, UnlessWanting, HasForwarded, is_rest, rest_of}
 use Rattle.forwarder.specs.Forwarded.{rests_in, LeavesTurn, LastIs, HasTurned}
 use Rattle.forwarder.specs.declared.note.ForwardNote.{ForwardNote}
 use Rattle.forwarder.specs.declared.note.ForwardEnding.{ForwardEnding}
 use Rattle.forwarder.specs.declared.note.ForwardEnding.TheVariants as end
-use Rattle.forwarder.proofs.Asking.{asked_none}
+use Rattle.forwarder.specs.Asking.{asked_none, if_more, stopped_as}
 
 -- ---- bytes and counts
 
@@ -89,11 +89,6 @@ going_of o P is h = subst (λ (x : Option ForwardEnding). UnlessWanting x P) is 
 
 if_none : (o : Option ForwardEnding) (holds : ForwardEnding → Type 0) → o ≡ None → IfSo o holds
 if_none o holds is = subst (λ (x : Option ForwardEnding). IfSo x holds) (sym is) tt
-
-if_more : (o : Option ForwardEnding) (P Q : ForwardEnding → Type 0)
-    → ((how : ForwardEnding) → P how → Q how) → IfSo o P → IfSo o Q
-if_more None P Q go h = tt
-if_more (Some how) P Q go h = go how h
 
 some_none : (how : ForwardEnding) → Some how ≡ None → ⊥
 some_none how is = cc
@@ -143,17 +138,26 @@ no_bad place left More is = refl
 no_bad place left (One n) is = refl
 no_bad place left (Bad w) is = cc
 
+is_zero : (n : ℕ) → (n == 0) ≡ true → n ≡ 0
+is_zero n is = grind (arith, nat_tests)
+
+some_left : (n : ℕ) → (n == 0) ≡ false → unfinished n ≡ Partial n
+some_left zero is = cc
+some_left (suc n) is = refl
+
 ends_so : (d : DecoderState) (t : List ℕ) (e : EndFacts) → StandsFor d t → bad_of t ≡ None
     → e.over ≡ true → HasStopped (stop_at_end d) t e
 ends_so d t e stands none over =
     let rest = keeps_left d t stands (stands.bad ∙ none) in
-    by (length d.rest) (no_bad (taken_of t) (length (left_of t)) (first_of (left_of t)) none
-    ∙ ap (λ (left : List ℕ). unfinished (length left)) (sym rest))
+    let stop = no_bad (taken_of t) (length (left_of t)) (first_of (left_of t)) none
+    ∙ ap (λ (left : List ℕ). unfinished (length left)) (sym rest) in
+    by (length d.rest == 0) refl stop
   where
-    by : (n : ℕ) → (decode t).stop ≡ unfinished n
-        → HasStopped (if n == 0 then end.End else end.BadRecord d.offset) t e
-    by zero stop = (over, stop)
-    by (suc n) stop = inr (over, suc n, stop, stands.offset)
+    by : (b : Bool) → (length d.rest == 0) ≡ b → (decode t).stop ≡ unfinished (length d.rest)
+        → HasStopped (if b then end.End else end.BadRecord d.offset) t e
+    by true is stop = (over, stop ∙ ap unfinished (is_zero (length d.rest) is))
+    by false is stop =
+        inr (over, (length d.rest, stop ∙ some_left (length d.rest) is, stands.offset))
 
 -- what a read leaves: where it gave nothing, and nothing waits, it reads no more
 record LeavesRead (s : State) (gave : Bool) (r : State) : Type 0 where
@@ -278,13 +282,13 @@ reads_once s gave r open_ none h once = by once.came once.facts once.reads once.
       forwarded = subst HasForwarded (sym piece.leaves)
           (takes_piece s f once.buffer n r.decoder piece.fed open_ h g piece.feeds);
       writes = ap (λ (x : State). x.facts.writes) piece.leaves ∙ g.counts.writes;
-      stopped = λ no. absurd (true_false (sym gave_some ∙ no));
+      stopped = λ none_came. absurd (true_false (sym gave_some ∙ none_came));
     }
     by (got.Bytes n) f g (gave_some, inr lacks) = record {
       forwarded = subst HasForwarded (sym lacks)
           (lacks_memory s f once.buffer n r.decoder none h g);
       writes = ap (λ (x : State). x.facts.writes) lacks ∙ g.counts.writes;
-      stopped = λ no. absurd (true_false (sym gave_some ∙ no));
+      stopped = λ none_came. absurd (true_false (sym gave_some ∙ none_came));
     }
     by got.Pause f g t = absurd t
     by got.Over f g t =
@@ -294,14 +298,14 @@ reads_once s gave r open_ none h once = by once.came once.facts once.reads once.
               h g.bytes g.gave g.counts.written
               (ends_so s.decoder h.taken f going.stands (going.sound none) g.over));
           writes = ap (λ (x : State). x.facts.writes) t.1 ∙ g.counts.writes;
-          stopped = λ no waits stop. absurd (some_none (stop_at_end s.decoder)
+          stopped = λ none_came waits stop. absurd (some_none (stop_at_end s.decoder)
               (sym (ap (λ (x : State). x.stop) t.1) ∙ stop));
         }
     by got.Failed f g t = record {
       forwarded = subst HasForwarded (sym t.1) (stops_reading s f end.ReadFailed open_ h g.bytes
           g.gave g.counts.written g.counts.last_read);
       writes = ap (λ (x : State). x.facts.writes) t.1 ∙ g.counts.writes;
-      stopped = λ no waits stop. absurd (some_none end.ReadFailed
+      stopped = λ none_came waits stop. absurd (some_none end.ReadFailed
           (sym (ap (λ (x : State). x.stop) t.1) ∙ stop));
     }
 
@@ -315,7 +319,7 @@ reads_on s gave r open_ h reads = by (may_read s) refl reads
     by false is same = record {
       forwarded = subst HasForwarded (sym same.1) h;
       writes = ap (λ (x : State). x.facts.writes) same.1;
-      stopped = λ no waits stop. may_not (none_wait s) s.stop is
+      stopped = λ none_came waits stop. may_not (none_wait s) s.stop is
           (sym (ap none_wait same.1) ∙ waits) (sym (ap (λ (x : State). x.stop) same.1) ∙ stop);
     }
 
@@ -328,15 +332,6 @@ record LeavesWrite (r : State) (took : Bool) (w : State) : Type 0 where
   writes : (w.facts.writes ≡ r.facts.writes) ⊎ (w.facts.writes ≡ counted r.facts.writes)
   rests : took ≡ false → w.ended ≡ None → ((none_wait r ≡ true) × (w ≡ r))
       ⊎ ((w.facts.last_write ≡ Some Paused) × (w.facts.writes ≡ counted r.facts.writes))
-
-stopped_as : (how : ForwardEnding) (taken : List ℕ) (e f : EndFacts) → f.over ≡ e.over
-    → f.last_read ≡ e.last_read → HasStopped how taken e → HasStopped how taken f
-stopped_as end.End taken e f over last h = (over ∙ h.0, h.1)
-stopped_as (end.BadRecord at) taken e f over last (inl bad) = inl bad
-stopped_as (end.BadRecord at) taken e f over last (inr short) = inr (over ∙ short.0, short.1)
-stopped_as end.ReadFailed taken e f over last h = last ∙ h
-stopped_as end.PeerFailed taken e f over last h = h
-stopped_as end.NoMemory taken e f over last h = h
 
 -- a write that took nothing
 writes_none : (r : State) (f : EndFacts) → r.ended ≡ None → HasForwarded r
@@ -431,13 +426,13 @@ writes_once r took w open_ h once = by once.came once.facts once.writes once.tak
     by (sent.Bytes n) f g t = record {
       forwarded = subst HasForwarded (sym t.1) (writes_some r f n open_ h g);
       writes = inr (ap (λ (x : State). x.facts.writes) t.1 ∙ g.counts.writes);
-      rests = λ no. absurd (true_false (sym t.0 ∙ no));
+      rests = λ none_came. absurd (true_false (sym t.0 ∙ none_came));
     }
     by sent.Pause f g t = let c = g.counts in record {
       forwarded = subst HasForwarded (sym t.1) (writes_none r f open_ h c.over c.last_read c.bytes
           c.gave g.written);
       writes = inr (ap (λ (x : State). x.facts.writes) t.1 ∙ c.writes);
-      rests = λ no goes. inr (
+      rests = λ none_came goes. inr (
         ap (λ (x : State). x.facts.last_write) t.1 ∙ c.last_write,
         ap (λ (x : State). x.facts.writes) t.1 ∙ c.writes,
       );
@@ -446,7 +441,7 @@ writes_once r took w open_ h once = by once.came once.facts once.writes once.tak
       forwarded = subst HasForwarded (sym t.1) (writes_fail r f open_
           (writes_none r f open_ h c.over c.last_read c.bytes c.gave g.written) c.last_write);
       writes = inr (ap (λ (x : State). x.facts.writes) t.1 ∙ c.writes);
-      rests = λ no goes. absurd (some_none end.PeerFailed
+      rests = λ none_came goes. absurd (some_none end.PeerFailed
           (sym (ap (λ (x : State). x.ended) t.1) ∙ goes));
     }
 
@@ -471,7 +466,7 @@ writes_on r took w h writes = by (may_write r) refl writes
     by false is same = record {
       forwarded = subst HasForwarded (sym same.1) h;
       writes = inl (ap (λ (x : State). x.facts.writes) same.1);
-      rests = λ no goes. inl (
+      rests = λ none_came goes. inl (
         may_write_not (none_wait r) r.ended is
             (sym (ap (λ (x : State). x.ended) same.1) ∙ goes),
         same.1,
@@ -550,7 +545,7 @@ goes_by : (o : Option ForwardEnding) (b : Bool) (k : Option ForwardEnding)
     → ending_by o b k ≡ None → (o ≡ None) × (b ≡ true → k ≡ None)
 goes_by (Some how) b k is = absurd (some_none how is)
 goes_by None true k is = (refl, λ _. is)
-goes_by None false k is = (refl, λ no. cc)
+goes_by None false k is = (refl, λ none_came. cc)
 
 -- what a turn comes to, before which the end had made so many writes
 record MakesTurn (n : ℕ) (answer : Answer) (after : State) : Type 0 where
@@ -562,7 +557,7 @@ record MakesTurn (n : ℕ) (answer : Answer) (after : State) : Type 0 where
   goes_on : GoesOn answer → after.ended ≡ None
   closed : IsClose answer → IsSome after.ended
 
-zero_one : 0 ≡ 1 → ⊥
+zero_one : ◌≡◌ {A = ℕ} 0 1 → ⊥
 zero_one is = omega (arith, is)
 
 abbrev answer_in : State → Bool → Answer
@@ -605,7 +600,7 @@ forwards s after answer n open_ h count f =
 
     idle : f.gave ≡ false → (none_wait f.read ≡ true) × (f.written ≡ f.read)
         → (none_wait f.written ≡ true → f.written.stop ≡ None) → ⊥
-    idle no same stop = read.stopped no same.0
+    idle none_came same stop = read.stopped none_came same.0
         (sym (ap (λ (x : State). x.stop) same.1) ∙ stop (ap none_wait same.1 ∙ same.0))
 
     paused_by : f.gave ≡ false → (none_wait f.written ≡ true → f.written.stop ≡ None)
@@ -614,8 +609,8 @@ forwards s after answer n open_ h count f =
         ⊎ ((f.written.facts.last_write ≡ Some Paused)
         × (f.written.facts.writes ≡ counted f.read.facts.writes))
         → MakesTurn n (answer_in f.written (f.gave || f.took)) (concluded f.written)
-    paused_by no stop one (inl same) = absurd (idle no same stop)
-    paused_by no stop one (inr paused) = rests paused one
+    paused_by none_came stop one (inl same) = absurd (idle none_came same stop)
+    paused_by none_came stop one (inr paused) = rests paused one
 
     by : (is_rest (answer_in f.written (f.gave || f.took)) ≡ 0) ⊎ ((is_rest (answer_in f.written (f.gave || f.took)) ≡ 1)
         × ((concluded f.written).ended ≡ None) × ((f.gave || f.took) ≡ false))
@@ -628,9 +623,9 @@ forwards s after answer n open_ h count f =
         (one_more ∙ counts_one f.read.facts.writes n before) (omega (arith, none))
         (λ one. absurd (zero_one (sym none ∙ one)))
     by (inr (one, goes, none)) writes =
-        let no = neither f.gave f.took none in
+        let none_came = neither f.gave f.took none in
         let open_still = goes_by f.written.ended (none_wait f.written) f.written.stop goes in
-        paused_by no.0 open_still.1 one (wrote.rests no.1 open_still.0)
+        paused_by none_came.0 open_still.1 one (wrote.rests none_came.1 open_still.0)
 
 -- ---- all turns
 
@@ -663,9 +658,7 @@ course_more start s after [] item course turn = (
   after,
   course.1,
   subst (λ (x : State). Turns x item after) course.2 turn,
-  after.facts,
-  asked_none after.facts,
-  refl,
+  (after.facts, asked_none after.facts, refl),
 )
 course_more start s after (x ∷ had) item course turn =
     (course.0, course.1, course.2, course.3, course_more course.1 s after had item course.4 turn)
@@ -759,7 +752,7 @@ turned_none start is = record {
     going = record {
       stands = fresh_stands;
       waits = refl;
-      records = ap length (sym none_read);
+      records = let e = ap length none_read in omega (arith, e);
       sound = λ _. none_bad;
     };
     stop = tt;

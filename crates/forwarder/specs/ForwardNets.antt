@@ -1,6 +1,6 @@
 -- The net of the forwarding daemon: that of the dialled end, which also keeps the sources of the
 -- ends that it took back.
-use Rattle.std.specs.Prelude.{◌≡◌, ℕ, List, map, Some}
+use Rattle.std.specs.Prelude.{◌≡◌, ℕ, List, [], ◌∷◌, map, Some}
 use Rattle.ev_base.specs.Terms.{Terms}
 use Rattle.ev_base.specs.Net.{NetFacts}
 use Rattle.ev_base.specs.declared.end.PeerEnd.{Ghosts}
@@ -44,3 +44,17 @@ pub record ForwardNetKeeps {M S E : Type 0} {N : NetGhosts M E} {G : Ghosts E}
       → ends ≡ map (λ e. peer_of e.1) net.turned_away
   pub inputs : net.inputs.items ≡ map (λ e. input_end e.1) net.retired
   pub refused : net.refused.items ≡ map (λ e. input_end e.1) net.turned_away
+
+-- it took one end back for good, which was retired
+pub record TookOne {M S E : Type 0} {N : NetGhosts M E} {G : Ghosts E} (facts : M → NetFacts E)
+    (net : ForwardNet M S E N G) : Type 0 where
+  pub handle : ℕ
+  pub end : ForwardEnd E S G
+  pub retired : (forward_net_facts facts net).retired ≡ Some ((handle, end) ∷ [])
+  pub turned_away : (forward_net_facts facts net).turned_away ≡ Some []
+
+-- this is the source's end of the one that it took back
+abbrev pub IsSourceOf : {M S E : Type 0} {N : NetGhosts M E} {G : Ghosts E} → (M → NetFacts E)
+    → (Terms → M → Type 0) → ForwardNet M S E N G → OneEnd S → Type 0
+IsSourceOf facts keeps net source = (t : Terms) (took : TookOne facts net)
+    → ForwardNetKeeps facts keeps t net → source ≡ input_end took.end

@@ -1,5 +1,5 @@
 -- What the turns of the forwarding service come to.
-use Rattle.std.specs.Prelude.{◌≡◌, ◌≢◌, ◌≤◌, ◌+◌, ◌⊎◌, ℕ, true, List, [], ◌∷◌, ◌++◌, length}
+use Rattle.std.specs.Prelude.{◌≡◌, ◌≤◌, ◌+◌, ◌⊎◌, ℕ, true, List, [], ◌∷◌, ◌++◌, length}
 use Rattle.std.specs.Prelude.{Option, Some, None, IsSome}
 use Rattle.ev_base.specs.Bytes.{HasGiven}
 use Rattle.ev_base.specs.Counts.{Counts}

@@ -1,7 +1,7 @@
 -- What the forwarding service does, turn by turn (C++NPv2 chapter 7: the client logging daemon).
-use Rattle.std.specs.Prelude.{◌≡◌, ◌+◌, ◌==◌, ◌^◌, ◌||◌, ◌&&◌, ℕ, min, Bool, true, false, not}
-use Rattle.std.specs.Prelude.{if◌then◌else◌, List, [], ◌∷◌, ◌++◌, length, take, drop, Option, Some}
-use Rattle.std.specs.Prelude.{None, is_none, is_some, ◌⊎◌}
+use Rattle.std.specs.Prelude.{◌≡◌, ◌+◌, ◌-◌, ◌==◌, ◌^◌, ◌||◌, ◌&&◌, ℕ, min, Bool, true, false, not}
+use Rattle.std.specs.Prelude.{List, [], ◌∷◌, ◌++◌, length, take, drop, Option, Some}
+use Rattle.std.specs.Prelude.{None, is_none, ◌⊎◌}
 use Rattle.ev_base.specs.ev_types.specs.declared.upcall.Answer.{Answer}
 use Rattle.ev_base.specs.ev_types.specs.declared.upcall.Answer.TheVariants.{Keep, Again, Close}
 use Rattle.ev_base.specs.ev_types.specs.declared.upcall.Upcall.{Upcall}

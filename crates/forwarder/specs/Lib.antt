@@ -7,4 +7,5 @@ pub mod Readings
 pub mod Forwarding
 pub mod Services
 pub mod Forwarded
+pub mod Asking
 pub mod ServiceLaws

@@ -12,7 +12,7 @@ use Rattle.forwarder.specs.Services.{standing}
 use Rattle.forwarder.specs.declared.forward_end.ForwardEnd.{ForwardEnd}
 use Rattle.forwarder.specs.declared.forwarder.Forwarder.{Forwarder}
 use Rattle.forwarder.specs.declared.note.ForwardNote.{ForwardNote}
-use Rattle.forwarder.proofs.Asking.{turned_when_asked}
+use Rattle.forwarder.specs.Asking.{turned_when_asked}
 use Rattle.std.proofs.Common.{sym, subst}
 
 pub stays_when_asked : {E S : Type 0} {G : Ghosts E} (tells : E → EndFacts)

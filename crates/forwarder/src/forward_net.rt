@@ -1,5 +1,5 @@
 //! The net of the forwarding daemon.
-ghost use Rattle.std.specs.Prelude.{◌≡◌, ◌≤◌, ◌+◌, ◌∷◌, ℕ, length, vec_len, vec_capacity, [], Some};
+ghost use Rattle.std.specs.Prelude.{◌≡◌, ◌≤◌, ◌+◌, length, vec_len, vec_capacity, [], Some};
 
 use crate::ForwardEnd;
 use ev_base::{DialEnd, Handle, Mask, Net, NetFailed, NoMemory, Report, Source, Waited};
@@ -34,9 +34,8 @@ where
 {
     ghost use Rattle.ev_base.specs.Terms.{Terms};
     ghost use Rattle.ev_base.specs.Net.{IsNew};
-    ghost use Rattle.forwarder.specs.ForwardEnds.{input_end};
+    ghost use Rattle.forwarder.specs.ForwardNets.{TookOne, IsSourceOf};
     ghost use Rattle.forwarder.specs.ForwardNets.{forward_net_facts, net_within, ForwardNetKeeps};
-    ghost use Rattle.forwarder.specs.declared.forward_end.ForwardEnd.{ForwardEnd};
 
     /// A net over this one, which made no call and has nothing attached, retired or turned away. It
     /// takes no memory.
@@ -60,14 +59,9 @@ where
     /// The net within, and the source of the end that was retired, where that is the only one that
     /// the net took.
     pub fn into_retired(self) -> (M, OneEnd<S>)
-        requires retired { (handle : ℕ) × (end : ForwardEnd M.End S)
-            × ((forward_net_facts M.facts self).retired ≡ Some ((handle, end) ∷ [])) }
-        requires turned_away { (forward_net_facts M.facts self).turned_away ≡ Some [] }
+        requires { TookOne M.facts self }
         ensures net { result.0 ≡ net_within self }
-        ensures input { (t : Terms) (handle : ℕ) (end : ForwardEnd M.End S)
-            → ForwardNetKeeps M.facts M.keeps t self
-            → (forward_net_facts M.facts self).retired ≡ Some ((handle, end) ∷ [])
-            → result.1 ≡ input_end end }
+        ensures input { IsSourceOf M.facts M.keeps self result.1 }
     {
         let ForwardNet {
             net,

@@ -1,5 +1,5 @@
 //! The forwarding service.
-ghost use Rattle.std.specs.Prelude.{◌≡◌, ◌≢◌, ◌≤◌, ◌⊎◌, [], None, length, OnOk, OnErr};
+ghost use Rattle.std.specs.Prelude.{◌≡◌, ◌≢◌, ◌≤◌, ◌⊎◌, ◌||◌, [], None, length, OnOk, OnErr};
 ghost use Rattle.ev_base.specs.Terms.{KeepsOn};
 ghost use Rattle.ev_base.specs.End.{EndFacts};
 ghost use Rattle.reactor_model.specs.Turns.{IsTimeout};
@@ -55,15 +55,14 @@ impl<E: DialEnd, S: Source> Forwarder<E, S> {
     ghost use Rattle.forwarder.specs.Forwarding.{Serves, Forwards, Reads, Writes, TakesPiece};
     ghost use Rattle.forwarder.specs.Forwarding.{LacksMemory, may_read, may_write, note_of};
     ghost use Rattle.forwarder.specs.Forwarding.{concluded, answer_of};
-    ghost use Rattle.forwarder.specs.Forwarded.{HasServed};
+    ghost use Rattle.forwarder.specs.Forwarded.{HasTurned};
     ghost use Rattle.forwarder.specs.ForwardEnds.{forward_facts, ForwardKeeps};
     ghost use Rattle.forwarder.specs.Services.{standing, state_of, held_of};
-    ghost use Rattle.forwarder.specs.declared.forward_end.ForwardEnd.{ForwardEnd};
 
-    /// A service that had no turn. It takes no memory.
+    /// A service that had no turn, for an end that made no call. It takes no memory.
     pub fn new(alloc: Global) -> Forwarder<E, S>
-        ensures serves { (end : ForwardEnd E S) → IsFresh (forward_facts E.tells S.facts end)
-            → HasServed E.tells S.facts result end [] }
+        ensures turned { (facts : EndFacts) → IsFresh facts → HasTurned [] (standing result facts) }
+        ensures few { held_of result ≤ most_held }
     {
         Forwarder {
             reading: Reading::new(alloc),
@@ -108,7 +107,7 @@ impl<E: DialEnd, S: Source> Forwarder<E, S> {
         }
         let gave = self.read_on(end);
         let took = self.write_on(end);
-        self.conclude(gave || took)
+        self.conclude(gave, took)
     }
 
     /// Reads once, where nothing waits and it may read on. Tells whether bytes came.
@@ -149,7 +148,7 @@ impl<E: DialEnd, S: Source> Forwarder<E, S> {
         ensures takes { (facts : EndFacts) → TakesPiece piece.now (standing self.old facts)
             (standing self.new facts) ⊎ LacksMemory (standing self.old facts)
             (standing self.new facts) }
-        ensures few { held_of self.new ≤ most_held }
+        ensures few { held_of self.old ≤ most_held → held_of self.new ≤ most_held }
     {
         match self.try_take(piece) {
             Ok(()) => {}
@@ -165,7 +164,7 @@ impl<E: DialEnd, S: Source> Forwarder<E, S> {
             (standing self.old facts) (standing self.new facts)) }
         ensures err { (facts : EndFacts) → OnErr result (standing self.new facts
             ≡ record (standing self.old facts) { decoder = self.new.reading }) }
-        ensures held { held_of self.new ≤ most_held }
+        ensures held { held_of self.old ≤ most_held → held_of self.new ≤ most_held }
     {
         let Completed {
             bytes,
@@ -206,19 +205,20 @@ impl<E: DialEnd, S: Source> Forwarder<E, S> {
         }
     }
 
-    /// Ends it where it reads no more and nothing waits, and gives the answer of a turn in which
-    /// bytes went or not.
-    fn conclude(&mut self, went: bool) -> Answer
+    /// Ends it where it reads no more and nothing waits, and gives the answer of a turn, by
+    /// whether its read gave bytes and its write took some.
+    fn conclude(&mut self, gave: bool, took: bool) -> Answer
         ensures leaves { (facts : EndFacts) → standing self.new facts
             ≡ concluded (standing self.old facts) }
-        ensures answers { result ≡ answer_of self.new.ended went }
+        ensures answers { result ≡ answer_of self.new.ended (gave || took) }
+        ensures held { held_of self.new ≡ held_of self.old }
     {
         if self.ended.is_none() && self.sending.is_empty() {
             self.ended = self.stop;
         }
         match self.ended {
             Some(_) => Answer::Close,
-            None if went => Answer::Again,
+            None if gave || took => Answer::Again,
             None => Answer::Keep,
         }
     }

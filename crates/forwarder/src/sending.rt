@@ -55,17 +55,19 @@ impl Sending {
         ensures err { OnErr result (self.new ≡ self.old) }
         ensures held { self.new.held ≤ most_held }
     {
+        let alloc = self.alloc;
         if bytes.is_empty() {
             return Ok(());
         }
-        let message = match Message::new(self.alloc, Block::from_vec(bytes), 0) {
+        let message = match Message::new(alloc, Block::from_vec(bytes), 0) {
             Ok(message) => message,
             Err((_, refused)) => return Err(refused),
         };
         match self.queue.enqueue_tail(message) {
-            Ok(()) => Ok(()),
-            Err(_) => Err(NoMemory),
+            Ok(()) => {}
+            Err(_) => return Err(NoMemory),
         }
+        Ok(())
     }
 
     /// Takes the message of the queue to be sent, where the one before was sent whole.
