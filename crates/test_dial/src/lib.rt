@@ -5,3 +5,5 @@
 mod connectors;
 #[cfg(test)]
 mod diallers;
+#[cfg(test)]
+mod forwarding;

@@ -1,0 +1,11 @@
+pub mod Feeding
+pub mod ForwardEnds
+pub mod ForwardLaws
+pub mod ForwardNets
+pub mod Waiting
+pub mod Readings
+pub mod Forwarding
+pub mod Services
+pub mod Forwarded
+pub mod Asking
+pub mod ServiceLaws
