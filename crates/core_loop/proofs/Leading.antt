@@ -43,7 +43,8 @@ use Rattle.reactor_core.specs.declared.reactor.Parts.{Parts}
 use Rattle.reactor_core.proofs.Over.{none_live}
 use Rattle.core_loop.specs.Idle.{IsIdleOn, HasClosed, IsIdle, HasNoUpcall, FailsVolume}
 use Rattle.core_loop.specs.Leading.{NoneOpen, GoesOn, IsWait, IsTurn, IsWaited, Reaches, IsStep}
-use Rattle.core_loop.specs.Leading.{Leads, closed_of, TurnedSo, StaysBelow, EndedSo, RunsSo, EndsEnough}
+use Rattle.core_loop.specs.Leading.{Leads, closed_of, TurnedSo, StaysBelow, EndedSo, RunsSo}
+use Rattle.core_loop.specs.Leading.{EndsEnough}
 use Rattle.core_loop.specs.Leading.{EndsOver, LeavesFrom, PolledSo, PostedSo, is_enough}
 use Rattle.core_loop.specs.declared.turns.RunEnd.{RunEnd}
 use Rattle.core_loop.specs.declared.turns.RunEnd.TheVariants as end
@@ -58,7 +59,8 @@ pub below_then : {N : Type 0} → (until : Option ℕ) (a b c : List (Entry N)) 
     → StaysBelow until b c → StaysBelow until a c
 below_then until a b c first then = λ few. then (first few)
 
-pub same_below : {N : Type 0} → (until : Option ℕ) (h g : List (Entry N)) → g ≡ h → StaysBelow until h g
+pub same_below : {N : Type 0} → (until : Option ℕ) (h g : List (Entry N)) → g ≡ h
+    → StaysBelow until h g
 same_below until h g is few = subst (λ k. is_enough until (closed_of k) ≡ false) (sym is) few
 
 counted_below : {N : Type 0} → (until : Option ℕ) (h g : List (Entry N)) → closed_of g ≡ closed_of h
@@ -67,7 +69,8 @@ counted_below until h g is few = ap (is_enough until) is ∙ few
 
 -- ---- a wait closes and refuses no handler
 
-closed_more : {N : Type 0} → (h : List (Entry N)) (e : Entry N) → (step (sum h) e).closed ≡ (sum h).closed
+closed_more : {N : Type 0} → (h : List (Entry N)) (e : Entry N) → (step (sum h) e).closed
+    ≡ (sum h).closed
     → (step (sum h) e).refused ≡ (sum h).refused → closed_of (h ++ e ∷ []) ≡ closed_of h
 closed_more h e closed refused = omega (
   arith,
@@ -144,10 +147,14 @@ module _ {H E N : Type 0} (means : Handling H E N) (t : Terms) where
   }
   ended_then until (Some end.Stopped) over first a b c steps r below e =
       (below_then until a b c below e.0, e.1)
-  ended_then until (Some end.Broken) over first a b c steps r below e = below_then until a b c below e
-  ended_then until (Some end.NetFault) over first a b c steps r below e = below_then until a b c below e
-  ended_then until (Some end.VolumeFault) over first a b c steps r below e = below_then until a b c below e
-  ended_then until (Some end.NoMemory) over first a b c steps r below e = below_then until a b c below e
+  ended_then until (Some end.Broken) over first a b c steps r below e =
+      below_then until a b c below e
+  ended_then until (Some end.NetFault) over first a b c steps r below e =
+      below_then until a b c below e
+  ended_then until (Some end.VolumeFault) over first a b c steps r below e =
+      below_then until a b c below e
+  ended_then until (Some end.NoMemory) over first a b c steps r below e =
+      below_then until a b c below e
   ended_then until None over first a b c steps r below e = below_then until a b c below e
 
   -- a run went on, and then came to this
@@ -327,7 +334,8 @@ module _ {H M Q' W V N E : Type 0} (m : Meaning H M Q' W V N E) (t : Terms) wher
       → GoesOn m t h (RunsSo m.means until ended over t h) new
   goes_running until ended before_over over h between new a b =
       goes_then h _ _ (RunsSo m.means until ended over t h) between new a b
-      (runs_then m.means t until ended before_over over a.first b.first h a.history b.history a.so b.so)
+      (runs_then m.means t until ended before_over over a.first b.first h a.history b.history a.so
+          b.so)
 
   -- ---- a step of a run
 
@@ -344,7 +352,8 @@ module _ {H M Q' W V N E : Type 0} (m : Meaning H M Q' W V N E) (t : Terms) wher
       → GoesOn m t h (RunsSo m.means until (Some end.Enough) over t h) new
   step_enough until closed over h new a is =
       goes_so h _ (RunsSo m.means until (Some end.Enough) over t h) new a
-      (runs_once m.means t until (Some end.Enough) over a.first h a.so.0 a.history (inr a.so.1) a.so.2
+      (runs_once m.means t until (Some end.Enough) over a.first h a.so.0 a.history (inr a.so.1)
+          a.so.2
       (record {
         earlier = [];
         between = h;
@@ -376,7 +385,8 @@ module _ {H M Q' W V N E : Type 0} (m : Meaning H M Q' W V N E) (t : Terms) wher
       → RunsSo m.means until (Some end.Over) over t h b.first b.history
   step_over until over h between same new b none =
       let is : b.history ≡ h ++ b.so.entries = b.so.is ∙ ap (λ k. k ++ b.so.entries) same in
-      runs_once m.means t until (Some end.Over) over b.first h b.so.entries b.history (inl b.so.wait) is
+      runs_once m.means t until (Some end.Over) over b.first h b.so.entries b.history (inl
+          b.so.wait) is
       (record {
         earlier = [];
         between = h;
@@ -543,7 +553,8 @@ module _ {H M Q' W V N E : Type 0} (m : Meaning H M Q' W V N E) where
       → OnErr result (StandsAsBefore m old new) → WhereStanding m old (λ s. IsPostAnswer s result)
       → Leads m (λ t before first h. PostedSo handle kind from seq result before h) old new
   posts old new handle kind from seq (Ok done) ok err cause = λ t F h stands none.
-      goes_keeping m t h _ _ F new (keeps_posting h handle kind from seq) (ok t F h stands) none refl
+      goes_keeping m t h _ _ F new (keeps_posting h handle kind from seq) (ok t F h stands) none
+          refl
   posts old new handle kind from seq (Err post.Stopped) ok err cause = λ t F h stands none.
       goes_same m t h _ F new (err t F h stands) none (refl, (cause t F h stands).0 refl)
   posts old new handle kind from seq (Err post.NoMemory) ok err cause = λ t F h stands none.
@@ -563,7 +574,8 @@ module _ {H M Q' W V N E : Type 0} (m : Meaning H M Q' W V N E) where
       → GoesOn m t h (TurnedSo m.means result t h) core
       → GoesOn m t h (TurnedSo m.means known t h) core
   known_turn t h core result known is a =
-      subst (λ (r : Result (Option ℕ) StartRefused). GoesOn m t h (TurnedSo m.means r t h) core) is a
+      subst (λ (r : Result (Option ℕ) StartRefused). GoesOn m t h (TurnedSo m.means r t h) core) is
+          a
 
   pub known_wait : (t : Terms) (h : List (Entry N)) (over : ℕ) (core : Core H M Q' W V N E)
       (result known : Result Polled PollRefused) → result ≡ known

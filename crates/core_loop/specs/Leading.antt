@@ -1,6 +1,7 @@
 -- What the calls of a one-thread reactor lead to: from each history that it stood for to one that
 -- begins with it, by turns and waits (C++NPv2 chapter 3, `ACE_Reactor::run_reactor_event_loop`).
-use Rattle.std.specs.Prelude.{ℕ, ◌≡◌, ◌≤◌, ◌<◌, ◌+◌, ◌⊎◌, nat_le, Bool, true, false, not, List, [], ◌∷◌, ◌++◌, map}
+use Rattle.std.specs.Prelude.{ℕ, ◌≡◌, ◌≤◌, ◌<◌, ◌+◌, ◌⊎◌, nat_le, Bool, true, false, not, List, []}
+use Rattle.std.specs.Prelude.{◌∷◌, ◌++◌, map}
 use Rattle.std.specs.Prelude.{length, Option, Some, None, Result, Ok, Err, IsTrue}
 use Rattle.ev_base.specs.ev_types.specs.declared.upcall.Handle.{Handle}
 use Rattle.ev_base.specs.ev_types.specs.declared.upcall.Kind.{Kind}
@@ -192,7 +193,8 @@ pub record EndsOver {H E N : Type 0} (means : Handling H E N) (t : Terms) (until
 -- why a run ended, if it did
 abbrev pub EndedSo : {H E N : Type 0} → Handling H E N → Terms → Option ℕ → Option RunEnd → ℕ
     → List (Entry N) → ℕ → List (Entry N) → Type 0
-EndedSo means t until (Some end.Enough) over before first h = EndsEnough means t until before first h
+EndedSo means t until (Some end.Enough) over before first h =
+    EndsEnough means t until before first h
 EndedSo means t until (Some end.Over) over before first h = EndsOver means t until over before h
 EndedSo means t until (Some end.Stopped) over before first h =
     StaysBelow until before h × ((summary (past_of h)).ended ≡ true)

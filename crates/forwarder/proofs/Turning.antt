@@ -1,6 +1,8 @@
 -- That a turn of the service adds to what its turns come to.
-use Rattle.std.proofs.Common.{◌≡◌, ◌≤◌, ◌+◌, ◌==◌, ◌&&◌, ◌||◌, ◌∙◌, ◌⊎◌, inl, inr, ℕ, zero, suc, Bool}
-use Rattle.std.proofs.Common.{true, false, not, List, [], ◌∷◌, ◌++◌, length, take, drop, Option, Some}
+use Rattle.std.proofs.Common.{◌≡◌, ◌≤◌, ◌+◌, ◌==◌, ◌&&◌, ◌||◌, ◌∙◌, ◌⊎◌, inl, inr, ℕ, zero, suc}
+use Rattle.std.proofs.Common.{Bool}
+use Rattle.std.proofs.Common.{true, false, not, List, [], ◌∷◌, ◌++◌, length, take, drop, Option}
+use Rattle.std.proofs.Common.{Some}
 use Rattle.std.proofs.Common.{None, refl, sym, ap, subst, arith, if◌then◌else◌}
 use Rattle.std.specs.Prelude.{IsSome, is_none}
 use Rattle.std.proofs.lemmas.Bool.Decides.{nat_tests}
@@ -25,7 +27,8 @@ use Rattle.cdr_record.specs.declared.decoder.Fed.{Fed}
 use Rattle.cdr_record.specs.declared.grammar.First.{First}
 use Rattle.cdr_record.specs.declared.grammar.First.TheVariants.{More, Bad, One}
 use Rattle.cdr_record.specs.Grammar.{first_of}
-use Rattle.cdr_record.specs.Decoding.{DecoderState, StandsFor, Malformed, Partial, decode, records_of}
+use Rattle.cdr_record.specs.Decoding.{DecoderState, StandsFor, Malformed, Partial, decode}
+use Rattle.cdr_record.specs.Decoding.{records_of}
 use Rattle.cdr_record.specs.Decoding.{left_of, taken_of, bad_at, bad_of, stop_at, unfinished}
 use Rattle.cdr_record.specs.Feeding.{Feeds}
 use Rattle.cdr_record.proofs.Cutting.{goes_on, stops_at, first_nil}

@@ -20,7 +20,8 @@ own_no_dashes waits word own = go (is_dashes word) refl
     go true is = absurd (dashes_left waits (subst (λ (w : Text). is_own waits w ≡ true)
         ((bytes_eq-Decides word (codes "--")).0 is) own))
 
-pub taken_no_dashes : (waits : Bool) (words : List Text) → has_dashes (taken_off waits words) ≡ false
+pub taken_no_dashes : (waits : Bool) (words : List Text) → has_dashes (taken_off waits words)
+    ≡ false
 unfolding taken_off
 taken_no_dashes waits [] = refl
 taken_no_dashes waits (word ∷ words) =
