@@ -29,35 +29,40 @@ const LARGE_BLOCK: usize = 4 << 20;
 
 fn main(rt: HostRuntime) -> ExitCode {
     keep_freed_memory(&rt);
-    let called = match given_words(&rt) {
-        Ok(words) => call_of(rt.alloc(), words),
-        Err(status) => return end_with(&rt, status, 0),
+    let (own, words) = match command_words(&rt) {
+        Ok(called) => called,
+        Err(code) => return code,
     };
-    match called {
-        Ok(Some(Called::Help)) => show(&rt, HELP),
-        Ok(Some(Called::Version)) => show(&rt, VERSION),
-        Ok(Some(Called::Command { own, rest })) => run(rt, own, &rest),
-        Ok(None) => end_with(&rt, WRONG_WORDS, 0),
-        Err(NoMemory) => end_with(&rt, OUT_OF_MEMORY, 0),
-    }
-}
-
-/// Runs the command that these words call.
-fn run(rt: HostRuntime, own: Own, words: &[String]) -> ExitCode {
-    let mut host = host_for(rt, rt.alloc(), words);
+    let mut host = host_for(rt, rt.alloc(), &words);
     host.set_address(own.address);
     let input = StdSource::new(rt.stdin());
     let output = StdSink::new(rt.stdout());
     let Served { status, at, .. } = logd_main(
         &rt,
         rt.alloc(),
-        words,
+        &words,
         &mut host,
         input,
         output,
         DropVolumes,
     );
     end_with(&rt, status, at)
+}
+
+/// The program's own options, and the words that a command sees. If the words ask for something
+/// else it is done, and the program ends with this code.
+fn command_words(rt: &HostRuntime) -> Result<(Own, Vec<String>), ExitCode> {
+    let words = match given_words(rt) {
+        Ok(words) => words,
+        Err(status) => return Err(end_with(rt, status, 0)),
+    };
+    match call_of(rt.alloc(), words) {
+        Ok(Some(Called::Command { own, rest })) => Ok((own, rest)),
+        Ok(Some(Called::Help)) => Err(show(rt, HELP)),
+        Ok(Some(Called::Version)) => Err(show(rt, VERSION)),
+        Ok(None) => Err(end_with(rt, WRONG_WORDS, 0)),
+        Err(NoMemory) => Err(end_with(rt, OUT_OF_MEMORY, 0)),
+    }
 }
 
 /// Writes what the program says of itself.
