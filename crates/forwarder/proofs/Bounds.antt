@@ -1,8 +1,11 @@
 -- How long what is sent of records is: at most eight sevenths of their spellings, since these have
--- 28 bytes at least and a longer spelling has 4 more.
+-- 28 bytes at least and the longer version has 4 more.
 use Rattle.std.proofs.Common.{◌≡◌, ◌≤◌, ◌<◌, ◌+◌, ◌*◌, ◌∙◌, ◌&&◌, ℕ, zero, suc, Bool, true, false}
 use Rattle.std.proofs.Common.{List, [], ◌∷◌, ◌++◌, length, drop, refl, sym, ap}
 use Rattle.std.proofs.Common.{arith, if◌then◌else◌}
+use Rattle.std.specs.Prelude.{◌↔◌, ◌^◌, ℤ, pos, negsuc, int_le}
+use Rattle.std.specs.Int.{w32}
+use Rattle.std.specs.Int.RustNames.{FitsSigned}
 use Rattle.std.proofs.lemmas.Bool.Decides.{nat_tests}
 use Rattle.std.proofs.lemmas.List.{length-append, length-drop, length-take, append_cancel_left}
 use Rattle.byteorder.specs.Numbers.{length-bytes_high_first}
@@ -14,13 +17,14 @@ use Rattle.cdr_record.specs.declared.decoder.Fed.{Fed}
 use Rattle.cdr_record.specs.Grammar.{first_of, record_in, octet, payload_length, fields_length}
 use Rattle.cdr_record.specs.Grammar.{message_length, seconds_size, seconds_width, order_of}
 use Rattle.cdr_record.specs.Spelling.{bytes_of, spelling, canon, canon_2}
-use Rattle.cdr_record.specs.Decoding.{DecoderState, StandsFor, records_of, left_of}
+use Rattle.cdr_record.specs.Decoding.{DecoderState, StandsFor, decode, records_of, left_of}
 use Rattle.cdr_record.specs.Feeding.{Feeds}
 use Rattle.cdr_record.proofs.Growing.{first_one, one_within, seconds_size-most, verdict}
 use Rattle.cdr_record.proofs.Growing.{first_verdict, bad_stays}
 use Rattle.cdr_record.proofs.Cutting.{steps_over, stops_at, fewer, first_nil, goes_on, is_left}
 use Rattle.cdr_record.proofs.Cutting.{Stops}
-use Rattle.forwarder.specs.Feeding.{sent_as, sent_all, fits_1, is_short, are_short}
+use Rattle.ev_base.specs.Counts.{Counts}
+use Rattle.forwarder.specs.Feeding.{sent_as, sent_all, feed, fits_1, is_short, are_short}
 use Rattle.forwarder.specs.Waiting.{most_held}
 
 -- ---- one record
@@ -88,6 +92,7 @@ length-text t = omega (arith, length-take (message_length t) (drop (24 + seconds
 pub record AreBounded (t : List ℕ) (records : List LogRecord) : Type 0 where
   pub short : are_short records ≡ true
   pub size : 7 * length (sent_all records) ≤ 8 * length t
+  pub many : length records ≤ length t
 
 one_bounded : (t : List ℕ) (n : ℕ) → first_of t ≡ One n
     → (is_short (record_in t) ≡ true) × (7 * length (sent_as (record_in t)) ≤ 8 * n)
@@ -105,9 +110,9 @@ bounded_by_first : (t : List ℕ) (v : First) → first_of t ≡ v
     → ((n : ℕ) → first_of t ≡ One n → AreBounded (drop n t) (records_of (drop n t)))
     → AreBounded t (records_of t)
 bounded_by_first t More e go = rw (stops_at t More e tt).records
-    (record { short = refl; size = omega arith })
+    (record { short = refl; size = omega arith; many = omega arith })
 bounded_by_first t (Bad w) e go = rw (stops_at t (Bad w) e tt).records
-    (record { short = refl; size = omega arith })
+    (record { short = refl; size = omega arith; many = omega arith })
 bounded_by_first t (One n) e go =
     let rest = go n e in
     let one = one_bounded t n e in
@@ -121,11 +126,18 @@ bounded_by_first t (One n) e go =
         length-drop n t,
         (one_within t n e).1,
       );
+      many = omega (
+        arith,
+        rest.many,
+        length-drop n t,
+        (one_within t n e).0,
+        (one_within t n e).1,
+      );
     })
 
 bounded_in_turns : (k : ℕ) (t : List ℕ) → length t ≤ k → AreBounded t (records_of t)
 bounded_in_turns zero [] h = rw (stops_at [] More first_nil tt).records
-    (record { short = refl; size = omega arith })
+    (record { short = refl; size = omega arith; many = omega arith })
 bounded_in_turns zero (x ∷ t) h = absurd (omega arith)
 bounded_in_turns (suc k) t h = bounded_by_first t (first_of t) refl
     (λ n e. bounded_in_turns k (drop n t) (fewer t n k e h))
@@ -183,3 +195,25 @@ pub are_pieces : (old new : DecoderState) (t piece : List ℕ) (fed : Fed) → S
 are_pieces old new t piece fed stands feeds h =
     rw (records_behind old new t piece fed stands feeds)
     (pieces_by (left_of t) piece (first_of (left_of t)) refl (none_left t) h)
+
+-- ---- the totals
+
+pub exact : (taken : List ℕ) (records bytes : ℕ) → length taken ≤ 2 ^ 40
+    → Counts records (length (decode taken).records) → Counts bytes (length (feed taken))
+    → (records ≡ length (decode taken).records) × (bytes ≡ length (feed taken))
+exact taken records bytes few of_records of_bytes =
+    let b = bounded taken in
+    (omega (arith, few, b.many, of_records), omega (arith, few, b.size, of_bytes))
+
+-- ---- the seconds
+
+pub fits_by : (sec : ℤ) → ((int_le (negsuc 2147483647) sec && int_le sec (pos 2147483647)) ≡ true)
+    ↔ FitsSigned w32 sec
+fits_by (pos n) = (
+  λ is. record { sfits = grind (arith, nat_tests, is) },
+  λ fits. let few = fits.sfits in grind (arith, nat_tests, few),
+)
+fits_by (negsuc n) = (
+  λ is. record { sfits = grind (arith, nat_tests, is) },
+  λ fits. let few = fits.sfits in grind (arith, nat_tests, few),
+)

@@ -1,5 +1,5 @@
 -- What is forwarded of a stream of records (C++NPv2 chapter 7: the client logging daemon).
-use Rattle.std.specs.Prelude.{List, ℕ, length, nat_le, pos, negsuc, Bool, ◌&&◌, int_le}
+use Rattle.std.specs.Prelude.{List, ℕ, length, nat_le, int_le, pos, negsuc, Bool, ◌&&◌}
 use Rattle.std.specs.Prelude.{if◌then◌else◌}
 use Rattle.std.specs.List.{flat_map, list_all}
 use Rattle.cdr_record.specs.declared.record.LogRecord.{LogRecord}

@@ -7,5 +7,6 @@ pub mod Readings
 pub mod Forwarding
 pub mod Services
 pub mod Forwarded
+pub mod Laws
 pub mod Asking
 pub mod ServiceLaws

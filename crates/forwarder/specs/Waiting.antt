@@ -1,8 +1,7 @@
 -- What waits to be sent: the rest of the message that is being sent, and the messages of the queue
 -- (C++NPv2 chapter 6: `ACE_Message_Queue`).
-use Rattle.std.specs.Prelude.{◌≡◌, ◌≤◌, ℕ, ◌+◌, ◌==◌, Bool, true, List, [], ◌∷◌, ◌++◌, drop, length}
-use Rattle.std.specs.Prelude.{Option}
-use Rattle.std.specs.Prelude.{Some, None}
+use Rattle.std.specs.Prelude.{◌≡◌, ◌≤◌, ℕ, ◌+◌, ◌==◌, Bool, true, List, [], ◌∷◌, ◌++◌, drop}
+use Rattle.std.specs.Prelude.{length, Option, Some, None}
 use Rattle.std.specs.List.{list_all}
 use Rattle.message_block.specs.Messages.{MessageState, QueueState, bytes_of, held_bytes}
 

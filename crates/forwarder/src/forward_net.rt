@@ -105,7 +105,8 @@ where
     M::End: DialEnd,
 {
     ghost use Rattle.ev_base.specs.Terms.{Terms, KeepsOn, KeepsOnWith};
-    ghost use Rattle.ev_base.specs.Net.{NetWaits, Reserves, NetAttaches, SetsMaskOf, RetiresEnd, TurnsAwayEnd};
+    ghost use Rattle.ev_base.specs.Net.{NetWaits, Reserves, NetAttaches, SetsMaskOf, RetiresEnd};
+    ghost use Rattle.ev_base.specs.Net.{TurnsAwayEnd};
     ghost use Rattle.forwarder.specs.ForwardEnds.{forward_facts, ForwardKeeps};
     ghost use Rattle.forwarder.specs.ForwardNets.{forward_net_facts, ForwardNetKeeps};
 

@@ -5,6 +5,7 @@
 mod forward_end;
 mod forward_net;
 mod forwarder;
+pub mod laws;
 mod note;
 mod peer;
 mod reading;

@@ -23,8 +23,10 @@ returns-clause-forwards g c = λ open_.
     }
 
 pub returns-clause-kept : goal.returns-clause-kept
-returns-clause-kept g c = λ t kept. c.write_on-took.ensures.kept t (c.read_on-gave.ensures.kept t kept)
+returns-clause-kept g c = λ t kept.
+    c.write_on-took.ensures.kept t (c.read_on-gave.ensures.kept t kept)
 
 pub returns-clause-few : goal.returns-clause-few
 returns-clause-few g c = λ few.
-    rw c.conclude.ensures.held (c.write_on-took.ensures.few (c.read_on-gave.ensures.few few))
+    rw c.conclude.ensures.held
+    (c.write_on-took.ensures.few (c.read_on-gave.ensures.few few))
