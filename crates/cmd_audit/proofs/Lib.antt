@@ -1,2 +1,2 @@
 pub mod Refused
-mod Passing
+pub mod Passing

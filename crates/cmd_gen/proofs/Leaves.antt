@@ -14,6 +14,9 @@ use Rattle.script_generator.proofs.Whole.{is_script_text}
 use Rattle.script_net.specs.Hosts.{ScriptContent}
 use Rattle.script_net.specs.NetContent.{NetContent}
 use Rattle.script_net.specs.declared.end.ScriptEnd.{ScriptEnd}
+use Rattle.chosen_timers.specs.declared.ChosenTimers.{ChosenTimers}
+use Rattle.reactor_model.specs.declared.watch.NoWatch.{NoWatch}
+use Rattle.cmd_replay.specs.Leading.{unwatched}
 use Rattle.cmd_replay.specs.Playing.{terms_of_content}
 use Rattle.cmd_replay.specs.Replays.{IsOfText, unseen}
 use Rattle.cmd_replay.specs.Runs.{EndsScript, ForScript, LeavesScript}
@@ -33,10 +36,6 @@ use Rattle.cmd_gen.specs.Summing.{EndsAs}
 use Rattle.cmd_gen.specs.declared.ends.Generated.{Generated}
 use Rattle.cmd_gen.specs.declared.ends.GenerateEnd.{GenerateEnd}
 use Rattle.cmd_gen.specs.declared.ends.GenerateEnd.TheVariants as end
-
--- the watch of a run over a generated script has nothing to say
-abbrev pub unwatched : {W : Type 0} → Terms → W → List (Entry ServerNote) → Type 0
-unwatched t watch h = Unit {0}
 
 never-idle : (idle : ℕ) → ◌≡◌ {A = Option ℕ} None (Some idle) → ⊥
 never-idle idle is = cc
@@ -58,27 +57,27 @@ of-text n seed script least many has =
     record { text = generated_text n seed; is_text = is_script_text n seed least many; has = has }
 
 -- what a run over the generated script leaves
-pub leaves-generated : {W V Q : Type 0} {G : Ghosts ScriptEnd} (facts : V → VolumesFacts ServerNote)
+pub leaves-generated : {V : Type 0} {G : Ghosts ScriptEnd} (facts : V → VolumesFacts ServerNote)
     (n seed : ℕ) (asked : Asked) (script : ScriptContent) (v : VolumesFacts ServerNote)
-    (served : Served NetContent Q W V)
+    (served : Served NetContent ChosenTimers NoWatch V)
     → 1 ≤ n → n ≤ 1000 → HasGroups script 0 (generated n seed) → asked ≡ asked_for n
     → asked.limit ≡ None
     → ((groups : List ScriptGroup) → ForScript asked groups
     (terms_of_content asked.connections asked.idle script unseen v)
-    → LeavesScript G unwatched facts (terms_of_content asked.connections asked.idle script
+    → LeavesScript G (unwatched G facts) (terms_of_content asked.connections asked.idle script
     unseen v) asked groups served)
-    → LeavesScript G unwatched facts (terms_for n seed v) (asked_for n) (generated n seed) served
-leaves-generated {W} {V} {Q} {G} facts n seed asked script v served least many has is unlimited
-    leaves =
-    subst (λ (a : Asked). LeavesScript G unwatched facts
+    → LeavesScript G (unwatched G facts) (terms_for n seed v) (asked_for n) (generated n seed)
+    served
+leaves-generated {V} {G} facts n seed asked script v served least many has is unlimited leaves =
+    subst (λ (a : Asked). LeavesScript G (unwatched G facts)
     (terms_of_script a.connections a.idle (generated n seed) unseen v) a (generated n seed)
     served) is
-    (leaves-so unwatched facts asked script (generated n seed) unseen unseen v served refl
+    (leaves-so (unwatched G facts) asked script (generated n seed) unseen unseen v served refl
     (of-text n seed script least many has) unlimited leaves)
 
-module _ {W V Q : Type 0} {G : Ghosts ScriptEnd} (facts : V → VolumesFacts ServerNote) (n seed : ℕ)
-    (v : VolumesFacts ServerNote) (served : Served NetContent Q W V)
-    (l : LeavesScript G unwatched facts (terms_for n seed v) (asked_for n) (generated n seed)
+module _ {V : Type 0} {G : Ghosts ScriptEnd} (facts : V → VolumesFacts ServerNote) (n seed : ℕ)
+    (v : VolumesFacts ServerNote) (served : Served NetContent ChosenTimers NoWatch V)
+    (l : LeavesScript G (unwatched G facts) (terms_for n seed v) (asked_for n) (generated n seed)
     served) where
   noticed : {run : List (Entry ServerNote)} → EndsByNotice None run → ⊥
   noticed e = let never : ◌≡◌ {A = Option ℕ} None (Some e.wanted) = e.asked in cc
@@ -111,6 +110,7 @@ module _ {W V Q : Type 0} {G : Ghosts ScriptEnd} (facts : V → VolumesFacts Ser
     over = λ is. l.some (inl is);
     all = λ is. all-of G (terms_for n seed v) (asked_for n) (generated n seed) l.journal refl
         served.ending (inl is) (l.some (inl is)) refl;
+    led = l.led;
     ends = ends;
     rose = λ is. rose (subst (λ (e : GenerateEnd). EndsAs e served.ending served.parts.first) is
         ends);

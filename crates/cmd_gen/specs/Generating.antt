@@ -9,6 +9,7 @@ use Rattle.reactor_model.specs.Volumes.{VolumesFacts}
 use Rattle.log_handler.specs.declared.note.ServerNote.{ServerNote}
 use Rattle.script_generator.specs.Scripts.{generated}
 use Rattle.script_net.specs.declared.end.ScriptEnd.{ScriptEnd}
+use Rattle.cmd_replay.specs.Leading.{LedOrNone, unwatched}
 use Rattle.cmd_replay.specs.Runs.{DoesAll, IsRunOrNone, IsScriptRun}
 use Rattle.cmd_replay.specs.server_run.specs.reactor_desk.specs.Desks.{FillsVolume}
 use Rattle.cmd_replay.specs.server_run.specs.declared.ending.Ending.{Ending}
@@ -30,8 +31,9 @@ pub record IsUnserved {K V : Type 0} (output : K) (volumes : V) (left : Generate
 -- What a run over the generated script leaves, where the volumes told v before it: one journal, of
 -- which the last entries are held and the others were handed over. It is that of a run over the
 -- script, or empty where there was no memory for one; where nothing could be reported any more, it
--- is that of a run, which did all that the script has. It ended as its run did; and with a fault of
--- the volumes their count of faults rose.
+-- is that of a run, which did all that the script has. Four workers led to it, or none did: of
+-- their answers the first in order ended the run. It ended as its run did; and with a fault of the
+-- volumes their count of faults rose.
 pub record RunsGenerated {K V : Type 0} (G : Ghosts ScriptEnd) (facts : V → VolumesFacts ServerNote)
     (n seed : ℕ) (v : VolumesFacts ServerNote)
     (left : Generated K V) (ended : GenerateEnd) : Type 0 where
@@ -46,6 +48,7 @@ pub record RunsGenerated {K V : Type 0} (G : Ghosts ScriptEnd) (facts : V → Vo
   pub over : how ≡ ending.Over → IsScriptRun G (terms_for n seed v) (asked_for n) (generated n seed)
       how journal
   pub all : how ≡ ending.Over → DoesAll (asked_for n) (generated n seed) journal
+  pub led : LedOrNone (unwatched G facts) (terms_for n seed v) (asked_for n) how journal
   pub ends : EndsAs ended how left.first
   pub rose : ended ≡ end.VolumeFault → Rose v.faults (facts left.volumes).faults
 

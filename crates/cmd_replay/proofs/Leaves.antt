@@ -358,10 +358,11 @@ module _ {G : Ghosts ScriptEnd} {W V Q : Type 0} (shows : ReactorState Q → Sum
         absurd (⊎_elim (λ over. subst MayBeUnmade over u.ending)
         (λ noticed. subst MayBeUnmade noticed u.ending) how)) (λ r. is-run r) l.run
 
-    pub leaves-script : LeavesScript G watched volumes t asked groups served
+    pub leaves-script : LeavesScript G script_meaning t asked groups served
     leaves-script = record {
       journal = l.journal;
       within = subst (λ (n : ℕ). n ≤ length l.journal) (sym l.stand.first) l.stand.within;
+      bound = l.bound;
       held = l.stand.journal ∙ ap (λ (n : ℕ). drop n l.journal) (sym l.stand.first);
       taken = subst (λ (n : ℕ). WhereTold (HasTaken t n l.journal)
           (volumes served.parts.volumes).taken) (sym l.stand.first) l.stand.volumes;
@@ -370,5 +371,6 @@ module _ {G : Ghosts ScriptEnd} {W V Q : Type 0} (shows : ReactorState Q → Sum
       run = ⊎_elim (λ (u : IsUnmade served.ending l.journal). inl u.none) (λ r. inr (is-run r))
           l.run;
       some = some-so;
+      led = l.led;
       one = one-so;
     }

@@ -1,6 +1,6 @@
 -- What is left where nothing was served, and where a text was.
 use Rattle.std.proofs.Common.{◌≡◌, ◌∙◌, ◌≤◌, ◌+◌, arith, inl, inr, ℕ, List, [], length, drop}
-use Rattle.std.proofs.Common.{Option, Some, None, refl, sym, ap, subst}
+use Rattle.std.proofs.Common.{Option, Some, None, refl, sym, ap, subst, lit≤}
 use Rattle.std.specs.Prelude.{option_map}
 use Rattle.std.proofs.lemmas.List.{append-nil}
 use Rattle.ev_base.specs.Sink.{SinkFacts}
@@ -21,6 +21,7 @@ use Rattle.server_run.specs.declared.asked.Asked.{Asked}
 use Rattle.server_run.specs.declared.ending.Ending.{Ending}
 use Rattle.server_run.specs.declared.ending.Ending.TheVariants as ending
 use Rattle.log_handler.specs.sink_buffer.specs.Written.{TookAll}
+use Rattle.cmd_replay.specs.Leading.{LedIn}
 use Rattle.cmd_replay.specs.Outputs.{Writes, text_in}
 use Rattle.cmd_replay.specs.Replays.{EndsAs, RunsScript, terms_in}
 use Rattle.cmd_replay.specs.Replaying.{IsUnserved, ReplaysText, ServesText}
@@ -57,6 +58,17 @@ not-done is = cc
 not-over : ending.NoMemory ≡ ending.Over → ⊥
 not-over is = cc
 
+not-failed : ending.NoMemory ≡ ending.VolumeFault → ⊥
+not-failed is = cc
+
+-- no worker led
+unled : {K V : Type 0} {G : Ghosts ScriptEnd} (sink : K → SinkFacts)
+    (facts : V → VolumesFacts ServerNote) (form : Form) (t : Terms) (asked : Asked)
+    → LedIn G sink facts form t asked ending.NoMemory []
+unled sink facts Plain t asked = inl (record { ending = tt; journal_is = inl refl })
+unled sink facts Grouped t asked = inl (record { ending = tt; journal_is = inl refl })
+unled sink facts Journal t asked = inl (record { ending = tt; journal_is = inl refl })
+
 -- where there was no memory for a run, nothing was written, and the journal is empty
 pub runs-none : {K V : Type 0} {G : Ghosts ScriptEnd} (sink : K → SinkFacts)
     (facts : V → VolumesFacts ServerNote) (form : Form) (asked : Asked) (groups : List ScriptGroup)
@@ -71,6 +83,7 @@ runs-none {K} {V} {G} sink facts form asked groups output volumes played is u =
       how = ending.NoMemory;
       journal = [];
       within = subst (λ (n : ℕ). n ≤ 0) (sym u.first) (omega arith);
+      bound = lit≤ tt;
       held = u.journal ∙ sym (ap (λ (n : ℕ). drop n []) u.first);
       taken = subst (λ (n : ℕ). WhereTold (HasTaken t n []) (facts played.volumes).taken)
           (sym u.first)
@@ -81,12 +94,13 @@ runs-none {K} {V} {G} sink facts form asked groups output volumes played is u =
       run = inl refl;
       done = λ done. absurd (not-done (sym is ∙ done));
       all = λ done none. absurd (not-done (sym is ∙ done));
+      led = unled sink facts form t asked;
       one = λ workers until. record {
         serial = λ over. absurd (not-over over);
         few = λ idle. omega arith;
       };
       ends = subst (λ (e : ReplayEnd). EndsAs e ending.NoMemory v.faults
-          (facts played.volumes).faults) (sym is) tt;
+          (facts played.volumes).faults) (sym is) not-failed;
       written = subst (λ (e : ReplayEnd).
           Writes form e o (text_in form (asked.connections + 1) []) (sink played.output)) (sym is)
           (subst (λ (k : K). Writes form end.NoMemory o (text_in form (asked.connections + 1) [])

@@ -14,6 +14,8 @@ use Rattle.chosen_timers.specs.Chosen.{timers_of}
 use Rattle.chosen_timers.specs.declared.ChosenTimers.{ChosenTimers}
 use Rattle.reactor_model.specs.reactor_journal.specs.declared.entry.Entry.{Entry}
 use Rattle.reactor_core.specs.Ends.{WhereTold}
+use Rattle.reactor_core.specs.Stands.{Meaning}
+use Rattle.acceptor.specs.declared.server.ServerHandler.{ServerHandler}
 use Rattle.reactor_model.specs.Volumes.{VolumesFacts}
 use Rattle.log_handler.specs.declared.note.ServerNote.{ServerNote}
 use Rattle.cmd_line.specs.declared.options.Form.{Form}
@@ -34,6 +36,7 @@ use Rattle.server_run.specs.declared.ending.Ending.TheVariants as ending
 use Rattle.server_run.specs.declared.ending.Served.{Served}
 use Rattle.log_handler.specs.sink_buffer.specs.Written.{TookAll, TookFront}
 use Rattle.cmd_replay.proofs.All.{all-of}
+use Rattle.cmd_replay.specs.Leading.{LedIn}
 use Rattle.cmd_replay.specs.Outputs.{Writes, WritesBehind, text_in}
 use Rattle.cmd_replay.specs.Playing.{CanPlay, terms_of_content}
 use Rattle.cmd_replay.specs.Replays.{EndsAs, IsOfText, RunsScript, WritesHeld, end_by, terms_in}
@@ -145,22 +148,21 @@ for-script asked script groups o v text unlimited = record {
 -- what a run that was played under the terms of what the script holds leaves under those of its
 -- groups
 pub leaves-so : {W V Q : Type 0} {G : Ghosts ScriptEnd}
-    (watched : Terms → W → List (Entry ServerNote) → Type 0) (facts : V → VolumesFacts ServerNote)
+    (m : Meaning (ServerHandler ScriptEnd G) NetContent Q W V ServerNote ScriptEnd)
     (asked : Asked) (script : ScriptContent) (groups : List ScriptGroup)
     (o p : SinkFacts) (v : VolumesFacts ServerNote) (served : Served NetContent Q W V) → o ≡ p
     → IsOfText script groups → asked.limit ≡ None
     → ((groups : List ScriptGroup) → ForScript asked groups
     (terms_of_content asked.connections asked.idle script o v)
-    → LeavesScript G watched facts (terms_of_content asked.connections asked.idle script o v)
-    asked groups served)
-    → LeavesScript G watched facts (terms_of_script asked.connections asked.idle groups p v) asked
-    groups served
-leaves-so {W} {V} {Q} {G} watched facts asked script groups o p v served are text unlimited leaves =
+    → LeavesScript G m (terms_of_content asked.connections asked.idle script o v) asked groups
+    served)
+    → LeavesScript G m (terms_of_script asked.connections asked.idle groups p v) asked groups served
+leaves-so {W} {V} {Q} {G} m asked script groups o p v served are text unlimited leaves =
     let same = same-terms asked.connections asked.idle script groups o v text.has in
-    let left = subst (λ (t : Terms). LeavesScript G watched facts t asked groups served) same
+    let left = subst (λ (t : Terms). LeavesScript G m t asked groups served) same
     (leaves groups (subst (λ (t : Terms). ForScript asked groups t) (sym same)
     (for-script asked script groups o v text unlimited))) in
-    subst (λ (o : SinkFacts). LeavesScript G watched facts
+    subst (λ (o : SinkFacts). LeavesScript G m
     (terms_of_script asked.connections asked.idle groups o v) asked groups served) are left
 
 -- ---- what is kept of a run
@@ -187,14 +189,13 @@ put_back served kept = record {
 }
 
 pub leaves-kept : {W V Q : Type 0} {G : Ghosts ScriptEnd}
-    (watched : Terms → W → List (Entry ServerNote) → Type 0) (facts : V → VolumesFacts ServerNote)
+    (m : Meaning (ServerHandler ScriptEnd G) NetContent Q W V ServerNote ScriptEnd)
     (t : Terms) (asked : Asked) (groups : List ScriptGroup)
     (served : Served NetContent Q W V) (kept : Kept W V) → kept ≡ kept_of served
-    → LeavesScript G watched facts t asked groups served
-    → LeavesScript G watched facts t asked groups (put_back served kept)
-leaves-kept {W} {V} {Q} {G} watched facts t asked groups served kept is leaves =
-    subst (λ (k : Kept W V). LeavesScript G watched facts t asked groups (put_back served k))
-    (sym is) leaves
+    → LeavesScript G m t asked groups served
+    → LeavesScript G m t asked groups (put_back served kept)
+leaves-kept {W} {V} {Q} {G} m t asked groups served kept is leaves =
+    subst (λ (k : Kept W V). LeavesScript G m t asked groups (put_back served k)) (sym is) leaves
 
 pub steady-kept : {M Q W V : Type 0} (served : Served M Q W V) (kept : Kept W V)
     → kept ≡ kept_of served → (FailsNet served.ending → ⊥) → FailsNet kept.ending → ⊥
@@ -216,9 +217,9 @@ pub ends-as : (broken : Bool) (how : Ending) (before now : ℕ) → (FailsNet ho
 ends-as true how before now steady rose = tt
 ends-as false ending.Over before now steady rose = inl refl
 ends-as false ending.Notified before now steady rose = inr refl
-ends-as false ending.VolumeFault before now steady rose = rose refl
-ends-as false ending.NoMemory before now steady rose = tt
-ends-as false ending.Broken before now steady rose = tt
+ends-as false ending.VolumeFault before now steady rose = (refl, rose refl)
+ends-as false ending.NoMemory before now steady rose = λ q. absurd cc
+ends-as false ending.Broken before now steady rose = λ q. absurd cc
 ends-as false ending.NotAttached before now steady rose = absurd (steady tt)
 ends-as false ending.NetFault before now steady rose = absurd (steady tt)
 
@@ -233,19 +234,21 @@ played_of served how output = record {
 }
 
 pub runs-script : {K W V Q : Type 0} {G : Ghosts ScriptEnd}
-    (watched : Terms → W → List (Entry ServerNote) → Type 0) (sink : K → SinkFacts)
-    (facts : V → VolumesFacts ServerNote) (form : Form) (asked : Asked)
-    (groups : List ScriptGroup) (o : SinkFacts) (v : VolumesFacts ServerNote)
-    (served : Served NetContent Q W V) (how : ReplayEnd) (output : K)
-    (l : LeavesScript G watched facts (terms_in form asked groups o v) asked groups served)
-    → EndsAs how served.ending v.faults (facts served.parts.volumes).faults
+    (m : Meaning (ServerHandler ScriptEnd G) NetContent Q W V ServerNote ScriptEnd)
+    (sink : K → SinkFacts) (form : Form) (asked : Asked) (groups : List ScriptGroup)
+    (o : SinkFacts) (v : VolumesFacts ServerNote) (served : Served NetContent Q W V)
+    (how : ReplayEnd) (output : K)
+    (l : LeavesScript G m (terms_in form asked groups o v) asked groups served)
+    → LedIn G sink m.volumes form (terms_in form asked groups o v) asked served.ending l.journal
+    → EndsAs how served.ending v.faults (m.volumes served.parts.volumes).faults
     → Writes form how o (text_in form (asked.connections + 1) l.journal) (sink output)
-    → RunsScript G sink facts form asked groups o v (played_of served how output)
-runs-script {K} {W} {V} {Q} {G} watched sink facts form asked groups o v served how output l ends
+    → RunsScript G sink m.volumes form asked groups o v (played_of served how output)
+runs-script {K} {W} {V} {Q} {G} m sink form asked groups o v served how output l led ends
     written = record {
       how = served.ending;
       journal = l.journal;
       within = l.within;
+      bound = l.bound;
       held = l.held;
       taken = l.taken;
       filled = l.filled;
@@ -254,13 +257,14 @@ runs-script {K} {W} {V} {Q} {G} watched sink facts form asked groups o v served 
       all = λ is none. all-of G (terms_in form asked groups o v) asked groups l.journal
           (most-in form)
           served.ending (over is) (l.some (over is)) none;
+      led = led;
       one = l.one;
       ends = ends;
       written = written;
     } where
       over : how ≡ end.Done → (served.ending ≡ ending.Over) ⊎ (served.ending ≡ ending.Notified)
       over is = subst (λ (e : ReplayEnd).
-          EndsAs e served.ending v.faults (facts served.parts.volumes).faults) is ends
+          EndsAs e served.ending v.faults (m.volumes served.parts.volumes).faults) is ends
 
       most-in : (f : Form) → (terms_in f asked groups o v).most ≡ asked.connections + 1
       most-in forms.Plain = refl
@@ -268,6 +272,11 @@ runs-script {K} {W} {V} {Q} {G} watched sink facts form asked groups o v served 
       most-in forms.Journal = refl
 
 -- ---- text that is written behind the run
+
+unfailed : (how : Ending) → (how ≡ ending.Over) ⊎ (how ≡ ending.Notified)
+    → how ≡ ending.VolumeFault → ⊥
+unfailed how (inl over) failed = let both = sym over ∙ failed in cc
+unfailed how (inr noticed) failed = let both = sym noticed ∙ failed in cc
 
 behind-done : (how : Ending) (first : ℕ) (o : SinkFacts) (entries journal : List (Entry ServerNote))
     (now : ReplayEnd) (p : SinkFacts) (before after : ℕ) → (how ≡ ending.Over)
@@ -284,7 +293,8 @@ behind-done how first o entries journal end.WriteFault p before after ended are 
   subst (λ (es : List (Entry ServerNote)). TookFront o (lines_by_connection es) p)
       (are ∙ ap (λ n. drop n journal) w.0) w.1,
 )
-behind-done how first o entries journal end.NoMemory p before after ended are w = (tt, w)
+behind-done how first o entries journal end.NoMemory p before after ended are w =
+    (unfailed how ended, w)
 behind-done how first o entries journal (end.BadText line) p before after ended are w = absurd w
 behind-done how first o entries journal end.ReadFault p before after ended are w = absurd w
 behind-done how first o entries journal end.TooLong p before after ended are w = absurd w
@@ -311,11 +321,12 @@ writes-behind ending.Over first o entries journal now p before after steady rose
 writes-behind ending.Notified first o entries journal now p before after steady rose are w =
     behind-done ending.Notified first o entries journal now p before after (inr refl) are w
 writes-behind ending.VolumeFault first o entries journal now p before after steady rose are w =
-    behind-fault end.VolumeFault ending.VolumeFault o _ now p before after (rose refl) refl w.0 w.1
+    behind-fault end.VolumeFault ending.VolumeFault o _ now p before after (refl, rose refl) refl
+    w.0 w.1
 writes-behind ending.NoMemory first o entries journal now p before after steady rose are w =
-    behind-fault end.NoMemory ending.NoMemory o _ now p before after tt refl w.0 w.1
+    behind-fault end.NoMemory ending.NoMemory o _ now p before after (λ q. absurd cc) refl w.0 w.1
 writes-behind ending.Broken first o entries journal now p before after steady rose are w =
-    behind-fault end.NoMemory ending.Broken o _ now p before after tt refl w.0 w.1
+    behind-fault end.NoMemory ending.Broken o _ now p before after (λ q. absurd cc) refl w.0 w.1
 writes-behind ending.NotAttached first o entries journal now p before after steady rose are w =
     absurd (steady tt)
 writes-behind ending.NetFault first o entries journal now p before after steady rose are w =

@@ -1,4 +1,5 @@
 pub mod Playing
+pub mod Leading
 pub mod Runs
 pub mod Outputs
 pub mod Replays

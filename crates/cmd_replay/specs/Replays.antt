@@ -24,6 +24,7 @@ use Rattle.server_run.specs.declared.asked.Asked.{Asked}
 use Rattle.server_run.specs.declared.ending.Ending.{Ending}
 use Rattle.server_run.specs.declared.ending.Ending.TheVariants as ending
 use Rattle.log_handler.specs.sink_buffer.specs.Written.{TookAll, TookFront}
+use Rattle.cmd_replay.specs.Leading.{LedIn}
 use Rattle.cmd_replay.specs.Outputs.{Writes, text_in}
 use Rattle.cmd_replay.specs.Runs.{DoesAll, IsOfOneWorker, IsRunOrNone, IsScriptRun}
 use Rattle.cmd_replay.specs.declared.ends.Played.{Played}
@@ -70,12 +71,13 @@ pub record IsOfText (script : ScriptContent) (groups : List ScriptGroup) : Type 
   pub is_text : IsScriptText text groups
   pub has : HasGroups script 0 groups
 
--- with which ending of the run a replay may end so
+-- With which ending of the run a replay may end so. That a volume was not taken is told only where
+-- nothing else ended the run, and want of memory not in its place.
 abbrev pub EndsAs : ReplayEnd → Ending → ℕ → ℕ → Type 0
 EndsAs end.Done how before now = (how ≡ ending.Over) ⊎ (how ≡ ending.Notified)
-EndsAs end.VolumeFault how before now = Rose before now
+EndsAs end.VolumeFault how before now = (how ≡ ending.VolumeFault) × Rose before now
 EndsAs end.WriteFault how before now = Unit {0}
-EndsAs end.NoMemory how before now = Unit {0}
+EndsAs end.NoMemory how before now = how ≡ ending.VolumeFault → ⊥
 EndsAs (end.BadText line) how before now = ⊥
 EndsAs end.ReadFault how before now = ⊥
 EndsAs end.TooLong how before now = ⊥
@@ -98,15 +100,18 @@ WritesHeld end.Done first o text _ p = ⊥
 WritesHeld run first o text now p = (now ≡ run) × (p ≡ o)
 
 -- What a run over a script leaves whose journal is written in this form, where the output told o
--- and the volumes v before it: one journal, of which the last entries are held and the others were
--- handed over; it is that of a run, or empty where there was no memory for one; and its text was
--- written. Where it is done, and no notice was asked for, it did all that the script has.
+-- and the volumes v before it: one journal, of at most 2^62 entries, of which the last are held and
+-- the others were handed over; it is that of a run, or empty where there was no memory for one; and
+-- its text was written. Where it is done, and no notice was asked for, it did all that the script
+-- has. So many workers led to it as were asked for, or none did: of the answers of several the
+-- first in order ended the run.
 pub record RunsScript {K V : Type 0} (G : Ghosts ScriptEnd) (sink : K → SinkFacts)
     (facts : V → VolumesFacts ServerNote) (form : Form) (asked : Asked) (groups : List ScriptGroup)
     (o : SinkFacts) (v : VolumesFacts ServerNote) (played : Played K V) : Type 0 where
   pub how : Ending
   pub journal : List (Entry ServerNote)
   pub within : played.first ≤ length journal
+  pub bound : length journal ≤ 2 ^ 62
   pub held : played.journal.entries ≡ drop played.first journal
   pub taken : WhereTold (HasTaken (terms_in form asked groups o v) played.first journal)
       (facts played.volumes).taken
@@ -115,6 +120,7 @@ pub record RunsScript {K V : Type 0} (G : Ghosts ScriptEnd) (sink : K → SinkFa
   pub done : played.end ≡ end.Done → IsScriptRun G (terms_in form asked groups o v) asked groups how
       journal
   pub all : played.end ≡ end.Done → asked.until ≡ None → DoesAll asked groups journal
+  pub led : LedIn G sink facts form (terms_in form asked groups o v) asked how journal
   pub one : asked.workers ≡ 1 → asked.until ≡ None → IsOfOneWorker asked groups how journal
   pub ends : EndsAs played.end how v.faults (facts played.volumes).faults
   pub written : Writes form played.end o (text_in form (asked.connections + 1) journal)

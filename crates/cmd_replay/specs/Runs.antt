@@ -1,6 +1,6 @@
 -- What the journal of a run of the server over a script says.
-use Rattle.std.specs.Prelude.{◌≡◌, ◌≤◌, ◌⊎◌, ◌+◌, ◌*◌, ◌/◌, ℕ, List, [], ◌∷◌, ◌++◌, drop, length}
-use Rattle.std.specs.Prelude.{true, Some, None}
+use Rattle.std.specs.Prelude.{◌≡◌, ◌≤◌, ◌⊎◌, ◌+◌, ◌*◌, ◌/◌, ◌^◌, ℕ, List, [], ◌∷◌, ◌++◌, drop}
+use Rattle.std.specs.Prelude.{length, true, Some, None}
 use Rattle.std.specs.List.{list_any}
 use Rattle.ev_base.specs.ev_types.specs.declared.upcall.Handle.{Handle}
 use Rattle.ev_base.specs.Terms.{Terms}
@@ -10,8 +10,7 @@ use Rattle.reactor_model.specs.reactor_journal.specs.declared.entry.Entry.TheVar
 use Rattle.reactor_model.specs.reactor_journal.specs.declared.entry.Entry.TheVariants.{Ended}
 use Rattle.reactor_model.specs.reactor_journal.specs.Past.{past_of}
 use Rattle.reactor_core.specs.Ends.{WhereTold}
-use Rattle.reactor_core.specs.Stands.{HasTaken}
-use Rattle.reactor_model.specs.Volumes.{VolumesFacts}
+use Rattle.reactor_core.specs.Stands.{HasTaken, Meaning}
 use Rattle.log_handler.specs.log_lines.specs.declared.end_kind.EndKind.{EndKind}
 use Rattle.log_handler.specs.declared.note.ServerNote.{ServerNote}
 use Rattle.log_handler.specs.declared.note.ServerNote.TheVariants.{Finished}
@@ -43,6 +42,7 @@ use Rattle.server_run.specs.declared.asked.Asked.{Asked}
 use Rattle.server_run.specs.declared.ending.Ending.{Ending}
 use Rattle.server_run.specs.declared.ending.Ending.TheVariants as ending
 use Rattle.server_run.specs.declared.ending.Served.{Served}
+use Rattle.cmd_replay.specs.Leading.{LedOrNone}
 
 -- Why a run over a script ended: nothing could be reported any more, and the script answers its
 -- last wait so; or a notice ended it. A net that plays a script fails in no call.
@@ -124,21 +124,25 @@ abbrev pub IsRunOrNone : Ghosts ScriptEnd → Terms → Asked → List ScriptGro
     → List (Entry ServerNote) → Type 0
 IsRunOrNone G t asked groups how journal = (journal ≡ []) ⊎ IsScriptRun G t asked groups how journal
 
--- What is left of a run over a script: one journal, of which the last entries are held and the
--- others were handed over, and the watch stands for it.
+-- What is left of a run over a script: one journal, of at most 2^62 entries, of which the last are
+-- held and the others were handed over, and the watch stands for it. So many workers led to it as
+-- were asked for, or none did.
 pub record LeavesScript {W V Q : Type 0} (G : Ghosts ScriptEnd)
-    (watched : Terms → W → List (Entry ServerNote) → Type 0) (facts : V → VolumesFacts ServerNote)
+    (m : Meaning (ServerHandler ScriptEnd G) NetContent Q W V ServerNote ScriptEnd)
     (t : Terms) (asked : Asked) (groups : List ScriptGroup)
     (served : Served NetContent Q W V) : Type 0 where
   pub journal : List (Entry ServerNote)
   pub within : served.parts.first ≤ length journal
+  pub bound : length journal ≤ 2 ^ 62
   pub held : served.parts.journal.entries ≡ drop served.parts.first journal
-  pub taken : WhereTold (HasTaken t served.parts.first journal) (facts served.parts.volumes).taken
+  pub taken : WhereTold (HasTaken t served.parts.first journal)
+      (m.volumes served.parts.volumes).taken
   pub filled : FillsVolume asked.volume served.parts.first
-  pub watch : watched t served.parts.watch journal
+  pub watch : m.watched t served.parts.watch journal
   pub run : IsRunOrNone G t asked groups served.ending journal
   pub some : (served.ending ≡ ending.Over) ⊎ (served.ending ≡ ending.Notified)
       → IsScriptRun G t asked groups served.ending journal
+  pub led : LedOrNone m t asked served.ending journal
   pub one : asked.workers ≡ 1 → asked.until ≡ None
       → IsOfOneWorker asked groups served.ending journal
 

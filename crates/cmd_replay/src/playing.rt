@@ -84,7 +84,8 @@ pub fn play<R: Threads + Wait + Sync, W: Watch<ServerNote> + Send, V: Volumes<Se
     requires steady { terms.steady ≡ Some true }
     requires limit { asked.limit ≡ None }
     ensures leaves { (groups : List ScriptGroup) → ForScript asked groups terms
-        → LeavesScript ⟦<ScriptEnd as PeerEnd>⟧ W.stands V.facts terms asked groups result }
+        → LeavesScript ⟦<ScriptEnd as PeerEnd>⟧ ⟦<ScriptCore<W, V> as Means>⟧.m terms asked groups
+        result }
     ensures net { FailsNet result.ending → ⊥ }
     ensures broken { W.is_broken result.parts.watch ≡ true → result.ending ≡ Ending.Broken }
     ensures volumes { result.ending ≡ Ending.VolumeFault

@@ -63,7 +63,7 @@ use Rattle.server_run.specs.declared.ending.Ending.TheVariants as ending
 use Rattle.server_run.specs.declared.ending.Served.{Served}
 use Rattle.server_run.proofs.Cuts.{Cut, ends_by_notice, is_right}
 use Rattle.server_run.proofs.Leaving.{broken_told, leaves}
-use Rattle.server_run.proofs.Merged.{AllPosted, all_drained}
+use Rattle.tp_reactor.proofs.Merged.{AllPosted, all_drained}
 use Rattle.server_run.proofs.Notified.{KeepsNotices}
 use Rattle.server_run.proofs.Notices.{all_of_filter, none_of_all}
 use Rattle.server_run.proofs.Posts.{Says, all_says, is_for}

@@ -1,7 +1,7 @@
 -- What a run leaves, by how far it came.
 use Rattle.std.proofs.Common.{ℕ, ◌≡◌, ◌≤◌, ◌⊎◌, inl, inr, ⊎_elim, Bool, true, false, List, [], ◌∷◌}
 use Rattle.std.proofs.Common.{length, map, refl, sym, ap, ◌∙◌, subst, arith, Option, Some, None}
-use Rattle.std.proofs.Common.{length-append}
+use Rattle.std.proofs.Common.{length-append, lit≤}
 use Rattle.std.proofs.lemmas.Bool.{false≢true}
 use Rattle.std.proofs.lemmas.List.{append-nil}
 use Rattle.std.specs.List.{list_all}
@@ -96,6 +96,7 @@ module _ {H M Q W V E : Type 0} (m : Meaning H M Q W V ServerNote E) (armed : Q 
         first = first;
         journal = fin.journal;
         stand = fin.stand;
+        bound = fin.bound;
         filled = filled;
         run = inr (record {
           whole = whole_of_over t.most fin.journal fin.legal fin.over;
@@ -179,6 +180,7 @@ module _ {H M Q W V E : Type 0} (m : Meaning H M Q W V ServerNote E) (armed : Q 
           volumes = subst (λ (v : V). WhereTold (HasTaken t 0 []) (m.volumes v).taken)
               (sym same_volumes) (taken_at_first (m.volumes volumes).taken begins.taken);
         };
+        bound = lit≤ tt;
         filled = none_handed_over asked.volume;
         run = inl (record {
           ending = subst MayBeUnmade

@@ -1,6 +1,5 @@
 pub mod Cutting
 pub mod Notices
-pub mod Merged
 pub mod Winding
 pub mod Posts
 pub mod Resting

@@ -124,15 +124,3 @@ pub none_of_all : {A : Type 0} (test : A → Bool) (xs : List A)
 none_of_all test [] all = refl
 none_of_all test (x ∷ xs) all = none_more (test x) (list_any test xs)
     (list_all (λ x. not (test x)) xs) (none_of_all test xs) all
-
--- what holds of each place holds of all
-pub all_of_places : {A : Type 0} (p : A → Bool) (xs : List A)
-    → ((k : ℕ) (x : A) → get_elem? xs k ≡ some x → p x ≡ true) → list_all p xs ≡ true
-all_of_places p [] each = refl
-all_of_places p (x ∷ xs) each = and_from (p x) (list_all p xs) (each 0 x refl)
-    (all_of_places p xs (λ k y is. each (suc k) y is))
-
-pub all_front : {A : Type 0} (p : A → Bool) (xs ys all : List A) → xs ++ ys ≡ all
-    → list_all p all ≡ true → list_all p xs ≡ true
-all_front p xs ys all is q = (and_parts (list_all p xs) (list_all p ys)
-    (sym (list_all-append p xs ys) ∙ (ap (list_all p) is ∙ q))).0

@@ -35,7 +35,7 @@ use Rattle.tp_reactor.specs.Pool.{hirer, hirer_posted}
 use Rattle.tp_reactor.specs.Working.{Round, Rounds, Runs, first_ran, ran_of, rank}
 use Rattle.tp_reactor.specs.declared.working.Ran.{Ran}
 use Rattle.tp_reactor.specs.declared.working.Ran.TheVariants as ran
-use Rattle.server_run.proofs.Merged.{AllPosted}
+use Rattle.tp_reactor.proofs.Merged.{AllPosted}
 use Rattle.server_run.proofs.Winding.{sum, sum_more}
 
 -- ---- a history that was stopped

@@ -32,6 +32,7 @@ use Rattle.tp_reactor.specs.reactor_core.specs.Views.{marks_of, net_of, over_of}
 use Rattle.tp_reactor.specs.reactor_core.specs.declared.marks.WaitMarks.{WaitMarks}
 use Rattle.tp_reactor.specs.reactor_core.specs.declared.reactor.Core.{Core}
 use Rattle.tp_reactor.specs.reactor_core.specs.declared.reactor.Parts.{Parts}
+use Rattle.tp_reactor.specs.reactor_core.proofs.HandOver.{entries_are}
 use Rattle.tp_reactor.specs.reactor_core.proofs.WaitNumbers.{marks_over}
 use Rattle.tp_reactor.specs.reactor_core.proofs.Over.{none_live}
 use Rattle.laws_script_taken.specs.laws_script_runs.specs.Runs.{IsWhole}
@@ -158,6 +159,10 @@ finished {M = M} {Q = Q} {W = W} {V = V} {N = N} m armed t first list core new t
       journal = s.journal;
       winds = s.winds;
       legal = s.stands.tracks.legal;
+      bound =
+          let numbers = s.stands.room.numbers in
+          let counted = entries_are t.most s.journal s.stands.tracks.legal in
+          omega (arith, numbers, counted);
       over = s.over;
       stand = subst (PartsStand m armed t first s.journal) (sym same) stand;
       marked = λ some.

@@ -1,5 +1,5 @@
 -- What the end of a run leaves of its reactor.
-use Rattle.std.specs.Prelude.{ℕ, ◌≡◌, ◌≤◌, Bool, true, false, List, [], Some}
+use Rattle.std.specs.Prelude.{ℕ, ◌≡◌, ◌≤◌, ◌^◌, Bool, true, false, List, [], length, Some}
 use Rattle.ev_base.specs.Counts.{Rose}
 use Rattle.ev_base.specs.Terms.{Terms}
 use Rattle.tp_reactor.specs.timer_queue.specs.declared.timer.Timer.{Timer}
@@ -31,15 +31,16 @@ named how true = ending.Broken
 named how false = how
 
 -- The parts of a reactor that stood for this list and was stopped: they stand for a journal that is
--- wound up, and legal. Where a wait was marked as over, and the net tells its calls, the wait of
--- that number was answered Over. Where the watch failed, its count of faults is above that of the
--- output at the start, if the terms have it.
+-- wound up, and legal, with at most 2^62 entries. Where a wait was marked as over, and the net
+-- tells its calls, the wait of that number was answered Over. Where the watch failed, its count of
+-- faults is above that of the output at the start, if the terms have it.
 pub record Finishes {H M Q W V N E : Type 0} (m : Meaning H M Q W V N E) (armed : Q → List Timer)
     (t : Terms) (first : ℕ) (list : List (Entry N)) (core : Core H M Q W V N E)
     (parts : Parts N M Q W V) : Type 0 where
   pub journal : List (Entry N)
   pub winds : WindsUp list journal
   pub legal : Legal journal t.most
+  pub bound : length journal ≤ 2 ^ 62
   pub over : IsOver (summary (past_of journal))
   pub stand : PartsStand m armed t first journal parts
   pub marked : 1 ≤ over_of core → WhereTold (λ calls. IsOverAt (over_of core) (answers calls))

@@ -1,5 +1,5 @@
 -- What a run of the server leaves.
-use Rattle.std.specs.Prelude.{ℕ, ◌≡◌, ◌<◌, ◌-◌, ◌⊎◌, true, List, [], ◌∷◌, Some}
+use Rattle.std.specs.Prelude.{ℕ, ◌≡◌, ◌<◌, ◌≤◌, ◌-◌, ◌^◌, ◌⊎◌, true, List, [], ◌∷◌, length, Some}
 use Rattle.ev_base.specs.Counts.{Rose}
 use Rattle.ev_base.specs.Net.{NetFacts}
 use Rattle.ev_base.specs.Terms.{Terms}
@@ -92,13 +92,15 @@ pub record IsUnmade {N : Type 0} (how : Ending) (journal : List (Entry N)) : Typ
   pub ending : MayBeUnmade how
   pub none : journal ≡ []
 
--- What is left of a run under these terms: one journal, for which the parts stand. Entries were
--- handed over only as whole volumes of the size that was asked for, or more.
+-- What is left of a run under these terms: one journal, of at most 2^62 entries, for which the
+-- parts stand. Entries were handed over only as whole volumes of the size that was asked for, or
+-- more.
 pub record LeavesRun {H M Q W V E : Type 0} (m : Meaning H M Q W V ServerNote E)
     (armed : Q → List Timer) (t : Terms) (asked : Asked) (served : Served M Q W V) : Type 0 where
   pub first : ℕ
   pub journal : List (Entry ServerNote)
   pub stand : PartsStand m armed t first journal served.parts
+  pub bound : length journal ≤ 2 ^ 62
   pub filled : FillsVolume asked.volume first
   pub run : IsUnmade served.ending journal
       ⊎ IsRun m.means t asked.until (m.facts served.parts.net) served.ending journal

@@ -9,7 +9,6 @@ use Rattle.cmd_replay.specs.server_run.specs.Starting.{IsFine}
 use Rattle.cmd_replay.specs.server_run.specs.declared.asked.Asked.{Asked}
 use Rattle.cmd_gen.specs.Summing.{Writes, summary_lines}
 use Rattle.cmd_gen.proofs.Leaves.{fine, generates, leaves-generated, not-noticed, runs-generated}
-use Rattle.cmd_gen.proofs.Leaves.{unwatched}
 use Rattle.cmd_gen.proofs.Known.{writes-full}
 use Rattle.cmd_gen.proofs.generating.generate.Goals as goal
 
@@ -19,7 +18,7 @@ play-ending-requires g c κs within =
     let unlimited = ap (λ (a : Asked). a.limit) c.asked_for-asked.ensures in
     let is_fine = subst IsFine (sym c.asked_for-asked.ensures)
     (fine c.args.connections c.requires.some c.requires.within) in
-    let can = can-play unwatched g.V.Volumes.facts asked c.in-Ok.prepared.0 c.in-Ok.prepared.1 _
+    let can = can-play (λ t watch h. Unit {0}) g.V.Volumes.facts asked c.in-Ok.prepared.0 c.in-Ok.prepared.1 _
     c.args.volumes unseen c.in-Ok.ensures.timers unlimited tt in (
       search rules,
       (

@@ -3,6 +3,7 @@ use Rattle.std.proofs.Common.{rules, ◌∙◌, subst, refl, Some, true}
 use Rattle.cmd_line.specs.declared.options.Form.TheVariants.{Grouped}
 use Rattle.reactor_model.proofs.watch.NoWatch.TheSendSync as sends
 use Rattle.grouped_lines.specs.laws_script_runs.specs.Connections.{lines_by_connection}
+use Rattle.cmd_replay.specs.Leading.{unwatched}
 use Rattle.cmd_replay.specs.Replays.{WritesHeld, unseen}
 use Rattle.cmd_replay.specs.declared.ends.ReplayEnd.{ReplayEnd}
 use Rattle.cmd_replay.proofs.RunsScript.{can-play, leaves-kept, leaves-so, put_back, rose-kept}
@@ -44,9 +45,9 @@ returns g c = λ groups text.
     let rose = rose-kept g.V.Volumes.facts v.faults played kept is_kept
     c.play-served.ensures.volumes in
     let p = g.K.Sink.facts c.write_held-end.result.1 in
-    let left = leaves-so (λ t watch h. Unit {0}) g.V.Volumes.facts c.args.asked c.args.script groups
+    let left = leaves-so (unwatched _ g.V.Volumes.facts) c.args.asked c.args.script groups
     unseen unseen v played refl text c.requires.limit c.play-served.ensures.leaves in
-    let l = leaves-kept (λ t watch h. Unit {0}) g.V.Volumes.facts _ c.args.asked groups played kept
+    let l = leaves-kept (unwatched _ g.V.Volumes.facts) _ c.args.asked groups played kept
     is_kept left in
     let held = subst (λ (e : ReplayEnd).
     WritesHeld e served.parts.first o (lines_by_connection c.as_slice.result.now)
@@ -55,5 +56,5 @@ returns g c = λ groups text.
     c.write_held-end.result.0 p v.faults (g.V.Volumes.facts served.parts.volumes).faults net
     rose
     (c.as_slice.ensures ∙ l.held) held in
-    runs-script (λ t watch h. Unit {0}) g.K.Sink.facts g.V.Volumes.facts Grouped c.args.asked groups
-    o v served c.write_held-end.result.0 c.write_held-end.result.1 l both.0 both.1
+    runs-script (unwatched _ g.V.Volumes.facts) g.K.Sink.facts Grouped c.args.asked groups o v
+    served c.write_held-end.result.0 c.write_held-end.result.1 l l.led both.0 both.1

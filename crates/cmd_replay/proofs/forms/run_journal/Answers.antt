@@ -4,6 +4,7 @@ use Rattle.std.proofs.Common.{rules, ◌≡◌, ◌+◌, ◌∙◌, ap, sym, sub
 use Rattle.journal_text.proofs.journal_sink.JournalSink.TheSendSync as sends
 use Rattle.journal_text.specs.JournalSink as journals
 use Rattle.cmd_line.specs.declared.options.Form.TheVariants.{Journal}
+use Rattle.cmd_replay.specs.Leading.{with_text}
 use Rattle.cmd_replay.specs.Outputs.{Writes, text_in}
 use Rattle.cmd_replay.specs.Playing.{terms_of_content}
 use Rattle.cmd_replay.specs.Replays.{EndsAs, end_by}
@@ -54,19 +55,19 @@ returns g c = λ groups text.
     let rose = rose-kept g.V.Volumes.facts v.faults played kept is_kept
     c.play-served.ensures.volumes in
     let broken = journals.is_broken served.parts.watch in
-    let left = leaves-so (journals.PutsJournal g.K.Sink.facts) g.V.Volumes.facts c.args.asked
+    let left = leaves-so (with_text _ g.K.Sink.facts g.V.Volumes.facts) c.args.asked
     c.args.script groups (g.K.Sink.facts (journals.sink_of c.new-watch.result)) o v played
     (ap g.K.Sink.facts c.new-watch.ensures.output) text c.requires.limit
     c.play-served.ensures.leaves in
-    let l = leaves-kept (journals.PutsJournal g.K.Sink.facts) g.V.Volumes.facts _ c.args.asked
-    groups played kept is_kept left in
+    let l = leaves-kept (with_text _ g.K.Sink.facts g.V.Volumes.facts) _ c.args.asked groups
+    played kept is_kept left in
     let is : c.end_by-end.result ≡ end_by broken served.ending =
     c.end_by-end.ensures ∙ ap (λ b. end_by b served.ending) c.broken.ensures in
     let ends = ends-as broken served.ending v.faults _ net rose in
     let written = writes-along broken served.ending o _ _
     (by-journal g.K.Sink.facts _ o served.parts.watch l.journal refl refl l.watch) in
-    runs-script (journals.PutsJournal g.K.Sink.facts) g.K.Sink.facts g.V.Volumes.facts Journal
-    c.args.asked groups o v served c.end_by-end.result c.into_output.result l
+    runs-script (with_text _ g.K.Sink.facts g.V.Volumes.facts) g.K.Sink.facts Journal
+    c.args.asked groups o v served c.end_by-end.result c.into_output.result l l.led
     (subst (λ (e : ReplayEnd). EndsAs e served.ending v.faults
     (g.V.Volumes.facts served.parts.volumes).faults) (sym is) ends)
     (subst (λ k. Writes Journal c.end_by-end.result o

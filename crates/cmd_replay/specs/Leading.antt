@@ -1,0 +1,74 @@
+-- How the workers of a run over a script led.
+use Rattle.std.specs.Prelude.{◌⊎◌, ℕ, Bool, false, List}
+use Rattle.ev_base.specs.Sink.{SinkFacts}
+use Rattle.ev_base.specs.Terms.{Terms}
+use Rattle.ev_base.specs.declared.end.PeerEnd.{Ghosts}
+use Rattle.acceptor.specs.Servers.{servers}
+use Rattle.acceptor.specs.declared.server.ServerHandler.{ServerHandler}
+use Rattle.chosen_timers.specs.Chosen.{spare_of, timers_of}
+use Rattle.chosen_timers.specs.declared.ChosenTimers.{ChosenTimers}
+use Rattle.cmd_line.specs.declared.options.Form.{Form}
+use Rattle.cmd_line.specs.declared.options.Form.TheVariants.{Plain, Grouped, Journal}
+use Rattle.journal_text.specs.JournalSink as text
+use Rattle.journal_text.specs.declared.journal_sink.JournalSink.{JournalSink}
+use Rattle.log_handler.specs.LineSink as lines
+use Rattle.log_handler.specs.declared.line_sink.LineSink.{LineSink}
+use Rattle.log_handler.specs.declared.note.ServerNote.{ServerNote}
+use Rattle.reactor_core.specs.Stands.{Meaning, meaning}
+use Rattle.reactor_core.specs.reactor_state.specs.State.{HasPlaces, IsPlaced, Shows}
+use Rattle.reactor_model.specs.Volumes.{VolumesFacts}
+use Rattle.reactor_model.specs.declared.watch.NoWatch.{NoWatch}
+use Rattle.reactor_model.specs.reactor_journal.specs.declared.entry.Entry.{Entry}
+use Rattle.script_net.specs.NetContent.{NetContent, script_net_facts, script_net_keeps}
+use Rattle.script_net.specs.ScriptEnd.{script_end_facts, ScriptEndKeeps}
+use Rattle.script_net.specs.declared.end.ScriptEnd.{ScriptEnd}
+use Rattle.server_run.specs.Served.{HasLed, HasNoLead}
+use Rattle.server_run.specs.declared.asked.Asked.{Asked}
+use Rattle.server_run.specs.declared.ending.Ending.{Ending}
+
+-- What the parts of a reactor mean and tell that runs the server over a script, with a watch and
+-- volumes that mean and tell this.
+abbrev pub script_meaning : {W V : Type 0} → (G : Ghosts ScriptEnd)
+    → (Terms → W → List (Entry ServerNote) → Type 0) → (W → ℕ) → (W → Bool) → (W → ℕ)
+    → (V → VolumesFacts ServerNote)
+    → Meaning (ServerHandler ScriptEnd G) NetContent ChosenTimers W V ServerNote ScriptEnd
+script_meaning G watched faults is_broken whole volumes =
+    meaning (servers {G = G} script_end_facts ScriptEndKeeps) script_net_facts script_net_keeps
+    (Shows timers_of) (HasPlaces spare_of) IsPlaced watched faults is_broken whole volumes
+
+-- the same where its watch writes the lines of the notes, or the text of the journal, and where
+-- nobody watches
+abbrev pub with_lines : {K V : Type 0} → (G : Ghosts ScriptEnd) → (K → SinkFacts)
+    → (V → VolumesFacts ServerNote)
+    → Meaning (ServerHandler ScriptEnd G) NetContent ChosenTimers (LineSink K) V ServerNote
+    ScriptEnd
+with_lines G sink volumes = script_meaning G (lines.PutsLines sink) (lines.line_sink_faults sink)
+    lines.is_broken lines.whole_of volumes
+
+abbrev pub with_text : {K V : Type 0} → (G : Ghosts ScriptEnd) → (K → SinkFacts)
+    → (V → VolumesFacts ServerNote)
+    → Meaning (ServerHandler ScriptEnd G) NetContent ChosenTimers (JournalSink K) V ServerNote
+    ScriptEnd
+with_text G sink volumes = script_meaning G (text.PutsJournal sink) (text.journal_sink_faults sink)
+    text.is_broken text.whole_of volumes
+
+abbrev pub unwatched : {V : Type 0} → (G : Ghosts ScriptEnd) → (V → VolumesFacts ServerNote)
+    → Meaning (ServerHandler ScriptEnd G) NetContent ChosenTimers NoWatch V ServerNote ScriptEnd
+unwatched G volumes = script_meaning G (λ t watch h. Unit {0}) (λ watch. 0) (λ watch. false)
+    (λ watch. 0) volumes
+
+-- no worker led, or as many as were asked for did
+abbrev pub LedOrNone : {H M Q W V N E : Type 0} → Meaning H M Q W V N E → Terms → Asked → Ending
+    → List (Entry N) → Type 0
+LedOrNone m t asked how journal = HasNoLead how journal ⊎ HasLed m t asked how journal
+
+-- the same with the watch of each form: text that is grouped is written behind the run
+abbrev pub LedIn : {K V : Type 0} → Ghosts ScriptEnd → (K → SinkFacts)
+    → (V → VolumesFacts ServerNote) → Form → Terms → Asked → Ending → List (Entry ServerNote)
+    → Type 0
+LedIn G sink volumes Plain t asked how journal =
+    LedOrNone (with_lines G sink volumes) t asked how journal
+LedIn G sink volumes Grouped t asked how journal =
+    LedOrNone (unwatched G volumes) t asked how journal
+LedIn G sink volumes Journal t asked how journal =
+    LedOrNone (with_text G sink volumes) t asked how journal
