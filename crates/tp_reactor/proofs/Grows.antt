@@ -8,10 +8,12 @@ use Rattle.ev_base.specs.Counts.{Rose}
 use Rattle.ev_base.specs.ev_types.specs.declared.upcall.Handle.{Handle}
 use Rattle.ev_base.specs.ev_types.specs.declared.upcall.Kind.{Kind}
 use Rattle.leader_token.specs.Lists.{is_event, Begins, NoneAbove}
+use Rattle.leader_token.specs.list_lemmas.specs.Sums.{total}
 use Rattle.leader_token.specs.declared.kept.View.{View}
 use Rattle.leader_token.proofs.Lists.{begins-self, begins-trans, none_above-self, none_above-trans}
 use Rattle.notify_ring.specs.Passes.{HasPosted, posting_of}
 use Rattle.notify_ring.specs.declared.posting.Full.{Full}
+use Rattle.notify_ring.specs.declared.view.Ended.{Ended}
 use Rattle.notify_ring.specs.declared.view.View.{View as RingView}
 use Rattle.reactor_model.specs.reactor_journal.specs.declared.entry.Entry.{Entry}
 use Rattle.reactor_model.specs.reactor_journal.specs.Past.{past_of}
@@ -27,7 +29,7 @@ use Rattle.reactor_desk.specs.declared.leading.Led.{Led}
 use Rattle.reactor_desk.specs.declared.leading.Led.TheVariants as led
 use Rattle.reactor_desk.proofs.Left.{left_by_lead}
 use Rattle.tp_reactor.specs.Led.{IsLed, MarksTell}
-use Rattle.tp_reactor.specs.Pool.{EndsWithOver, HasClosed, IsAtRest, RanTells}
+use Rattle.tp_reactor.specs.Pool.{EndsWithOver, HasClosed, IsAtRest, RanTells, known_postings}
 use Rattle.tp_reactor.specs.Settled.{HasSettled}
 use Rattle.tp_reactor.specs.Words.{SameKin}
 use Rattle.tp_reactor.specs.Working.{MayPost, PostsNotice, Round, Rounds, Runs, Serves, ran_of}
@@ -255,6 +257,14 @@ module _ {H M Q W V N E : Type 0} (m : Meaning H M Q W V N E) where
         (led_seen d.last w most d.ends.led d.ends.is_led)
         (rounds_post most until d.rounds v d.last p d.last_posted d.were
         (omega (arith, more, ap (λ (x : RingView). length x.posted) d.ends.poster)))
+
+    -- by the postings that a root knows of
+    pub runs_posted : known_postings p < known_postings s → HasClosed until w.seen
+    runs_posted more = runs_post (omega (
+      arith,
+      more,
+      ap (λ (es : List Ended). total (λ (e : Ended). length e.posted) es) runs_grow.ended,
+    ))
 
   -- ---- what is left to do behind an Over
 

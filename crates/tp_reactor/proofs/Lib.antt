@@ -10,5 +10,7 @@ pub mod Rounds
 pub mod Grows
 pub mod Solo
 pub mod Pooled
+pub mod Observed
+pub mod Unhired
 pub mod Seats
 pub mod Merged

@@ -247,20 +247,6 @@ module _ {H M Q W V N E : Type 0} (m : Meaning H M Q W V N E) (most : Option ℕ
     over = λ idle is. absurd (other is);
   })
 
-  pub ends_first : (r : Ran) (left end : WorkerEnd N) → (r ≡ ran.Over → ⊥) → end ≡ left
-      → EndsPool m most until r left end
-  ends_first ran.Over left end other same = absurd (other refl)
-  ends_first ran.Broken left end other same = same
-  ends_first ran.NetFault left end other same = same
-  ends_first ran.NoMemory left end other same = same
-  ends_first ran.VolumeFault left end other same = same
-  ends_first ran.Stopped left end other same = same
-
-  pub ends_over : (r : Ran) (left end : WorkerEnd N) → r ≡ ran.Over
-      → Runs m most until left.known left.posted end.ran end.known end.posted
-      → EndsPool m most until r left end
-  ends_over r left end is d = subst (λ (x : Ran). EndsPool m most until x left end) (sym is) d
-
   ends : (r : Ran) (left end : WorkerEnd N) → left.ran ≡ r → EndsPool m most until r left end
       → GoesOn left end
   ends ran.Over left end is d = went_on left end d

@@ -6,6 +6,7 @@ pub mod Asked
 pub mod Working
 pub mod Alone
 pub mod Pool
+pub mod Observed
 pub mod Hired
 pub mod Workers
 pub use Rattle.leader_token

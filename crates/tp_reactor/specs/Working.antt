@@ -1,7 +1,7 @@
 -- The loop of a worker: to lead, to run the job and to settle it, until a lead answers neither a
 -- job nor Quiet.
 use Rattle.std.specs.Prelude.{ℕ, zero, suc, ◌≡◌, ◌⊎◌, ◌≤◌, false, nat_le, if◌then◌else◌, Option}
-use Rattle.std.specs.Prelude.{Some, None, Result, Ok, Err}
+use Rattle.std.specs.Prelude.{Some, None, Result}
 use Rattle.ev_base.specs.ev_types.specs.declared.upcall.Handle.{Handle}
 use Rattle.ev_base.specs.ev_types.specs.declared.upcall.Kind.TheVariants.{Except}
 use Rattle.leader_token.specs.declared.kept.View.{View}
@@ -111,23 +111,6 @@ Idles m most v p w s = IsLed m v most led.Quiet w × (s ≡ p)
 abbrev pub Round : {H M Q W V N E : Type 0} → Meaning H M Q W V N E → Option ℕ → Option (ℕ × Handle)
     → View (Entry N) DeskTerms → RingView → View (Entry N) DeskTerms → RingView → Type 0
 Round m most until v p w s = Idles m most v p w s ⊎ Serves m most until v p w s
-
--- One round of a worker that led before, with this answer, and the lead of the next.
-pub record RoundThenLed {H M Q W V N E : Type 0} (m : Meaning H M Q W V N E) (most : Option ℕ)
-    (until : Option (ℕ × Handle)) (v : View (Entry N) DeskTerms) (p : RingView) (led : Led H N E)
-    (w : View (Entry N) DeskTerms) (s : RingView) : Type 0 where
-  pub between : View (Entry N) DeskTerms
-  pub round : Round m most until v p between s
-  pub leads : IsLed m between most led w
-
--- What a round comes to of a worker that led before with this answer: the lead of the next round,
--- or an answer that ends the loop.
-abbrev pub Goes : {H M Q W V N E : Type 0} → Meaning H M Q W V N E → Option ℕ → Option (ℕ × Handle)
-    → Led H N E → View (Entry N) DeskTerms → RingView → Result (Led H N E) Ran
-    → View (Entry N) DeskTerms → RingView → Type 0
-Goes {N = N} m most until led x p (Ok next) w s =
-    (v : View (Entry N) DeskTerms) → IsLed m v most led x → RoundThenLed m most until v p next w s
-Goes m most until led x p (Err ran) w s = (ran_of led ≡ Some ran) × (w ≡ x) × (s ≡ p)
 
 -- so many rounds, one behind another
 abbrev pub Rounds : {H M Q W V N E : Type 0} → Meaning H M Q W V N E → Option ℕ

@@ -4,6 +4,7 @@
 mod asking;
 mod crew;
 mod leading;
+mod observer;
 mod pool;
 mod promoting;
 mod reactor;
@@ -11,6 +12,7 @@ mod start;
 mod working;
 
 pub use ev_base::{Net, PeerEnd};
+pub use observer::{NoObserver, Observer};
 pub use reactor::{Reactor, Worker};
 pub use reactor_core::{Core, Means, Parts, RegisterRefused};
 pub use reactor_desk::Desk;

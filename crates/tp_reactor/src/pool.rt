@@ -7,12 +7,14 @@ ghost use Rattle.reactor_core.specs.reactor_state.specs.State.{HasPlaces, IsPlac
 ghost use Rattle.reactor_core.specs.Polling.{FitsLimit};
 ghost use Rattle.reactor_core.specs.Stands.{meaning};
 ghost use Rattle.tp_reactor.specs.Hired.{AreHired, IsBack, IsReady, MayLeave, ends_of};
-ghost use Rattle.tp_reactor.specs.Pool.{Dismisses, RunsPool, hirer, hirer_posted};
+ghost use Rattle.tp_reactor.specs.Hired.{observers_of};
+ghost use Rattle.tp_reactor.specs.Observed.{PoolObserved, RunObserves, RunsObserved, loop_of};
+ghost use Rattle.tp_reactor.specs.Pool.{Dismisses, hirer, hirer_posted};
 ghost use Rattle.tp_reactor.specs.Workers.{MayRun, RunsWorkers, SameWorker, worker_end};
-ghost use Rattle.tp_reactor.specs.Working.{Runs};
 ghost use Rattle.tp_reactor.specs.Words.{IsIdle, IsOf, SameKin, known_by, posted_of, poster_of};
 
-use crate::{Ran, Reactor, Worker};
+use crate::observer::no_observers;
+use crate::{NoObserver, Observer, Ran, Reactor, Worker};
 use ev_base::{Handle, Net, Wake};
 use leader_token::Kept;
 use reactor_core::Means;
@@ -23,18 +25,20 @@ use std::sync::Wait;
 use std::thread::{Threads, for_each_mut, join_mut};
 use timer_queue::TimerQueue;
 
-/// A hired worker, and with which answer it left its loop.
+/// A hired worker, its observer, and with which answer it left its loop.
 pub(crate) struct Hired<
     H: EventHandler,
     M: Net<End = H::End>,
     Q: TimerQueue,
     W: Watch<H::Note>,
     V: Volumes<H::Note>,
+    O,
 >
 where
     Desk<H, M, Q, W, V>: Kept<Entry = Entry<H::Note>, Terms = DeskTerms>,
 {
     pub(crate) worker: Worker<H, M, Q, W, V>,
+    pub(crate) observer: O,
     pub(crate) ran: Ran,
 }
 
@@ -44,12 +48,17 @@ impl<
     Q: TimerQueue,
     W: Watch<H::Note>,
     V: Volumes<H::Note>,
-> Hired<H, M, Q, W, V> {
-    fn into_parts(self) -> (Worker<H, M, Q, W, V>, Ran)
-        ensures { (result.0 ≡ self.worker) × (result.1 ≡ self.ran) }
+    O,
+> Hired<H, M, Q, W, V, O> {
+    fn into_parts(self) -> (Worker<H, M, Q, W, V>, O, Ran)
+        ensures { (result.0 ≡ self.worker) × (result.1 ≡ self.observer) × (result.2 ≡ self.ran) }
     {
-        let Self { worker, ran } = self;
-        (worker, ran)
+        let Self {
+            worker,
+            observer,
+            ran,
+        } = self;
+        (worker, observer, ran)
     }
 }
 
@@ -60,9 +69,14 @@ impl<
     Q: TimerQueue,
     W: Watch<H::Note>,
     V: Volumes<H::Note>,
-> Drop for Hired<H, M, Q, W, V> {
+    O: Drop,
+> Drop for Hired<H, M, Q, W, V, O> {
     fn drop(self) {
-        let Hired { worker: _, ran: _ } = self;
+        let Hired {
+            worker: _,
+            observer: _,
+            ran: _,
+        } = self;
     }
 }
 
@@ -104,76 +118,123 @@ where
         ensures runs { RunsWorkers ⟦<Self as Means>⟧.m n most_ms until root.old result root.new }
         ensures worker { SameWorker self.now root.old root.new }
     {
-        let mut owes_notice = until.is_some();
-        if n == 1 {
-            return self.work(rt, root, most_ms, until, &mut owes_notice);
-        }
-        match Vec::with_capacity(alloc, n - 1) {
-            Ok(hired) => self.run_pool(rt, root, hired, n - 1, most_ms, until),
+        match no_observers(alloc, n - 1) {
+            Ok(mut hired) => {
+                let mut none = NoObserver;
+                self.run_workers_observed(rt, alloc, root, &mut none, &mut hired, most_ms, until)
+            }
             Err(_) => Ran::NoMemory,
         }
     }
 
-    // Hires so many workers into a list that has room for them, lets them and the root make their
-    // loops, and dismisses them. Where each left with Over, the root goes on alone.
-    fn run_pool<R: Threads + Wait + Sync>(
+    /// Runs the reactor as `run_workers` does, with an observer for each worker: the root's, and
+    /// one for each that is to be hired, in the order of their hiring. Each worker shows each
+    /// upcall that it makes to its own observer, once, before it settles it.
+    ///
+    /// At the end the observers stand in the same order. If nobody was hired for want of memory,
+    /// no observer was shown anything.
+    pub fn run_workers_observed<R: Threads + Wait + Sync, O: Observer<H> + Send + Drop>(
         &self,
         rt: &R,
+        alloc: Global,
         root: &mut Worker<H, M, Q, W, V>,
-        room: Vec<Hired<H, M, Q, W, V>>,
-        many: usize,
+        observer: &mut O,
+        hired: &mut Vec<O>,
         most_ms: Option<u64>,
         until: Option<(u64, Handle)>,
     ) -> Ran
-        requires few { (poster_view (poster_of root.old)).posters + many ≤ 64 }
+        requires of { IsOf root.old self.now }
+        requires may { MayRun root.old (length hired.old.items + 1) most_ms until }
+        ensures runs { RunsWorkers ⟦<Self as Means>⟧.m (length hired.old.items + 1) most_ms until
+            root.old result root.new }
+        ensures worker { SameWorker self.now root.old root.new }
+        ensures observed { RunObserves ⟦<Self as Means>⟧.m O.observes most_ms until
+            (known_by root.old) (poster_view (poster_of root.old))
+            (record { root = observer.old; hired = hired.old.items }) (worker_end result root.new)
+            (record { root = observer.new; hired = hired.new.items }) }
+    {
+        let many = hired.len();
+        if many == 0 {
+            let mut owes_notice = until.is_some();
+            return self.work(rt, root, observer, most_ms, until, &mut owes_notice);
+        }
+        match Vec::with_capacity(alloc, many) {
+            Ok(room) => self.run_pool(rt, root, observer, hired, room, most_ms, until),
+            Err(_) => Ran::NoMemory,
+        }
+    }
+
+    // Hires a worker for each of these observers, into a list that has room for them, lets them and
+    // the root make their loops, and dismisses them. Where each left with Over, the root goes on
+    // alone.
+    fn run_pool<R: Threads + Wait + Sync, O: Observer<H> + Send + Drop>(
+        &self,
+        rt: &R,
+        root: &mut Worker<H, M, Q, W, V>,
+        observer: &mut O,
+        observers: &mut Vec<O>,
+        room: Vec<Hired<H, M, Q, W, V, O>>,
+        most_ms: Option<u64>,
+        until: Option<(u64, Handle)>,
+    ) -> Ran
+        requires few { (poster_view (poster_of root.old)).posters + length observers.old.items
+            ≤ 64 }
         requires of { IsOf root.old self.now }
         requires root { (known_by root.old).root ≡ true }
         requires idle { IsIdle root.old }
         requires limit { FitsLimit (known_by root.old).terms.run most_ms }
         requires room { IfSome until (λ asked. length (posted_of root.old) < 2 ^ 56) }
         requires empty { room.items ≡ [] }
-        requires places { many ≤ vec_capacity room }
+        requires places { length observers.old.items ≤ vec_capacity room }
         ensures of { IsOf root.new self.now }
         ensures idle { IsIdle root.new }
-        ensures runs { RunsPool ⟦<Self as Means>⟧.m most_ms until many (known_by root.old)
-            (poster_view (poster_of root.old)) (worker_end result root.new) }
+        ensures runs { PoolObserved ⟦<Self as Means>⟧.m O.observes most_ms until
+            (length observers.old.items) (known_by root.old) (poster_view (poster_of root.old))
+            (record { root = observer.old; hired = observers.old.items })
+            (worker_end result root.new)
+            (record { root = observer.new; hired = observers.new.items }) }
         ensures once { length (posted_of root.new) ≤ length (posted_of root.old) + 1 }
     {
-        let hired = self.hire_all(root, room, many);
+        let hired = self.hire_all(root, room, observers);
         let mut owes_notice = until.is_some();
-        let (ran, back) = self.run_all(rt, root, hired, most_ms, until, &mut owes_notice);
-        match self.dismiss_all(root, back, ran) {
-            Ran::Over => self.work(rt, root, most_ms, until, &mut owes_notice),
+        let (ran, back) = self.run_all(rt, root, observer, hired, most_ms, until, &mut owes_notice);
+        match self.dismiss_all(root, back, observers, ran) {
+            Ran::Over => self.work(rt, root, observer, most_ms, until, &mut owes_notice),
             first => first,
         }
     }
 
-    // Hires so many workers into a list that has room for them.
-    fn hire_all(
+    // Hires a worker for each of these observers, into a list that has room for them.
+    fn hire_all<O: Drop>(
         &self,
         root: &mut Worker<H, M, Q, W, V>,
-        room: Vec<Hired<H, M, Q, W, V>>,
-        many: usize,
-    ) -> Vec<Hired<H, M, Q, W, V>>
-        requires few { (poster_view (poster_of root.old)).posters + many ≤ 64 }
+        room: Vec<Hired<H, M, Q, W, V, O>>,
+        observers: &mut Vec<O>,
+    ) -> Vec<Hired<H, M, Q, W, V, O>>
+        requires few { (poster_view (poster_of root.old)).posters + length observers.old.items
+            ≤ 64 }
         requires of { IsOf root.old self.now }
         requires root { (known_by root.old).root ≡ true }
         requires idle { IsIdle root.old }
         requires empty { room.items ≡ [] }
-        requires places { many ≤ vec_capacity room }
+        requires places { length observers.old.items ≤ vec_capacity room }
         ensures of { IsOf root.new self.now }
-        ensures known { known_by root.new ≡ hirer (known_by root.old) many }
+        ensures known { known_by root.new ≡ hirer (known_by root.old) (length result.items) }
         ensures posted { poster_view (poster_of root.new) ≡ hirer_posted
-            (poster_view (poster_of root.old)) many }
+            (poster_view (poster_of root.old)) (length result.items) }
         ensures hired { AreHired self.now (known_by root.old) (poster_view (poster_of root.old)) 0
             result.items }
-        ensures all { length result.items ≡ many }
+        ensures observers { observers_of result.items ≡ observers.old.items }
+        ensures none { observers.new.items ≡ [] }
+        ensures capacity { vec_capacity observers.new ≡ vec_capacity observers.old }
     {
         let mut hired = room;
-        while hired.len() < many {
+        while observers.len() > 0 {
             let worker = self.hire(root);
+            let observer = observers.remove(0);
             hired.push_reserved(Hired {
                 worker,
+                observer,
                 ran: Ran::Over,
             });
         }
@@ -181,15 +242,16 @@ where
     }
 
     // The loops of the root and of the hired workers, at once where threads can be started.
-    fn run_all<R: Threads + Wait + Sync>(
-        &self,
+    fn run_all<'a, R: Threads + Wait + Sync, O: Observer<H> + Send + Drop + 'a>(
+        &'a self,
         rt: &R,
         root: &mut Worker<H, M, Q, W, V>,
-        hired: Vec<Hired<H, M, Q, W, V>>,
+        observer: &mut O,
+        hired: Vec<Hired<H, M, Q, W, V, O>>,
         most_ms: Option<u64>,
         until: Option<(u64, Handle)>,
         owes_notice: &mut bool,
-    ) -> (Ran, Vec<Hired<H, M, Q, W, V>>)
+    ) -> (Ran, Vec<Hired<H, M, Q, W, V, O>>)
         requires of { IsOf root.old self.now }
         requires idle { IsIdle root.old }
         requires limit { FitsLimit (known_by root.old).terms.run most_ms }
@@ -198,14 +260,13 @@ where
         ensures of { IsOf root.new self.now }
         ensures idle { IsIdle root.new }
         ensures kin { SameKin (known_by root.old) (known_by root.new) }
-        ensures runs { Runs ⟦<Self as Means>⟧.m most_ms until (known_by root.old)
-            (poster_view (poster_of root.old)) result.0 (known_by root.new)
-            (poster_view (poster_of root.new)) }
+        ensures runs { RunsObserved ⟦<Self as Means>⟧.m O.observes most_ms until
+            (loop_of root.old observer.old) result.0 (loop_of root.new observer.new) }
         ensures room { owes_notice.new ≡ true → length (posted_of root.new) < 2 ^ 56 }
         ensures once { length (posted_of root.new) + cond owes_notice.new 1 0
             ≤ length (posted_of root.old) + cond owes_notice.old 1 0 }
-        ensures back { AllZip (IsBack ⟦<Self as Means>⟧.m self.now most_ms until) hired.items
-            result.1.items }
+        ensures back { AllZip (IsBack ⟦<Self as Means>⟧.m O.observes self.now most_ms until)
+            hired.items result.1.items }
     {
         let mut crew = hired;
         let limit = most_ms;
@@ -216,19 +277,19 @@ where
                 × (owes_notice.now ≡ true → length (posted_of root.now) < 2 ^ 56) }
             ensures { IsOf root.exit.now self.entry.now × IsIdle root.exit.now
                 × SameKin (known_by root.entry.now) (known_by root.exit.now)
-                × Runs (meaning H.means M.facts M.keeps (Shows Q.timers) (HasPlaces Q.spare)
-                IsPlaced W.stands W.faults W.is_broken W.whole V.facts) most_ms until
-                (known_by root.entry.now) (poster_view (poster_of root.entry.now)) result
-                (known_by root.exit.now) (poster_view (poster_of root.exit.now))
+                × RunsObserved (meaning H.means M.facts M.keeps (Shows Q.timers)
+                (HasPlaces Q.spare) IsPlaced W.stands W.faults W.is_broken W.whole V.facts)
+                O.observes most_ms until (loop_of root.entry.now observer.entry.now) result
+                (loop_of root.exit.now observer.exit.now)
                 × (owes_notice.exit.now ≡ true → length (posted_of root.exit.now) < 2 ^ 56)
                 × (length (posted_of root.exit.now) + cond owes_notice.exit.now 1 0
                 ≤ length (posted_of root.entry.now) + cond owes_notice.entry.now 1 0) }
-        { self.work(rt, root, most_ms, until, owes_notice) };
+        { self.work(rt, root, observer, most_ms, until, owes_notice) };
         let mut theirs = ||
             requires { All (λ x. IsReady self.now limit x) crew.items }
             ensures { AllZip (IsBack (meaning H.means M.facts M.keeps (Shows Q.timers)
                 (HasPlaces Q.spare) IsPlaced W.stands W.faults W.is_broken W.whole V.facts)
-                self.entry.now limit end) crew.entry.items crew.exit.items }
+                O.observes self.entry.now limit end) crew.entry.items crew.exit.items }
         { self.work_all(rt, &mut crew, limit, end) };
         let (_, ran) = join_mut(rt, &mut theirs, &mut mine);
         (ran, crew)
@@ -236,29 +297,30 @@ where
 
     // The loops of hired workers, each on a thread of its own where one can be started, and else
     // one behind another.
-    fn work_all<R: Threads + Wait + Sync>(
+    fn work_all<R: Threads + Wait + Sync, O: Observer<H> + Send + Drop>(
         &self,
         rt: &R,
-        hired: &mut Vec<Hired<H, M, Q, W, V>>,
+        hired: &mut Vec<Hired<H, M, Q, W, V, O>>,
         most_ms: Option<u64>,
         until: Option<(u64, Handle)>,
     )
         requires { All (λ x. IsReady self.now most_ms x) hired.old.items }
-        ensures { AllZip (IsBack ⟦<Self as Means>⟧.m self.now most_ms until) hired.old.items
-            hired.new.items }
+        ensures { AllZip (IsBack ⟦<Self as Means>⟧.m O.observes self.now most_ms until)
+            hired.old.items hired.new.items }
     {
         self.work_each(rt, hired.as_mut_slice(), most_ms, until);
     }
 
-    fn work_each<R: Threads + Wait + Sync>(
+    fn work_each<R: Threads + Wait + Sync, O: Observer<H> + Send + Drop>(
         &self,
         rt: &R,
-        hired: &mut [Hired<H, M, Q, W, V>],
+        hired: &mut [Hired<H, M, Q, W, V, O>],
         most_ms: Option<u64>,
         until: Option<(u64, Handle)>,
     )
         requires { All (λ x. IsReady self.now most_ms x) hired.old }
-        ensures { AllZip (IsBack ⟦<Self as Means>⟧.m self.now most_ms until) hired.old hired.new }
+        ensures { AllZip (IsBack ⟦<Self as Means>⟧.m O.observes self.now most_ms until) hired.old
+            hired.new }
     {
         let threads = hired.len();
         if threads == 0 {
@@ -268,51 +330,63 @@ where
             rt,
             hired,
             threads,
-            &|_at: usize, seat: &mut Hired<H, M, Q, W, V>|
+            &|_at: usize, seat: &mut Hired<H, M, Q, W, V, O>|
                 requires { IsReady self.now most_ms seat.now }
                 ensures { IsBack (meaning H.means M.facts M.keeps (Shows Q.timers)
                     (HasPlaces Q.spare) IsPlaced W.stands W.faults W.is_broken W.whole V.facts)
-                    self.entry.now most_ms until seat.entry.now seat.exit.now }
+                    O.observes self.entry.now most_ms until seat.entry.now seat.exit.now }
             { self.work_seat(rt, seat, most_ms, until) },
         );
     }
 
     // The loop of one hired worker.
-    fn work_seat<R: Wait>(
+    fn work_seat<R: Wait, O: Observer<H>>(
         &self,
         rt: &R,
-        seat: &mut Hired<H, M, Q, W, V>,
+        seat: &mut Hired<H, M, Q, W, V, O>,
         most_ms: Option<u64>,
         until: Option<(u64, Handle)>,
     )
         requires { IsReady self.now most_ms seat.old }
-        ensures { IsBack ⟦<Self as Means>⟧.m self.now most_ms until seat.old seat.new }
+        ensures { IsBack ⟦<Self as Means>⟧.m O.observes self.now most_ms until seat.old seat.new }
     {
         let mut owes_notice = until.is_some();
-        seat.ran = self.work(rt, &mut seat.worker, most_ms, until, &mut owes_notice);
+        seat.ran = self.work(
+            rt,
+            &mut seat.worker,
+            &mut seat.observer,
+            most_ms,
+            until,
+            &mut owes_notice,
+        );
     }
 
-    // Dismisses the hired workers, and gives the answer that goes first of theirs and of the
-    // root's.
-    fn dismiss_all(
+    // Dismisses the hired workers, gives their observers back, and gives the answer that goes first
+    // of theirs and of the root's.
+    fn dismiss_all<O: Drop>(
         &self,
         root: &mut Worker<H, M, Q, W, V>,
-        hired: Vec<Hired<H, M, Q, W, V>>,
+        hired: Vec<Hired<H, M, Q, W, V, O>>,
+        observers: &mut Vec<O>,
         ran: Ran,
     ) -> Ran
         requires of { IsOf root.old self.now }
         requires root { (known_by root.old).root ≡ true }
         requires idle { IsIdle root.old }
         requires leave { All (λ x. MayLeave self.now x) hired.items }
+        requires empty { observers.old.items ≡ [] }
+        requires places { length hired.items ≤ vec_capacity observers.old }
         ensures of { IsOf root.new self.now }
         ensures idle { IsIdle root.new }
         ensures dismisses { Dismisses (worker_end ran root.old) (ends_of hired.items)
             (worker_end result root.new) }
+        ensures observers { observers.new.items ≡ observers_of hired.items }
     {
         let mut first = ran;
         for seat in hired {
-            let (worker, ran) = seat.into_parts();
+            let (worker, observer, ran) = seat.into_parts();
             self.dismiss(root, worker);
+            observers.push_reserved(observer);
             first = first.or_first(ran);
         }
         first

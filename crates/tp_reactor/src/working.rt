@@ -2,11 +2,11 @@
 ghost use Rattle.std.specs.Prelude.{◌≡◌, ◌<◌, ◌≤◌, ◌+◌, ◌^◌, length, None, Some, cond, true};
 ghost use Rattle.notify_ring.specs.Words.{poster_view};
 ghost use Rattle.reactor_core.specs.Polling.{FitsLimit};
-ghost use Rattle.tp_reactor.specs.Working.{JobReady, LedBefore, ServesAndLeads, MayPost, Goes};
-ghost use Rattle.tp_reactor.specs.Working.{Runs, first_ran};
+ghost use Rattle.tp_reactor.specs.Observed.{Goes, RunsObserved, ServesAndLeadsObserved, loop_of};
+ghost use Rattle.tp_reactor.specs.Working.{JobReady, LedBefore, MayPost, first_ran};
 ghost use Rattle.tp_reactor.specs.Words.{posted_of, known_by, poster_of, IsOf, IsIdle, SameKin};
 
-use crate::{Reactor, Worker};
+use crate::{Observer, Reactor, Worker};
 use ev_base::{Handle, Kind, Net, Wake};
 use reactor_core::{Job, Means, Settled};
 use reactor_desk::Led;
@@ -52,12 +52,13 @@ impl<
     V: Volumes<H::Note>,
     K: Wake,
 > Reactor<H, M, Q, W, V, K> {
-    /// Leads, runs the job, settles it and leads again, until a lead answers neither a job nor
-    /// Quiet.
-    pub(crate) fn work<R: Wait>(
+    /// Leads, runs the job, shows it to the observer, settles it and leads again, until a lead
+    /// answers neither a job nor Quiet.
+    pub(crate) fn work<R: Wait, O: Observer<H>>(
         &self,
         rt: &R,
         worker: &mut Worker<H, M, Q, W, V>,
+        observer: &mut O,
         most_ms: Option<u64>,
         until: Option<(u64, Handle)>,
         owes_notice: &mut bool,
@@ -69,9 +70,8 @@ impl<
         ensures of { IsOf worker.new self.now }
         ensures idle { IsIdle worker.new }
         ensures kin { SameKin (known_by worker.old) (known_by worker.new) }
-        ensures runs { Runs ⟦<Self as Means>⟧.m most_ms until (known_by worker.old)
-            (poster_view (poster_of worker.old)) result (known_by worker.new)
-            (poster_view (poster_of worker.new)) }
+        ensures runs { RunsObserved ⟦<Self as Means>⟧.m O.observes most_ms until
+            (loop_of worker.old observer.old) result (loop_of worker.new observer.new) }
         ensures room { owes_notice.new ≡ true → length (posted_of worker.new) < 2 ^ 56 }
         ensures once { length (posted_of worker.new) + cond owes_notice.new 1 0
             ≤ length (posted_of worker.old) + cond owes_notice.old 1 0 }
@@ -79,7 +79,7 @@ impl<
         self.turns.enter();
         let mut led = self.lead(rt, worker, most_ms);
         for _ in rt.forever() {
-            match self.round(rt, worker, led, most_ms, until, owes_notice) {
+            match self.round(rt, worker, observer, led, most_ms, until, owes_notice) {
                 Ok(next) => led = next,
                 Err(ran) => {
                     self.turns.leave();
@@ -90,12 +90,13 @@ impl<
         unreachable!()
     }
 
-    // One round, from what a lead answered: its job is run and settled, and the next lead is made.
-    // With an Err the loop ends.
-    fn round<R: Wait>(
+    // One round, from what a lead answered: its job is run, shown and settled, and the next lead is
+    // made. With an Err the loop ends.
+    fn round<R: Wait, O: Observer<H>>(
         &self,
         rt: &R,
         worker: &mut Worker<H, M, Q, W, V>,
+        observer: &mut O,
         led: Led<H>,
         most_ms: Option<u64>,
         until: Option<(u64, Handle)>,
@@ -107,15 +108,16 @@ impl<
         requires room { owes_notice.old ≡ true → length (posted_of worker.old) < 2 ^ 56 }
         ensures of { IsOf worker.new self.now }
         ensures kin { SameKin (known_by worker.old) (known_by worker.new) }
-        ensures goes { Goes ⟦<Self as Means>⟧.m most_ms until led (known_by worker.old)
-            (poster_view (poster_of worker.old)) result (known_by worker.new)
-            (poster_view (poster_of worker.new)) }
+        ensures goes { Goes ⟦<Self as Means>⟧.m O.observes most_ms until led
+            (loop_of worker.old observer.old) result (loop_of worker.new observer.new) }
         ensures room { owes_notice.new ≡ true → length (posted_of worker.new) < 2 ^ 56 }
         ensures once { length (posted_of worker.new) + cond owes_notice.new 1 0
             ≤ length (posted_of worker.old) + cond owes_notice.old 1 0 }
     {
         match led {
-            Led::Job(job) => Ok(self.serve(rt, worker, job, most_ms, until, owes_notice)),
+            Led::Job(job) => {
+                Ok(self.serve(rt, worker, observer, job, most_ms, until, owes_notice))
+            }
             Led::Quiet => Ok(self.lead_on(rt, worker, most_ms, self.follows_others(rt))),
             Led::Over => Err(Ran::Over),
             Led::Stopped => Err(Ran::Stopped),
@@ -126,11 +128,13 @@ impl<
         }
     }
 
-    // Runs a job, settles it and leads again. Where a notice is due it is posted before that.
-    fn serve<R: Wait>(
+    // Runs a job, shows it to the observer, settles it and leads again. Where a notice is due it is
+    // posted before that.
+    fn serve<R: Wait, O: Observer<H>>(
         &self,
         rt: &R,
         worker: &mut Worker<H, M, Q, W, V>,
+        observer: &mut O,
         job: Job<H>,
         most_ms: Option<u64>,
         until: Option<(u64, Handle)>,
@@ -141,14 +145,14 @@ impl<
         requires limit { FitsLimit (known_by worker.old).terms.run most_ms }
         requires room { owes_notice.old ≡ true → length (posted_of worker.old) < 2 ^ 56 }
         ensures of { IsOf worker.new self.now }
-        ensures serves { ServesAndLeads ⟦<Self as Means>⟧.m most_ms until job (known_by worker.old)
-            (poster_view (poster_of worker.old)) result (known_by worker.new)
-            (poster_view (poster_of worker.new)) }
+        ensures serves { ServesAndLeadsObserved ⟦<Self as Means>⟧.m O.observes most_ms until job
+            (loop_of worker.old observer.old) result (loop_of worker.new observer.new) }
         ensures room { owes_notice.new ≡ true → length (posted_of worker.new) < 2 ^ 56 }
         ensures once { length (posted_of worker.new) + cond owes_notice.new 1 0
             ≤ length (posted_of worker.old) + cond owes_notice.old 1 0 }
     {
         let done = job.run();
+        observer.observe(&done);
         let pause_at = if *owes_notice {
             until.map(|(count, _)| count)
         } else {

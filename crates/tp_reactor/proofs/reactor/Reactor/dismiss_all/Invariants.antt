@@ -1,7 +1,7 @@
-use Rattle.std.proofs.Common.{◌≡◌, All, true}
+use Rattle.std.proofs.Common.{◌≡◌, ◌≤◌, ◌+◌, ◌++◌, All, length, true, vec_capacity}
 use Rattle.std.specs.Vec.Iter.{into_iter_items}
 use Rattle.notify_ring.specs.Words.{poster_view}
-use Rattle.tp_reactor.specs.Hired.{MayLeave, ends_of}
+use Rattle.tp_reactor.specs.Hired.{MayLeave, ends_of, observers_of}
 use Rattle.tp_reactor.specs.Pool.{Dismisses, WorkerEnd}
 use Rattle.tp_reactor.specs.Words.{IsIdle, IsOf, known_by, poster_of}
 use Rattle.tp_reactor.proofs.reactor.Reactor.dismiss_all.Given as goal
@@ -14,6 +14,10 @@ invariant-loop-seat g l = record {
   root : (known_by l.root).root ≡ true;
   idle : IsIdle l.root;
   leave : All (λ x. MayLeave l.fn.self x) (into_iter_items l.seat-iterator);
+  observers : l.observers.items ++ observers_of (into_iter_items l.seat-iterator)
+      ≡ observers_of l.fn.hired.items;
+  places : length l.observers.items + length (into_iter_items l.seat-iterator)
+      ≤ vec_capacity l.observers;
   done : (left : WorkerEnd g.row.H-Note.Denot)
       → Dismisses (record {
         ran = l.first;
