@@ -1,2 +1,3 @@
 pub mod Audits
 pub mod Laws
+pub use Rattle.journal_reader

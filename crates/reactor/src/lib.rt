@@ -4,7 +4,7 @@
 //! `Rattle.reactor.specs.NAME`.
 #![tactic(auto)]
 
-pub use core_loop::{RunEnd, close, poll, register, run, turn};
+pub use core_loop::{RunEnd, close, poll, post, register, run, turn};
 pub use ev_base::{
     Answer, Got, Handle, Host, Kind, ListenRefused, Mask, Net, NetFailed, NoMemory, PeerEnd,
     Report, Sent, Sink, Source, StdSink, StdSource, Taken, Upcall, Waited, Wake, Why, Wrote,
@@ -14,10 +14,9 @@ pub use reactor_core::{
     CancelRefused, Core, Done, HandOverRefused, Job, LiveRefused, Means, NotLive, Parts,
     PollRefused, Polled, PostRefused, RegisterRefused, Settled, StartRefused, StateRefused,
 };
-pub use reactor_desk::Led;
 pub use reactor_model::{
     Act, CheckRefused, DropVolumes, Entry, EventHandler, Journal, MemVolumes, NoWatch, TakeRefused,
     Turn, Volumes, Watch, check,
 };
 pub use timer_queue::{SortedTimers, Timer, TimerQueue};
-pub use tp_reactor::{Ran, Reactor, Worker};
+pub use tp_reactor::{Led, NoObserver, Observer, Ran, Reactor, Worker};

@@ -1,12 +1,12 @@
 -- What a worker is behind each of its calls.
 use Rattle.std.proofs.Common.{ℕ, ◌≡◌, List, sym, ap, ◌∙◌, subst, Option, None}
-use Rattle.reactor_desk.specs.leader_token.specs.Passes.{put_view}
-use Rattle.reactor_desk.specs.leader_token.specs.declared.kept.Kept.{Ghosts as Keeping}
-use Rattle.reactor_desk.specs.leader_token.specs.declared.kept.View.{View}
+use Rattle.tp_reactor.specs.leader_token.specs.Passes.{put_view}
+use Rattle.tp_reactor.specs.leader_token.specs.declared.kept.Kept.{Ghosts as Keeping}
+use Rattle.tp_reactor.specs.leader_token.specs.declared.kept.View.{View}
 use Rattle.notify_ring.specs.Words.{poster_view}
 use Rattle.notify_ring.specs.declared.parts.Poster.{Poster}
 use Rattle.reactor_model.specs.reactor_journal.specs.declared.entry.Entry.{Entry}
-use Rattle.reactor_desk.specs.declared.terms.DeskTerms.{DeskTerms}
+use Rattle.tp_reactor.specs.reactor_desk.specs.declared.terms.DeskTerms.{DeskTerms}
 use Rattle.tp_reactor.specs.Words.{known_by, poster_of, IsOf}
 use Rattle.timer_queue.specs.Content.{Content}
 use Rattle.demux.specs.declared.play_end.PlayEnd.{PlayEnd}

@@ -3,8 +3,8 @@
 use Rattle.std.specs.Prelude.{ℕ, ◌≡◌, ◌+◌, ◌-◌, true, List, Option, Some, None}
 use Rattle.ev_base.specs.Terms.{Terms}
 use Rattle.demux.specs.declared.play_end.PlayEnd.{PlayEnd}
-use Rattle.reactor_desk.specs.list_lemmas.specs.Times.{times}
-use Rattle.reactor_desk.specs.leader_token.specs.declared.kept.Kept.{Ghosts as Keeping}
+use Rattle.tp_reactor.specs.list_lemmas.specs.Times.{times}
+use Rattle.tp_reactor.specs.leader_token.specs.declared.kept.Kept.{Ghosts as Keeping}
 use Rattle.notify_ring.specs.Words.{poster_view}
 use Rattle.timer_queue.specs.Content.{Content}
 use Rattle.reactor_model.specs.reactor_journal.specs.declared.entry.Entry.{Entry}
@@ -16,8 +16,8 @@ use Rattle.reactor_core.specs.Views.{done_event}
 use Rattle.reactor_core.specs.declared.job.Done.{Done}
 use Rattle.reactor_core.specs.declared.reactor.Core.{Core}
 use Rattle.reactor_core.specs.laws_turns.specs.Opens.{opens_of}
-use Rattle.reactor_desk.specs.declared.terms.DeskTerms.{DeskTerms}
-use Rattle.reactor_desk.specs.declared.desk.Desk.{Desk}
+use Rattle.tp_reactor.specs.reactor_desk.specs.declared.terms.DeskTerms.{DeskTerms}
+use Rattle.tp_reactor.specs.reactor_desk.specs.declared.desk.Desk.{Desk}
 use Rattle.tp_reactor.specs.Words.{known_by, poster_of, IsIdle, IsOf, SameKin}
 use Rattle.tp_reactor.specs.declared.reactor.Reactor.{Reactor}
 use Rattle.tp_reactor.specs.declared.reactor.Worker.{Worker}

@@ -1,2 +1,3 @@
 pub mod Members
 pub mod Callers
+pub use Rattle.tp_reactor

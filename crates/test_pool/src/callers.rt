@@ -16,13 +16,12 @@ use reactor_core::{
     CancelRefused, Core, Done, LiveRefused, Means, NotLive, Parts, RegisterRefused, Settled,
     StateRefused,
 };
-use reactor_desk::Led;
 use reactor_model::{NoWatch, Volumes};
 use std::alloc::Global;
 use std::sync::Wait;
 use std::thread::Threads;
 use timer_queue::SortedTimers;
-use tp_reactor::{Ran, Reactor, Worker};
+use tp_reactor::{Led, Ran, Reactor, Worker};
 
 /// A pool of members over a net and volumes.
 pub type Pool<M, V, K> = Reactor<Member, M, SortedTimers, NoWatch, V, K>;

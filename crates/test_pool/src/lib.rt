@@ -9,3 +9,4 @@ pub use callers::{
     register, remove, resume, run_pool, schedule, settle, share, stop, suspend,
 };
 pub use member::{Meeting, Member, next_number};
+pub use tp_reactor::Ran;

@@ -79,7 +79,10 @@ static CALLS: [(&str, &str); 8] = [
     ("one", "127.0.0.1: one"),
     ("serve --port 7000", "127.0.0.1: serve --port 7000"),
     ("serve --address ::1 --port 7000", "::1: serve --port 7000"),
-    ("serve --port 7000 --address=0.0.0.0", "0.0.0.0: serve --port 7000"),
+    (
+        "serve --port 7000 --address=0.0.0.0",
+        "0.0.0.0: serve --port 7000",
+    ),
     ("serve --address 1.2.3 --port 7000", "none"),
 ];
 

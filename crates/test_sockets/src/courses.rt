@@ -213,9 +213,7 @@ fn is_refused(mut host: MioHost<HostRuntime>, alloc: Global, port: u16) -> bool 
     let free = listen(&mut host, alloc, 0);
     host.set_address(NOBODY);
     let foreign = listen(&mut host, alloc, 0);
-    taken == Err(ListenRefused::Failed)
-        && free == Ok(())
-        && foreign == Err(ListenRefused::Failed)
+    taken == Err(ListenRefused::Failed) && free == Ok(()) && foreign == Err(ListenRefused::Failed)
 }
 
 /// Opens files until no descriptor is left. Nothing, where many more than a process mostly has are

@@ -11,7 +11,6 @@ use std::sync::{Arc, Wait};
 use std::test::Fail;
 use std::thread::Threads;
 use test_pool::*;
-use tp_reactor::Ran;
 
 /// How many turns an upcall waits for the other at most.
 const TURNS: u64 = 100_000_000;

@@ -1,6 +1,6 @@
 //! Runs of pools of several workers, whose journals are legal whatever the schedule.
 ghost use Rattle.std.specs.Prelude.{◌≡◌, ◌≤◌, true, false};
-ghost use Rattle.tp_reactor.specs.Words.{SameKin, known_by};
+ghost use Rattle.test_pool.specs.tp_reactor.specs.Words.{SameKin, known_by};
 ghost use Rattle.test_pool.specs.Callers.{IsFree, IsRoot, SameRank};
 
 use crate::asserts::{assert_in, assert_same, assert_same_in};
@@ -14,7 +14,6 @@ use std::sync::Wait;
 use std::test::Fail;
 use std::thread::{Threads, join_mut};
 use test_pool::*;
-use tp_reactor::Ran;
 
 /// How many handles a large run has.
 const HANDLES: usize = 64;

@@ -2,7 +2,7 @@
 //! and which entries are to stand in the end.
 ghost use Rattle.std.specs.Prelude.{◌≡◌, ◌≤◌, IfOk, length, true, false};
 ghost use Rattle.demux.specs.PlayNet.{do_not_fall, are_bounded};
-ghost use Rattle.tp_reactor.specs.Words.{known_by};
+ghost use Rattle.test_pool.specs.tp_reactor.specs.Words.{known_by};
 ghost use Rattle.test_pool.specs.Callers.{IsFree, IsOutOrFree, IsRoot, SameRank};
 
 use demux::PlayNet;

@@ -15,7 +15,7 @@ pub use ev_base::{Net, PeerEnd};
 pub use observer::{NoObserver, Observer};
 pub use reactor::{Reactor, Worker};
 pub use reactor_core::{Core, Means, Parts, RegisterRefused};
-pub use reactor_desk::Desk;
+pub use reactor_desk::{Desk, Led};
 pub use reactor_model::{EventHandler, Journal, Volumes, Watch};
 pub use timer_queue::TimerQueue;
 pub use working::Ran;

@@ -10,8 +10,9 @@ use std::sync::Wait;
 use std::thread::Threads;
 use std::time::{Clock, Instant};
 use test_nets::RoundRobinNet;
-use test_pool::{Left, Member, NoPool, Pool, PoolWorker, Still, close, register, run_pool, share};
-use tp_reactor::Ran;
+use test_pool::{
+    Left, Member, NoPool, Pool, PoolWorker, Ran, Still, close, register, run_pool, share,
+};
 
 /// How many reports a wait gives.
 pub const EVENTS_OF_WAIT: usize = 256;

@@ -16,18 +16,18 @@ use Rattle.cmd_line.specs.Ranges.{AreInRange, IsWithin}
 use Rattle.cmd_line.specs.declared.options.Form.{Form}
 use Rattle.cmd_line.specs.declared.options.Form.TheVariants.{Journal}
 use Rattle.cmd_line.specs.declared.options.Options.{Options}
-use Rattle.cmd_replay.specs.acceptor.specs.Servers.{servers}
-use Rattle.cmd_replay.specs.acceptor.specs.declared.server.ServerHandler.{ServerHandler}
-use Rattle.cmd_replay.specs.Outputs.{Writes, text_in}
-use Rattle.cmd_replay.specs.Replaying.{Replays, ReplaysWhole, ServesText}
-use Rattle.cmd_replay.specs.Replays.{RunsScript, asked_by, terms_in}
-use Rattle.cmd_replay.specs.Runs.{IsScriptRun}
-use Rattle.cmd_replay.specs.declared.ends.Played.{Played}
-use Rattle.cmd_replay.specs.declared.ends.ReplayEnd.{ReplayEnd}
-use Rattle.cmd_replay.specs.declared.ends.ReplayEnd.TheVariants.{Done}
-use Rattle.cmd_replay.specs.laws_script_served.proofs.Scripts.{text-steps}
-use Rattle.cmd_replay.specs.server_run.specs.Journals.{HasNotices}
-use Rattle.cmd_replay.specs.server_run.specs.declared.asked.Asked.{Asked}
+use Rattle.cmd_gen.specs.cmd_replay.specs.acceptor.specs.Servers.{servers}
+use Rattle.cmd_gen.specs.cmd_replay.specs.acceptor.specs.declared.server.ServerHandler.{ServerHandler}
+use Rattle.cmd_gen.specs.cmd_replay.specs.Outputs.{Writes, text_in}
+use Rattle.cmd_gen.specs.cmd_replay.specs.Replaying.{Replays, ReplaysWhole, ServesText}
+use Rattle.cmd_gen.specs.cmd_replay.specs.Replays.{RunsScript, asked_by, terms_in}
+use Rattle.cmd_gen.specs.cmd_replay.specs.Runs.{IsScriptRun}
+use Rattle.cmd_gen.specs.cmd_replay.specs.declared.ends.Played.{Played}
+use Rattle.cmd_gen.specs.cmd_replay.specs.declared.ends.ReplayEnd.{ReplayEnd}
+use Rattle.cmd_gen.specs.cmd_replay.specs.declared.ends.ReplayEnd.TheVariants.{Done}
+use Rattle.cmd_gen.specs.cmd_replay.specs.laws_script_served.proofs.Scripts.{text-steps}
+use Rattle.cmd_gen.specs.cmd_replay.specs.server_run.specs.Journals.{HasNotices}
+use Rattle.cmd_gen.specs.cmd_replay.specs.server_run.specs.declared.asked.Asked.{Asked}
 use Rattle.laws_journal_limits.proofs.Entries.{journal_within}
 use Rattle.laws_journal_limits.proofs.Scripts.{text_within}
 use Rattle.log_handler.specs.declared.note.ServerNote.{ServerNote}
@@ -38,9 +38,9 @@ use Rattle.script_net.specs.ScriptEnd.{script_end_facts, ScriptEndKeeps}
 use Rattle.script_net.specs.declared.end.ScriptEnd.{ScriptEnd}
 use Rattle.script_net.specs.event_script.specs.Grammar.{last_moment}
 use Rattle.script_net.specs.event_script.specs.Script.{ScriptGroup}
-use Rattle.laws_replay_audit.specs.Laws.{ReplaysToText}
-use Rattle.journal_reader.specs.Journals.{IsJournalText}
-use Rattle.journal_reader.specs.Limits.{EntryIsWithin}
+use Rattle.logging_server.specs.Laws.{ReplaysToText}
+use Rattle.cmd_audit.specs.journal_reader.specs.Journals.{IsJournalText}
+use Rattle.cmd_audit.specs.journal_reader.specs.Limits.{EntryIsWithin}
 
 same_text : (a b : List ℕ) → ◌≡◌ {A = Option (List ℕ)} (Some a) (Some b) → a ≡ b
 same_text a b q = cc

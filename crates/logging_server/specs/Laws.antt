@@ -9,9 +9,9 @@ use Rattle.cmd_audit.specs.declared.auditing.AuditEnd.{AuditEnd}
 use Rattle.cmd_line.specs.Ranges.{AreInRange}
 use Rattle.cmd_line.specs.declared.options.Form.TheVariants.{Journal}
 use Rattle.cmd_line.specs.declared.options.Options.{Options}
-use Rattle.cmd_replay.specs.Replaying.{Replays}
-use Rattle.cmd_replay.specs.declared.ends.Played.{Played}
-use Rattle.cmd_replay.specs.declared.ends.ReplayEnd.TheVariants.{Done}
+use Rattle.cmd_gen.specs.cmd_replay.specs.Replaying.{Replays}
+use Rattle.cmd_gen.specs.cmd_replay.specs.declared.ends.Played.{Played}
+use Rattle.cmd_gen.specs.cmd_replay.specs.declared.ends.ReplayEnd.TheVariants.{Done}
 use Rattle.log_handler.specs.declared.note.ServerNote.{ServerNote}
 use Rattle.reactor_model.specs.Volumes.{VolumesFacts}
 use Rattle.script_net.specs.declared.end.ScriptEnd.{ScriptEnd}

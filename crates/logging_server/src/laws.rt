@@ -1,7 +1,7 @@
 //! The law of the two commands. The function has an empty body: what it says is its contract, over
 //! what the contracts of both commands say.
 
-ghost use Rattle.laws_replay_audit.specs.Laws.{ReplayedJournalsPass};
+ghost use Rattle.logging_server.specs.Laws.{ReplayedJournalsPass};
 
 use ev_base::{PeerEnd, Sink};
 use log_handler::ServerNote;

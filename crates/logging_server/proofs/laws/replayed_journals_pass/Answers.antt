@@ -1,5 +1,5 @@
-use Rattle.laws_replay_audit.proofs.Passing.{replayed_pass}
-use Rattle.laws_replay_audit.proofs.laws.replayed_journals_pass.Goals as goal
+use Rattle.logging_server.proofs.Passing.{replayed_pass}
+use Rattle.logging_server.proofs.laws.replayed_journals_pass.Goals as goal
 
 pub returns : goal.returns
 returns g c options limit i j output volumes played text replays most given k l o p how told audits =
