@@ -172,16 +172,18 @@ covers_removed index old new t moved covers u has =
     covers u (Contains-permutation (t ∷ new) old u (IsPermutation-sym old (t ∷ new) moved)
     (Contains-append_right (t ∷ []) new u has))
 
-pub kept_removed : (spokes resolution : ℕ) (heads new_heads : List (Option ℕ))
+pub kept_removed : (spokes resolution new_resolution : ℕ) (heads new_heads : List (Option ℕ))
     (places new : List Place) (first new_first : Option Timer) (index : List Numbered)
     (room places_room new_room index_room : ℕ) (t : Timer)
     → IsKept spokes resolution heads places first index room places_room index_room
     → IsWheel (length heads) resolution new_heads new new_first
-    → IsPermutation (timers_of places) (t ∷ timers_of new) → new_room ≡ places_room
-    → IsKept spokes resolution new_heads new new_first index room new_room index_room
-kept_removed spokes resolution heads new_heads places new first new_first index room places_room
-    new_room index_room t k w moved same = record {
-      wheel = subst (λ n. IsWheel n resolution new_heads new new_first) k.wheel.each_spoke w;
+    → IsPermutation (timers_of places) (t ∷ timers_of new) → new_resolution ≡ resolution
+    → new_room ≡ places_room → IsKept spokes new_resolution new_heads new new_first index room new_room
+    index_room
+kept_removed spokes resolution new_resolution heads new_heads places new first new_first index room
+    places_room new_room index_room t k w moved ticks same = record {
+      wheel = subst (λ r. IsWheel spokes r new_heads new new_first) (sym ticks)
+          (subst (λ n. IsWheel n resolution new_heads new new_first) k.wheel.each_spoke w);
       rising = k.rising;
       covers = covers_removed index (timers_of places) (timers_of new) t moved k.covers;
       fits = omega (arith, k.fits, fewer_places t places new k.wheel.apart moved);

@@ -1,13 +1,14 @@
 //! The timer of a wheel that comes due first.
-ghost use Rattle.std.specs.Prelude.{◌≡◌, ◌<◌, ◌≤◌, length, All};
+ghost use Rattle.std.specs.Prelude.{◌≡◌, ◌<◌, ◌≤◌, All};
 ghost use Rattle.timer_queue.specs.declared.timer.Timer.{Timer};
-ghost use Rattle.timer_queue.specs.Timers.{in_order, AreApart};
+ghost use Rattle.timer_queue.specs.Timers.{AreApart};
 ghost use Rattle.timer_wheel.specs.Spokes.{timers_of};
-ghost use Rattle.timer_wheel.specs.Chains.{AreChains, earlier_at, earlier_of, IsEarliest};
-ghost use Rattle.timer_wheel.specs.Chains.{head_timer, in_tick, is_behind};
+ghost use Rattle.timer_wheel.specs.Chains.{earlier_at, earlier_of, IsEarliest, head_timer};
+ghost use Rattle.timer_wheel.specs.Chains.{in_tick, is_behind};
+ghost use Rattle.timer_wheel.specs.Linked.{AreChains, timers_in};
 
 use crate::Place;
-use crate::chain::spoke;
+use crate::chain::{Chains, spoke};
 use timer_queue::Timer;
 
 // The one that comes first.
@@ -58,39 +59,6 @@ fn earlier_at(places: &[Place], first: Option<Timer>, head: Option<usize>) -> Op
     earlier(first, place.timer)
 }
 
-// The first of the timers, by the heads of the spokes.
-fn first_of_heads(heads: &[Option<usize>], places: &[Place], resolution: u64) -> Option<Timer>
-    requires ticks { 0 < resolution }
-    requires spokes { 0 < length heads.now }
-    requires apart { AreApart (timers_of places.now) }
-    requires chains { AreChains (length heads.now) resolution heads.now places.now
-        (in_order (timers_of places.now)) }
-    ensures { IsEarliest places.now result }
-{
-    let mut first = None;
-    for head in heads {
-        first = earlier_at(places, first, *head);
-    }
-    first
-}
-
-// The first of the timers. It looks at no more of them than there are, and at no more than there
-// are spokes.
-pub fn find_first(heads: &[Option<usize>], places: &[Place], resolution: u64) -> Option<Timer>
-    requires ticks { 0 < resolution }
-    requires spokes { 0 < length heads.now }
-    requires apart { AreApart (timers_of places.now) }
-    requires chains { AreChains (length heads.now) resolution heads.now places.now
-        (in_order (timers_of places.now)) }
-    ensures { IsEarliest places.now result }
-{
-    if places.len() <= heads.len() {
-        first_of_places(places)
-    } else {
-        first_of_heads(heads, places, resolution)
-    }
-}
-
 // The timer at a head, where its tick is this many after another.
 fn head_of_tick(
     places: &[Place],
@@ -119,33 +87,53 @@ fn ticks_to_try(spokes: usize, timers: usize) -> usize {
     spokes.min(timers / 4)
 }
 
-// The first of the timers, where none comes due before `from`. It is sought tick by tick from that
-// moment on, and behind a turn of the wheel, or sooner where there are few timers, among all.
-pub fn find_next(
-    heads: &[Option<usize>],
-    places: &[Place],
-    resolution: u64,
-    from: u64,
-) -> Option<Timer>
-    requires ticks { 0 < resolution }
-    requires spokes { 0 < length heads.now }
-    requires apart { AreApart (timers_of places.now) }
-    requires chains { AreChains (length heads.now) resolution heads.now places.now
-        (in_order (timers_of places.now)) }
-    requires from { All (λ (t : Timer). from ≤ t.deadline) (timers_of places.now) }
-    ensures { IsEarliest places.now result }
-{
-    let tick = from / resolution;
-    let mut at = spoke(heads.len(), resolution, from);
-    for turn in 0..ticks_to_try(heads.len(), places.len()) {
-        let found = head_of_tick(places, heads[at], resolution, tick, turn);
-        if found.is_some() {
-            return found;
+impl Chains {
+    // The first of the timers, by the heads of the spokes.
+    fn first_of_heads(&self) -> Option<Timer>
+        requires { AreChains self.now }
+        ensures { IsEarliest self.now.places.items result }
+    {
+        let mut first = None;
+        for head in &self.heads {
+            first = earlier_at(&self.places, first, *head);
         }
-        at += 1;
-        if at == heads.len() {
-            at = 0;
+        first
+    }
+
+    // The first of the timers. It looks at no more of them than there are, and at no more than
+    // there are spokes.
+    fn find_first(&self) -> Option<Timer>
+        requires { AreChains self.now }
+        ensures { IsEarliest self.now.places.items result }
+    {
+        if self.places.len() <= self.heads.len() {
+            first_of_places(&self.places)
+        } else {
+            self.first_of_heads()
         }
     }
-    find_first(heads, places, resolution)
+
+    // The first of the timers, where none comes due before `from`. It is sought tick by tick from
+    // that moment on, and behind a turn of the wheel, or sooner where there are few timers, among
+    // all.
+    pub fn next_from(&self, from: u64) -> Option<Timer>
+        requires from { All (λ (t : Timer). from ≤ t.deadline) (timers_in self.now) }
+        requires chains { AreChains self.now }
+        ensures { IsEarliest self.now.places.items result }
+    {
+        let spokes = self.heads.len();
+        let tick = from / self.resolution;
+        let mut at = spoke(spokes, self.resolution, from);
+        for turn in 0..ticks_to_try(spokes, self.places.len()) {
+            let found = head_of_tick(&self.places, self.heads[at], self.resolution, tick, turn);
+            if found.is_some() {
+                return found;
+            }
+            at += 1;
+            if at == spokes {
+                at = 0;
+            }
+        }
+        self.find_first()
+    }
 }

@@ -6,7 +6,7 @@ ghost use Rattle.timer_wheel.specs.declared.place.Place.{Place};
 ghost use Rattle.timer_wheel.specs.Spokes.{spoke_of};
 
 use crate::Place;
-use crate::chain::spoke;
+use crate::chain::{Chains, spoke};
 use timer_queue::Timer;
 
 // The turns of the wheel before a timer's own of which the hints are tried.
@@ -28,38 +28,6 @@ fn is_near(places: &[Place], head: Option<usize>, t: &Timer) -> bool {
         }
     }
     false
-}
-
-// A place but `hole` whose timer stands in the spoke of this one and comes before it, where a hint
-// names one and the head is not near.
-pub fn start_for(
-    hints: &[usize],
-    places: &[Place],
-    head: Option<usize>,
-    spokes: usize,
-    resolution: u64,
-    t: &Timer,
-    hole: usize,
-) -> Option<usize>
-    requires spokes { 0 < spokes }
-    requires ticks { 0 < resolution }
-    ensures { (k : ℕ) (p : Place) → result ≡ Some k → slice_get places.now k ≡ Some p → (k ≢ hole)
-        × (spoke_of spokes resolution p.timer.deadline ≡ spoke_of spokes resolution t.now.deadline)
-        × (comes_before p.timer t.now ≡ true) }
-{
-    if is_near(places, head, t) {
-        return None;
-    }
-    let own = spoke(spokes, resolution, t.deadline);
-    let mut tick = t.deadline / resolution;
-    for _ in 0..TURNS {
-        let k = hint_of(hints, tick)?;
-        if k != hole && is_start(places, k, spokes, resolution, own, t) {
-            return Some(k);
-        }
-        tick = tick.checked_sub(spokes as u64)?;
-    }
-    None
 }
 
 // The hint of a tick, where there are hints.
@@ -90,6 +58,35 @@ fn is_start(
             place.timer.comes_before(t) && spoke(spokes, resolution, place.timer.deadline) == own
         }
         None => false,
+    }
+}
+
+impl Chains {
+    // A place but `hole` whose timer stands in the spoke of this one and comes before it, where a
+    // hint names one and the head is not near.
+    pub fn start_for(&self, head: Option<usize>, t: &Timer, hole: usize) -> Option<usize>
+        requires spokes { 0 < length self.now.heads.items }
+        requires ticks { 0 < self.now.resolution }
+        ensures { (k : ℕ) (p : Place) → result ≡ Some k → slice_get self.now.places.items k ≡ Some p
+            → (k ≢ hole)
+            × (spoke_of (length self.now.heads.items) self.now.resolution p.timer.deadline
+            ≡ spoke_of (length self.now.heads.items) self.now.resolution t.now.deadline)
+            × (comes_before p.timer t.now ≡ true) }
+    {
+        if is_near(&self.places, head, t) {
+            return None;
+        }
+        let spokes = self.heads.len();
+        let own = spoke(spokes, self.resolution, t.deadline);
+        let mut tick = t.deadline / self.resolution;
+        for _ in 0..TURNS {
+            let k = hint_of(&self.hints, tick)?;
+            if k != hole && is_start(&self.places, k, spokes, self.resolution, own, t) {
+                return Some(k);
+            }
+            tick = tick.checked_sub(spokes as u64)?;
+        }
+        None
     }
 }
 

@@ -4,11 +4,12 @@ ghost use Rattle.std.specs.Prelude.{Contains, ◌∷◌, vec_capacity};
 ghost use Rattle.std.specs.List.Sorted.{IsPermutation};
 ghost use Rattle.timer_queue.specs.Timers.{in_order};
 ghost use Rattle.timer_wheel.specs.Chains.{ComesForward, IsWheel};
+ghost use Rattle.timer_wheel.specs.Linked.{KeepShape, timers_in};
 ghost use Rattle.timer_wheel.specs.Spokes.{timers_of, of_spoke, Follows};
 
 use crate::Place;
-use crate::chain::{add, find, no_heads, take_out};
-use crate::first::{earlier, find_next, is_behind};
+use crate::chain::Chains;
+use crate::first::{earlier, is_behind};
 use crate::hint::fill_up;
 use crate::index::enter;
 use ev_types::{Handle, NoMemory};
@@ -25,15 +26,7 @@ const LEAST_ENTRIES: usize = 512;
 /// is its deadline by the resolution.
 #[derive(Drop)]
 pub struct WheelTimers<const SPOKES: usize> {
-    // The first place of each spoke.
-    heads: Vec<Option<usize>>,
-    // The timers that are scheduled. Each is in the chain of its spoke.
-    places: Vec<Place>,
-    // For ticks, places near which their timers stand. One may be out of date: it is looked at only
-    // for where to begin.
-    hints: Vec<usize>,
-    // The milliseconds of a tick.
-    resolution: u64,
+    chains: Chains,
     // The timer that comes due first.
     first: Option<Timer>,
     // By number. A timer that left may still have an entry, which leads to no timer.
@@ -50,14 +43,15 @@ impl<const SPOKES: usize> Model for WheelTimers<SPOKES> {
     ghost Value = { Content };
 
     ghost view = { λ w. record {
-      heads = w.heads.items;
-      places = w.places.items;
-      resolution = w.resolution;
-      spare = w.room - length w.places.items;
+      heads = w.chains.heads.items;
+      places = w.chains.places.items;
+      resolution = w.chains.resolution;
+      spare = w.room - length w.chains.places.items;
     } };
 
-    ghost invariant = { λ w. IsKept SPOKES w.resolution w.heads.items w.places.items w.first
-        w.index.items w.room (vec_capacity w.places) (vec_capacity w.index) };
+    ghost invariant = { λ w. IsKept SPOKES w.chains.resolution w.chains.heads.items
+        w.chains.places.items w.first w.index.items w.room (vec_capacity w.chains.places)
+        (vec_capacity w.index) };
 }
 
 impl<const SPOKES: usize> WheelTimers<SPOKES> {
@@ -70,12 +64,9 @@ impl<const SPOKES: usize> WheelTimers<SPOKES> {
         ensures places { IfOk result (λ w. w.places ≡ []) }
         ensures ticks { IfOk result (λ w. w.resolution ≡ resolution) }
     {
-        let heads = no_heads(alloc, SPOKES)?;
+        let chains = Chains::new(alloc, SPOKES, resolution)?;
         Ok(WheelTimers {
-            heads,
-            places: Vec::new(alloc),
-            hints: Vec::new(alloc),
-            resolution,
+            chains,
             first: None,
             index: Vec::new(alloc),
             room: 0,
@@ -91,14 +82,14 @@ impl<const SPOKES: usize> WheelTimers<SPOKES> {
             (slice_index_or result.now spoke None)
             (of_spoke SPOKES self.now.resolution spoke (in_order (timers_of self.now.places))) }
     {
-        &self.heads
+        &self.chains.heads
     }
 
     /// Lends the places.
     pub fn places(&self) -> &[Place]
         ensures { result.now ≡ self.now.places }
     {
-        &self.places
+        &self.chains.places
     }
 }
 
@@ -108,7 +99,7 @@ impl<const SPOKES: usize> TimerQueue for WheelTimers<SPOKES> {
     ghost spare = { λ w. w.spare };
 
     fn reserve(&mut self, n: usize) -> Result<(), NoMemory> {
-        let held = self.places.len();
+        let held = self.chains.places.len();
         if n <= self.room - held {
             return Ok(());
         }
@@ -119,24 +110,23 @@ impl<const SPOKES: usize> TimerQueue for WheelTimers<SPOKES> {
         let Some(entries) = end.checked_mul(2) else {
             return Err(NoMemory);
         };
-        self.hints.reserve(end.saturating_sub(self.hints.len()))?;
+        let hints = end.saturating_sub(self.chains.hints.len());
+        self.chains.hints.reserve(hints)?;
         let wanted = entries.max(LEAST_ENTRIES);
         self.index.reserve(wanted.saturating_sub(self.index.len()))?;
-        self.places.reserve(n)?;
-        self.room = self.places.capacity().min(self.index.capacity() / 2);
-        fill_up(&mut self.hints, &self.places, self.resolution);
+        self.chains.places.reserve(n)?;
+        self.room = self.chains.places.capacity().min(self.index.capacity() / 2);
+        fill_up(
+            &mut self.chains.hints,
+            &self.chains.places,
+            self.chains.resolution,
+        );
         Ok(())
     }
 
     fn schedule(&mut self, t: Timer) {
-        enter(&mut self.index, &self.places, &t);
-        add(
-            &mut self.heads,
-            &mut self.places,
-            &mut self.hints,
-            self.resolution,
-            t,
-        );
+        enter(&mut self.index, &self.chains.places, &t);
+        self.chains.add(t);
         self.first = earlier(self.first, t);
     }
 
@@ -144,42 +134,22 @@ impl<const SPOKES: usize> TimerQueue for WheelTimers<SPOKES> {
         let Some(entry) = entry_of(&self.index, timer) else {
             return false;
         };
-        let Some(t) = find(
-            &self.heads,
-            &self.places,
-            &self.hints,
-            self.resolution,
-            entry,
-        ) else {
+        let Some(t) = self.chains.find(entry) else {
             return false;
         };
-        remove(
-            &mut self.heads,
-            &mut self.places,
-            &mut self.hints,
-            &mut self.first,
-            self.resolution,
-            t,
-        );
+        remove(&mut self.chains, &mut self.first, t);
         true
     }
 
     fn cancel_all(&mut self, handle: Handle) {
         // From the last place to the first: where a timer is taken out the last comes in its place,
         // which is not of this handle.
-        let mut end = self.places.len();
+        let mut end = self.chains.places.len();
         while end > 0 {
             end -= 1;
-            let t = self.places[end].timer;
+            let t = self.chains.places[end].timer;
             if t.handle.0 == handle.0 {
-                remove(
-                    &mut self.heads,
-                    &mut self.places,
-                    &mut self.hints,
-                    &mut self.first,
-                    self.resolution,
-                    t,
-                );
+                remove(&mut self.chains, &mut self.first, t);
             }
         }
     }
@@ -193,39 +163,25 @@ impl<const SPOKES: usize> TimerQueue for WheelTimers<SPOKES> {
         if now < t.deadline {
             return None;
         }
-        remove(
-            &mut self.heads,
-            &mut self.places,
-            &mut self.hints,
-            &mut self.first,
-            self.resolution,
-            t,
-        );
+        remove(&mut self.chains, &mut self.first, t);
         Some(t)
     }
 }
 
 // Takes a timer out, and looks for the first anew where it was the first.
-fn remove(
-    heads: &mut Vec<Option<usize>>,
-    places: &mut Vec<Place>,
-    hints: &mut Vec<usize>,
-    first: &mut Option<Timer>,
-    resolution: u64,
-    t: Timer,
-)
-    requires wheel { IsWheel (length heads.old.items) resolution heads.old.items places.old.items
-        first.old }
-    requires there { Contains (timers_of places.old.items) t }
-    ensures wheel { IsWheel (length heads.old.items) resolution heads.new.items places.new.items
-        first.new }
-    ensures timers { IsPermutation (timers_of places.old.items) (t ∷ timers_of places.new.items) }
-    ensures forward { ComesForward places.old.items places.new.items }
-    ensures capacity { vec_capacity places.new ≡ vec_capacity places.old }
+fn remove(chains: &mut Chains, first: &mut Option<Timer>, t: Timer)
+    requires wheel { IsWheel (length chains.old.heads.items) chains.old.resolution
+        chains.old.heads.items chains.old.places.items first.old }
+    requires there { Contains (timers_in chains.old) t }
+    ensures wheel { IsWheel (length chains.old.heads.items) chains.old.resolution
+        chains.new.heads.items chains.new.places.items first.new }
+    ensures timers { IsPermutation (timers_in chains.old) (t ∷ timers_in chains.new) }
+    ensures shape { KeepShape chains.old chains.new }
+    ensures forward { ComesForward chains.old.places.items chains.new.places.items }
 {
-    take_out(heads, places, hints, resolution, t);
+    chains.take_out(t);
     if is_behind(first, &t) {
         return;
     }
-    *first = find_next(heads, places, resolution, t.deadline);
+    *first = chains.next_from(t.deadline);
 }

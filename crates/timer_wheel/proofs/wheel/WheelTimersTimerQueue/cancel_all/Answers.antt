@@ -20,7 +20,7 @@ use Rattle.timer_wheel.proofs.wheel.WheelTimersTimerQueue.cancel_all.Goals as go
 
 pub remove-requires-clause-there : goal.remove-requires-clause-there
 remove-requires-clause-there g c =
-    let places = c.loop-end.self-inside.places.items in
+    let places = c.loop-end.self-inside.chains.places.items in
     let p : Place = c.index.result.now in
     let here : slice_get places (c.loop-end.end - 1) ≡ Some p =
     slice_get-get_or places (c.loop-end.end - 1) p (omega (arith, c.loop-end.invariant.within))
@@ -30,7 +30,7 @@ remove-requires-clause-there g c =
 pub loop-end-preserved-then-t-handle : goal.loop-end-preserved-then-t-handle
 loop-end-preserved-then-t-handle g c =
     let w = c.loop-end.self-inside in
-    let places = w.places.items in
+    let places = w.chains.places.items in
     let p : Place = c.index.result.now in
     let from : c.loop-end.end - 1 + 1 ≡ c.loop-end.end = omega arith in
     let here : slice_get places (c.loop-end.end - 1) ≡ Some p =
@@ -39,30 +39,34 @@ loop-end-preserved-then-t-handle g c =
     let q : Timer → Bool = λ t. not (t.handle.0 == c.args.handle.0) in
     let out : q p.timer ≡ false = ap not (eq-eqb _ _ c.if-t-handle.true) in
     record {
-      wheel = subst (λ n. IsWheel n w.resolution c.remove.new.heads.items c.remove.new.places.items
-          c.remove.new.first) c.loop-end.invariant.wheel.each_spoke c.remove.ensures.wheel;
-      resolution = c.loop-end.invariant.resolution;
-      others = filter-removed p.timer (timers_of places) (timers_of c.remove.new.places.items)
+      wheel = subst (λ r. IsWheel (length c.self.inside.chains.heads.items) r
+          c.remove.new.chains.heads.items c.remove.new.chains.places.items c.remove.new.first)
+          (sym c.remove.ensures.shape.ticks)
+          (subst (λ n. IsWheel n w.chains.resolution c.remove.new.chains.heads.items
+          c.remove.new.chains.places.items c.remove.new.first)
+          c.loop-end.invariant.wheel.each_spoke c.remove.ensures.wheel);
+      resolution = c.remove.ensures.shape.ticks ∙ c.loop-end.invariant.resolution;
+      others = filter-removed p.timer (timers_of places) (timers_of c.remove.new.chains.places.items)
           c.loop-end.invariant.wheel.apart c.remove.ensures.timers q out
           ∙ c.loop-end.invariant.others;
-      capacity = c.remove.ensures.capacity ∙ c.loop-end.invariant.capacity;
+      capacity = c.remove.ensures.shape.capacity ∙ c.loop-end.invariant.capacity;
       fewer = omega (
         arith,
-        fewer_places p.timer places c.remove.new.places.items
+        fewer_places p.timer places c.remove.new.chains.places.items
             c.loop-end.invariant.wheel.apart c.remove.ensures.timers,
         c.loop-end.invariant.fewer,
       );
       index = c.loop-end.invariant.index;
       room = c.loop-end.invariant.room;
-      covers = covers_removed w.index.items (timers_of places) (timers_of c.remove.new.places.items)
+      covers = covers_removed w.index.items (timers_of places) (timers_of c.remove.new.chains.places.items)
           p.timer c.remove.ensures.timers c.loop-end.invariant.covers;
       within = omega (
         arith,
-        fewer_places p.timer places c.remove.new.places.items
+        fewer_places p.timer places c.remove.new.chains.places.items
             c.loop-end.invariant.wheel.apart c.remove.ensures.timers,
         c.loop-end.invariant.within,
       );
-      clear = clear_taken c.args.handle.0 places c.remove.new.places.items (c.loop-end.end - 1)
+      clear = clear_taken c.args.handle.0 places c.remove.new.chains.places.items (c.loop-end.end - 1)
           p.timer p c.loop-end.invariant.wheel.apart here refl c.remove.ensures.timers
           c.remove.ensures.forward (λ k r least at.
           c.loop-end.invariant.clear k r (omega arith) at);
@@ -70,7 +74,7 @@ loop-end-preserved-then-t-handle g c =
 
 pub loop-end-preserved : goal.loop-end-preserved
 loop-end-preserved g c =
-    let places = c.loop-end.self-inside.places.items in
+    let places = c.loop-end.self-inside.chains.places.items in
     let p : Place = c.index.result.now in
     let here : slice_get places (c.loop-end.end - 1) ≡ Some p =
     slice_get-get_or places (c.loop-end.end - 1) p (omega (arith, c.loop-end.invariant.within))
@@ -92,8 +96,8 @@ loop-end-preserved g c =
       ];
     }
   where
-    same_place : (y z : Place) → slice_get c.loop-end.self-inside.places.items (c.loop-end.end - 1)
-        ≡ Some y → slice_get c.loop-end.self-inside.places.items (c.loop-end.end - 1) ≡ Some z
+    same_place : (y z : Place) → slice_get c.loop-end.self-inside.chains.places.items (c.loop-end.end - 1)
+        ≡ Some y → slice_get c.loop-end.self-inside.chains.places.items (c.loop-end.end - 1) ≡ Some z
         → y ≡ z
     same_place y z a b = cc
 
@@ -102,7 +106,7 @@ invariant_of-self g c =
     let w = c.loop-end.self-inside in
     let k = c.loop-end.invariant in
     record {
-      wheel = subst (λ n. IsWheel n w.resolution w.heads.items w.places.items w.first)
+      wheel = subst (λ n. IsWheel n w.chains.resolution w.chains.heads.items w.chains.places.items w.first)
           c.self.invariant.wheel.each_spoke k.wheel;
       rising = subst (λ v. IsRising v.items) (sym k.index) c.self.invariant.rising;
       covers = k.covers;
@@ -118,13 +122,13 @@ invariant_of-self g c =
 
 pub returns-clause-kept : goal.returns-clause-kept
 returns-clause-kept g c =
-    let spare : c.self.inside.room - length c.self.inside.places.items ≡ c.args.self.now.spare =
+    let spare : c.self.inside.room - length c.self.inside.chains.places.items ≡ c.args.self.now.spare =
     ap (λ q. q.spare) c.self.view_is in
     omega (arith, spare, c.loop-end.invariant.room, c.loop-end.invariant.fewer)
 
 pub returns-clause-timers : goal.returns-clause-timers
 returns-clause-timers g c =
-    let places = c.loop-end.self-inside.places.items in
+    let places = c.loop-end.self-inside.chains.places.items in
     let q : Timer → Bool = λ t. not (t.handle.0 == c.args.handle.0) in
     sym (filter_none q (timers_of places)
     (all_timers q places (λ k d l. ap not
@@ -135,13 +139,13 @@ returns-clause-timers g c =
 
 pub returns-clause-spare : goal.returns-clause-spare
 returns-clause-spare g c =
-    let spare : c.self.inside.room - length c.self.inside.places.items ≡ c.args.self.now.spare =
+    let spare : c.self.inside.room - length c.self.inside.chains.places.items ≡ c.args.self.now.spare =
     ap (λ q. q.spare) c.self.view_is in
-    let places : length c.self.inside.places.items ≡ length c.args.self.now.places =
+    let places : length c.self.inside.chains.places.items ≡ length c.args.self.now.places =
     ap (λ q. length q.places) c.self.view_is in
     omega (
       arith,
-      length-timers c.loop-end.self-inside.places.items,
+      length-timers c.loop-end.self-inside.chains.places.items,
       length-timers c.args.self.now.places,
       c.loop-end.invariant.room,
       c.loop-end.invariant.fewer,

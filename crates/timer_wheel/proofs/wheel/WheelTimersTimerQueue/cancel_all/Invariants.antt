@@ -11,17 +11,17 @@ invariant-loop-end g l =
     let w = l.self-inside in
     let before = l.initial.self-inside in
     record {
-      wheel : IsWheel (length before.heads.items) w.resolution w.heads.items w.places.items w.first;
-      resolution : w.resolution ≡ before.resolution;
-      others : without_handle l.handle.0 (in_order (timers_of w.places.items))
-          ≡ without_handle l.handle.0 (in_order (timers_of before.places.items));
-      capacity : vec_capacity w.places ≡ vec_capacity before.places;
-      fewer : length w.places.items ≤ length before.places.items;
+      wheel : IsWheel (length before.chains.heads.items) w.chains.resolution w.chains.heads.items w.chains.places.items w.first;
+      resolution : w.chains.resolution ≡ before.chains.resolution;
+      others : without_handle l.handle.0 (in_order (timers_of w.chains.places.items))
+          ≡ without_handle l.handle.0 (in_order (timers_of before.chains.places.items));
+      capacity : vec_capacity w.chains.places ≡ vec_capacity before.chains.places;
+      fewer : length w.chains.places.items ≤ length before.chains.places.items;
       index : w.index ≡ before.index;
       room : w.room ≡ before.room;
-      covers : Covers w.index.items (timers_of w.places.items);
-      within : l.end ≤ length w.places.items;
-      clear : IsClear l.handle.0 w.places.items l.end;
+      covers : Covers w.index.items (timers_of w.chains.places.items);
+      within : l.end ≤ length w.chains.places.items;
+      clear : IsClear l.handle.0 w.chains.places.items l.end;
     }
 
 abbrev pub decreases-loop-end : goal.decreases-loop-end
