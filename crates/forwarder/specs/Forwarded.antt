@@ -36,7 +36,7 @@ StopsAtRecord e taken at = ((decode taken).stop ≡ Malformed at)
     ⊎ ((e.over ≡ true) × ((n : ℕ) × ((decode taken).stop ≡ Partial n)
     × (at ≡ told (taken_of taken))))
 
--- what stands behind why it reads no more
+-- what holds where it reads no more, by how it will end
 abbrev pub HasStopped : ForwardEnding → List ℕ → EndFacts → Type 0
 HasStopped end.End taken e = (e.over ≡ true) × ((decode taken).stop ≡ Clean)
 HasStopped (end.BadRecord at) taken e = StopsAtRecord e taken at
@@ -44,7 +44,7 @@ HasStopped end.ReadFailed taken e = e.last_read ≡ Some Faulted
 HasStopped end.PeerFailed taken e = ⊥
 HasStopped end.NoMemory taken e = ⊥
 
--- What stands behind how it ended: at the end of its input, at a bad or an unfinished record, and
+-- What holds once it ended: at the end of its input, at a bad or an unfinished record, and
 -- after a failed read, all before was sent first; a failed write ends it at once.
 abbrev pub EndedSo : ForwardEnding → List ℕ → List ℕ → EndFacts → Type 0
 EndedSo end.PeerFailed taken rest e = e.last_write ≡ Some Faulted

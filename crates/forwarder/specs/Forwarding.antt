@@ -183,7 +183,7 @@ pub record IsAsked (old new : EndFacts) : Type 0 where
     faults = new.faults;
   }
 
--- turns one behind another, each from where the one before left it
+-- turns one after another, each from where the one before left it
 abbrev pub Course : State → List (Item ForwardNote) → State → Type 0
 Course start [] s = (facts : EndFacts) × IsAsked start.facts facts
     × (s ≡ record start { facts = facts })

@@ -10,3 +10,6 @@ pub mod Forwarded
 pub mod Laws
 pub mod Asking
 pub mod ServiceLaws
+pub use Rattle.cdr_record
+pub use Rattle.connector
+pub use Rattle.one_net

@@ -42,7 +42,7 @@ impl<E: DialEnd, S: Source> ForwardEnd<E, S> {
     }
 
     /// Reads the source into a buffer that is not empty. It never pauses. `Failed` comes where a
-    /// read of the source failed or a byte stands behind the last that may be read.
+    /// read of the source failed or there is a byte after the last that may be read.
     pub fn read_input(&mut self, buf: &mut [u8]) -> Got
         requires { 0 < length buf.old }
         ensures reads { EndReads (forward_facts E.tells S.facts self.old) buf.new result

@@ -12,7 +12,9 @@ mod reading;
 mod sending;
 mod spelling;
 
+pub use connector::{ConnectNote, Connector};
 pub use forward_end::ForwardEnd;
 pub use forward_net::ForwardNet;
 pub use forwarder::Forwarder;
 pub use note::{ForwardEnding, ForwardNote};
+pub use one_net::OneEnd;

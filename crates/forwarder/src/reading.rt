@@ -32,7 +32,7 @@ impl Model for Reading {
 /// What a piece completed.
 #[derive(Drop)]
 pub(crate) struct Completed {
-    /// The canonical spellings of the records that are whole now, one behind another.
+    /// The canonical spellings of the records that are whole now, one after another.
     pub(crate) bytes: Vec<u8>,
     /// How many records these are.
     pub(crate) records: usize,

@@ -8,7 +8,7 @@ use std::alloc::Global;
 use std::marker::Model;
 
 /// What waits to be sent: the message that is being sent, with the place up to which it was, and
-/// behind it the messages of a queue.
+/// then the messages of a queue.
 #[derive(Drop)]
 pub(crate) struct Sending {
     front: Option<Message>,

@@ -32,7 +32,7 @@ fn spelled(alloc: Global, entry: &LogRecord) -> Result<Bytes, NoMemory>
     }
 }
 
-/// The canonical spellings of records whose messages are not too long, one behind another.
+/// The canonical spellings of records whose messages are not too long, one after another.
 pub(crate) fn spelled_all(alloc: Global, records: &[LogRecord]) -> Result<Vec<u8>, NoMemory>
     requires { are_short records.now ≡ true }
     ensures { IfOk result (λ bytes. bytes.items ≡ sent_all records.now) }
