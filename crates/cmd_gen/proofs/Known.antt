@@ -1,5 +1,5 @@
 -- The summary of a run over a generated script that had memory.
-use Rattle.std.proofs.Common.{◌≡◌, ◌∙◌, ◌≤◌, arith, ℕ, List, drop, refl, ap, subst}
+use Rattle.std.proofs.Common.{◌≡◌, ◌∙◌, ◌≤◌, arith, inl, ℕ, List, drop, refl, ap, subst}
 use Rattle.ev_base.specs.Sink.{SinkFacts}
 use Rattle.ev_base.specs.declared.end.PeerEnd.{Ghosts}
 use Rattle.cmd_replay.specs.acceptor.specs.Servers.{servers}
@@ -16,6 +16,7 @@ use Rattle.script_generator.specs.Scripts.{generated}
 use Rattle.script_net.specs.ScriptEnd.{script_end_facts, ScriptEndKeeps}
 use Rattle.script_net.specs.declared.end.ScriptEnd.{ScriptEnd}
 use Rattle.cmd_replay.specs.Runs.{IsScriptRun}
+use Rattle.cmd_replay.proofs.All.{run-of}
 use Rattle.laws_gen.specs.laws_script_runs.specs.Connections.{HadMemory}
 use Rattle.cmd_replay.specs.server_run.specs.declared.ending.Ending.{Ending}
 use Rattle.cmd_replay.specs.server_run.specs.declared.ending.Ending.TheVariants as ending
@@ -62,9 +63,10 @@ module _ {K V : Type 0} {G : Ghosts ScriptEnd} (facts : V → VolumesFacts Serve
       → summary_lines left.journal.entries ≡ full_lines n seed
   held-full ended r ends =
       let whole : left.journal.entries ≡ r.journal =
-      r.held ∙ ap (λ (k : ℕ). drop k r.journal) ends.1 in
-      ap summary_lines whole ∙ full n seed v r.how r.journal least many (r.over ends.0) ends.0
-      (subst HadMemory whole memory)
+      r.is.held ∙ ap (λ (k : ℕ). drop k r.journal) ends.1 in
+      ap summary_lines whole ∙ full n seed v r.how r.journal least many
+      (run-of (terms_for n seed v) (asked_for n) (generated n seed) r.journal r.how (inl ends.0)
+      r.ran.ended) ends.0 (subst HadMemory whole memory)
 
   -- what was written of the summary is written of the lines that are known
   pub writes-full : (ended : GenerateEnd) (o p : SinkFacts)

@@ -1,8 +1,7 @@
 -- From what a run over a script leaves to what one over a generated script does.
-use Rattle.std.proofs.Common.{◌≡◌, ◌≤◌, ℕ, List, inl, inr, Option, Some, None, refl, subst, arith}
+use Rattle.std.proofs.Common.{◌≡◌, ◌≤◌, ℕ, List, inr, Option, Some, None, refl, subst, arith}
 use Rattle.std.proofs.Common.{lit≤}
 use Rattle.ev_base.specs.Counts.{Rose}
-use Rattle.ev_base.specs.Terms.{Terms}
 use Rattle.ev_base.specs.declared.end.PeerEnd.{Ghosts}
 use Rattle.script_net.specs.event_script.specs.Script.{ScriptGroup}
 use Rattle.log_handler.specs.declared.note.ServerNote.{ServerNote}
@@ -20,7 +19,7 @@ use Rattle.cmd_replay.specs.Leading.{unwatched}
 use Rattle.cmd_replay.specs.Playing.{terms_of_content}
 use Rattle.cmd_replay.specs.Replays.{IsOfText, unseen}
 use Rattle.cmd_replay.specs.Runs.{EndsScript, ForScript, LeavesScript}
-use Rattle.cmd_replay.proofs.All.{all-of}
+use Rattle.cmd_replay.proofs.All.{run-of}
 use Rattle.cmd_replay.proofs.RunsScript.{leaves-so}
 use Rattle.cmd_replay.specs.laws_script_served.specs.Terms.{terms_of_script}
 use Rattle.script_text.specs.Parsing.{HasGroups}
@@ -85,7 +84,8 @@ module _ {V : Type 0} {G : Ghosts ScriptEnd} (facts : V → VolumesFacts ServerN
   -- no notice was asked for
   pub not-noticed : served.ending ≡ ending.Notified → ⊥
   not-noticed is =
-      let r = l.some (inr is) in
+      let r = run-of (terms_for n seed v) (asked_for n) (generated n seed) l.journal served.ending
+      (inr is) l.ran.ended in
       noticed (subst (λ (how : Ending). EndsScript (asked_for n) (generated n seed) how l.journal
       r.run) is r.ends)
 
@@ -102,15 +102,8 @@ module _ {V : Type 0} {G : Ghosts ScriptEnd} (facts : V → VolumesFacts ServerN
   runs-generated {K} ended output ends rose = record {
     how = served.ending;
     journal = l.journal;
-    within = l.within;
-    held = l.held;
-    taken = l.taken;
-    filled = l.filled;
-    run = l.run;
-    over = λ is. l.some (inl is);
-    all = λ is. all-of G (terms_for n seed v) (asked_for n) (generated n seed) l.journal refl
-        served.ending (inl is) (l.some (inl is)) refl;
-    led = l.led;
+    is = l.is;
+    ran = l.ran;
     ends = ends;
     rose = λ is. rose (subst (λ (e : GenerateEnd). EndsAs e served.ending served.parts.first) is
         ends);

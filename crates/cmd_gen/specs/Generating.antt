@@ -1,19 +1,15 @@
 -- What `logd gen` did, of n connections and a seed, by how it ended.
-use Rattle.std.specs.Prelude.{◌≡◌, ◌≤◌, ◌⊎◌, ℕ, List, [], drop, length}
+use Rattle.std.specs.Prelude.{◌≡◌, ◌⊎◌, ℕ, List, []}
 use Rattle.ev_base.specs.Counts.{Rose}
 use Rattle.ev_base.specs.declared.end.PeerEnd.{Ghosts}
 use Rattle.reactor_model.specs.reactor_journal.specs.declared.entry.Entry.{Entry}
-use Rattle.reactor_core.specs.Ends.{WhereTold}
-use Rattle.reactor_core.specs.Stands.{HasTaken}
 use Rattle.reactor_model.specs.Volumes.{VolumesFacts}
 use Rattle.log_handler.specs.declared.note.ServerNote.{ServerNote}
 use Rattle.script_generator.specs.Scripts.{generated}
 use Rattle.script_net.specs.declared.end.ScriptEnd.{ScriptEnd}
-use Rattle.cmd_replay.specs.Leading.{LedOrNone, unwatched}
-use Rattle.cmd_replay.specs.Runs.{DoesAll, IsRunOrNone, IsScriptRun}
-use Rattle.cmd_replay.specs.server_run.specs.reactor_desk.specs.Desks.{FillsVolume}
+use Rattle.cmd_replay.specs.Leading.{unwatched}
+use Rattle.cmd_replay.specs.Runs.{IsHeld, RanSo}
 use Rattle.cmd_replay.specs.server_run.specs.declared.ending.Ending.{Ending}
-use Rattle.cmd_replay.specs.server_run.specs.declared.ending.Ending.TheVariants as ending
 use Rattle.cmd_gen.specs.Asking.{asked_for, terms_for}
 use Rattle.cmd_gen.specs.Summing.{EndsAs}
 use Rattle.cmd_gen.specs.declared.ends.Generated.{Generated}
@@ -29,26 +25,17 @@ pub record IsUnserved {K V : Type 0} (output : K) (volumes : V) (left : Generate
     pub volumes_are : left.volumes ≡ volumes
 
 -- What a run over the generated script leaves, where the volumes told v before it: one journal, of
--- which the last entries are held and the others were handed over. It is that of a run over the
--- script, or empty where there was no memory for one; where nothing could be reported any more, it
--- is that of a run, which did all that the script has. Four workers led to it, or none did: of
--- their answers the first in order ended the run. It ended as its run did; and with a fault of the
--- volumes their count of faults rose.
+-- which the last entries are held. The run came to it, and it ended as its run did; and with a fault
+-- of the volumes their count of faults rose.
 pub record RunsGenerated {K V : Type 0} (G : Ghosts ScriptEnd) (facts : V → VolumesFacts ServerNote)
     (n seed : ℕ) (v : VolumesFacts ServerNote)
     (left : Generated K V) (ended : GenerateEnd) : Type 0 where
   pub how : Ending
   pub journal : List (Entry ServerNote)
-  pub within : left.first ≤ length journal
-  pub held : left.journal.entries ≡ drop left.first journal
-  pub taken : WhereTold (HasTaken (terms_for n seed v) left.first journal)
-      (facts left.volumes).taken
-  pub filled : FillsVolume (asked_for n).volume left.first
-  pub run : IsRunOrNone G (terms_for n seed v) (asked_for n) (generated n seed) how journal
-  pub over : how ≡ ending.Over → IsScriptRun G (terms_for n seed v) (asked_for n) (generated n seed)
-      how journal
-  pub all : how ≡ ending.Over → DoesAll (asked_for n) (generated n seed) journal
-  pub led : LedOrNone (unwatched G facts) (terms_for n seed v) (asked_for n) how journal
+  pub is : IsHeld (terms_for n seed v) (asked_for n) (facts left.volumes).taken left.first
+      left.journal.entries journal
+  pub ran : RanSo G (unwatched G facts) (terms_for n seed v) (asked_for n) (generated n seed) how
+      journal
   pub ends : EndsAs ended how left.first
   pub rose : ended ≡ end.VolumeFault → Rose v.faults (facts left.volumes).faults
 

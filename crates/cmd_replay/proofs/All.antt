@@ -1,5 +1,6 @@
 -- A run that was over with its script has done all that it has.
-use Rattle.std.proofs.Common.{◌≡◌, ◌∙◌, ◌<◌, ◌≤◌, ◌+◌, ◌⊎◌, inl, inr, arith, ℕ, List, Option, None}
+use Rattle.std.proofs.Common.{◌≡◌, ◌∙◌, ◌<◌, ◌≤◌, ◌+◌, ◌⊎◌, inl, inr, arith, ℕ, List, [], Option}
+use Rattle.std.proofs.Common.{None}
 use Rattle.std.proofs.Common.{refl, sym, subst}
 use Rattle.ev_base.specs.Terms.{Terms}
 use Rattle.ev_base.specs.declared.end.PeerEnd.{Ghosts}
@@ -23,7 +24,7 @@ use Rattle.server_run.specs.declared.asked.Asked.{Asked}
 use Rattle.server_run.specs.declared.ending.Ending.{Ending}
 use Rattle.server_run.specs.declared.ending.Ending.TheVariants as ending
 use Rattle.server_run.specs.Journals.{EndsByNotice}
-use Rattle.cmd_replay.specs.Runs.{DoesAll, IsScriptRun}
+use Rattle.cmd_replay.specs.Runs.{DoesAll, EndedSo, IsScriptRun}
 
 module _ (G : Ghosts ScriptEnd) (t : Terms) (asked : Asked) (groups : List ScriptGroup)
     (journal : List (Entry ServerNote)) (most : t.most ≡ asked.connections + 1) where
@@ -73,3 +74,33 @@ module _ (G : Ghosts ScriptEnd) (t : Terms) (asked : Asked) (groups : List Scrip
   all-of ending.NoMemory (inr q) r none = absurd cc
   all-of ending.VolumeFault (inl q) r none = absurd cc
   all-of ending.VolumeFault (inr q) r none = absurd cc
+
+-- a run that was ended so left the journal of one, and did all where no notice was asked for
+pub run-of : {G : Ghosts ScriptEnd} (t : Terms) (asked : Asked) (groups : List ScriptGroup)
+    (journal : List (Entry ServerNote)) (how : Ending) → (how ≡ ending.Over)
+    ⊎ (how ≡ ending.Notified) → EndedSo G t asked groups how journal
+    → IsScriptRun G t asked groups how journal
+run-of t asked groups journal ending.Over which ended = ended.0
+run-of t asked groups journal ending.Notified which ended = ended
+run-of t asked groups journal ending.Broken (inl q) ended = absurd cc
+run-of t asked groups journal ending.Broken (inr q) ended = absurd cc
+run-of t asked groups journal ending.NotAttached (inl q) ended = absurd cc
+run-of t asked groups journal ending.NotAttached (inr q) ended = absurd cc
+run-of t asked groups journal ending.NetFault (inl q) ended = absurd cc
+run-of t asked groups journal ending.NetFault (inr q) ended = absurd cc
+run-of t asked groups journal ending.NoMemory (inl q) ended = absurd cc
+run-of t asked groups journal ending.NoMemory (inr q) ended = absurd cc
+run-of t asked groups journal ending.VolumeFault (inl q) ended = absurd cc
+run-of t asked groups journal ending.VolumeFault (inr q) ended = absurd cc
+
+-- whatever ended it, it left the journal of a run, or none
+pub run-or-none : {G : Ghosts ScriptEnd} (t : Terms) (asked : Asked) (groups : List ScriptGroup)
+    (journal : List (Entry ServerNote)) (how : Ending) → EndedSo G t asked groups how journal
+    → (journal ≡ []) ⊎ IsScriptRun G t asked groups how journal
+run-or-none t asked groups journal ending.Over ended = inr ended.0
+run-or-none t asked groups journal ending.Notified ended = inr ended
+run-or-none t asked groups journal ending.Broken ended = ended
+run-or-none t asked groups journal ending.NotAttached ended = ended
+run-or-none t asked groups journal ending.NetFault ended = ended
+run-or-none t asked groups journal ending.NoMemory ended = ended
+run-or-none t asked groups journal ending.VolumeFault ended = ended

@@ -57,7 +57,8 @@ use Rattle.server_run.specs.declared.ending.Ending.{Ending}
 use Rattle.server_run.specs.declared.ending.Ending.TheVariants as ending
 use Rattle.server_run.specs.declared.ending.Served.{Served}
 use Rattle.cmd_replay.specs.Runs.{ForScript, IsScriptRun, IsOfOneWorker, LeavesScript, EndsScript}
-use Rattle.cmd_replay.specs.Runs.{FailsNet}
+use Rattle.cmd_replay.specs.Runs.{EndedSo, FailsNet}
+use Rattle.cmd_replay.proofs.All.{all-of}
 
 -- ---- removals
 
@@ -358,19 +359,43 @@ module _ {G : Ghosts ScriptEnd} {W V Q : Type 0} (shows : ReactorState Q → Sum
         absurd (⊎_elim (λ over. subst MayBeUnmade over u.ending)
         (λ noticed. subst MayBeUnmade noticed u.ending) how)) (λ r. is-run r) l.run
 
+    or-none : (how : Ending) → served.ending ≡ how → (l.journal ≡ [])
+        ⊎ IsScriptRun G t asked groups how l.journal
+    or-none how is = subst (λ (e : Ending). (l.journal ≡ [])
+        ⊎ IsScriptRun G t asked groups e l.journal) is
+        (⊎_elim (λ (u : IsUnmade served.ending l.journal). inl u.none) (λ r. inr (is-run r)) l.run)
+
+    some-at : (how : Ending) → served.ending ≡ how → (how ≡ ending.Over) ⊎ (how ≡ ending.Notified)
+        → IsScriptRun G t asked groups how l.journal
+    some-at how is which = subst (λ (e : Ending). IsScriptRun G t asked groups e l.journal) is
+        (some-so (⊎_elim (λ over. inl (is ∙ over)) (λ noticed. inr (is ∙ noticed)) which))
+
+    ended-so : (how : Ending) → served.ending ≡ how → EndedSo G t asked groups how l.journal
+    ended-so ending.Over is =
+        let run = some-at ending.Over is (inl refl) in
+        (run, λ none. all-of G t asked groups l.journal f.most ending.Over (inl refl) run none)
+    ended-so ending.Notified is = some-at ending.Notified is (inr refl)
+    ended-so ending.Broken is = or-none ending.Broken is
+    ended-so ending.NotAttached is = or-none ending.NotAttached is
+    ended-so ending.NetFault is = or-none ending.NetFault is
+    ended-so ending.NoMemory is = or-none ending.NoMemory is
+    ended-so ending.VolumeFault is = or-none ending.VolumeFault is
+
     pub leaves-script : LeavesScript G script_meaning t asked groups served
     leaves-script = record {
       journal = l.journal;
-      within = subst (λ (n : ℕ). n ≤ length l.journal) (sym l.stand.first) l.stand.within;
-      bound = l.bound;
-      held = l.stand.journal ∙ ap (λ (n : ℕ). drop n l.journal) (sym l.stand.first);
-      taken = subst (λ (n : ℕ). WhereTold (HasTaken t n l.journal)
-          (volumes served.parts.volumes).taken) (sym l.stand.first) l.stand.volumes;
-      filled = subst (λ (n : ℕ). FillsVolume asked.volume n) (sym l.stand.first) l.filled;
+      is = record {
+        within = subst (λ (n : ℕ). n ≤ length l.journal) (sym l.stand.first) l.stand.within;
+        held = l.stand.journal ∙ ap (λ (n : ℕ). drop n l.journal) (sym l.stand.first);
+        taken_is = subst (λ (n : ℕ). WhereTold (HasTaken t n l.journal)
+            (volumes served.parts.volumes).taken) (sym l.stand.first) l.stand.volumes;
+        filled = subst (λ (n : ℕ). FillsVolume asked.volume n) (sym l.stand.first) l.filled;
+      };
       watch = l.stand.watch;
-      run = ⊎_elim (λ (u : IsUnmade served.ending l.journal). inl u.none) (λ r. inr (is-run r))
-          l.run;
-      some = some-so;
-      led = l.led;
-      one = one-so;
+      ran = record {
+        bound = l.bound;
+        ended = ended-so served.ending refl;
+        led = l.led;
+        one = one-so;
+      };
     }

@@ -8,7 +8,7 @@ use Rattle.ev_base.specs.Terms.{Terms}
 use Rattle.ev_base.specs.declared.end.PeerEnd.{Ghosts}
 use Rattle.reactor_model.specs.reactor_journal.specs.declared.entry.Entry.{Entry}
 use Rattle.reactor_core.specs.Ends.{WhereTold}
-use Rattle.reactor_core.specs.Stands.{HasTaken}
+use Rattle.reactor_core.specs.Stands.{HasTaken, Meaning}
 use Rattle.reactor_model.specs.Volumes.{VolumesFacts}
 use Rattle.log_handler.specs.declared.note.ServerNote.{ServerNote}
 use Rattle.cmd_line.specs.declared.options.Form.{Form}
@@ -21,9 +21,10 @@ use Rattle.server_run.specs.declared.asked.Asked.{Asked}
 use Rattle.server_run.specs.declared.ending.Ending.{Ending}
 use Rattle.server_run.specs.declared.ending.Ending.TheVariants as ending
 use Rattle.log_handler.specs.sink_buffer.specs.Written.{TookAll}
-use Rattle.cmd_replay.specs.Leading.{LedIn}
+use Rattle.cmd_replay.specs.Leading.{unwatched, with_lines, with_text}
 use Rattle.cmd_replay.specs.Outputs.{Writes, text_in}
-use Rattle.cmd_replay.specs.Replays.{EndsAs, RunsScript, terms_in}
+use Rattle.cmd_replay.specs.Replays.{EndsAs, RanIn, RunsScript, terms_in}
+use Rattle.cmd_replay.specs.Runs.{RanSo}
 use Rattle.cmd_replay.specs.Replaying.{IsUnserved, ReplaysText, ServesText}
 use Rattle.cmd_replay.specs.declared.ends.Played.{Played}
 use Rattle.cmd_replay.specs.declared.ends.ReplayEnd.{ReplayEnd}
@@ -52,9 +53,6 @@ took-nothing t None same = tt
 took-nothing t (Some entries) same =
     (entries, sym (append-nil entries), λ n told. number_is (length entries) n (sym same ∙ told))
 
-not-done : end.NoMemory ≡ end.Done → ⊥
-not-done is = cc
-
 not-over : ending.NoMemory ≡ ending.Over → ⊥
 not-over is = cc
 
@@ -62,12 +60,25 @@ not-failed : ending.NoMemory ≡ ending.VolumeFault → ⊥
 not-failed is = cc
 
 -- no worker led
-unled : {K V : Type 0} {G : Ghosts ScriptEnd} (sink : K → SinkFacts)
+unled : {H M Q W V E : Type 0} {G : Ghosts ScriptEnd} (m : Meaning H M Q W V ServerNote E)
+    (t : Terms) (asked : Asked) (groups : List ScriptGroup)
+    → RanSo G m t asked groups ending.NoMemory []
+unled m t asked groups = record {
+  bound = lit≤ tt;
+  ended = inl refl;
+  led = inl (record { ending = tt; journal_is = inl refl });
+  one = λ workers until. record {
+    serial = λ over. absurd (not-over over);
+    few = λ idle. omega arith;
+  };
+}
+
+unled-in : {K V : Type 0} (G : Ghosts ScriptEnd) (sink : K → SinkFacts)
     (facts : V → VolumesFacts ServerNote) (form : Form) (t : Terms) (asked : Asked)
-    → LedIn G sink facts form t asked ending.NoMemory []
-unled sink facts Plain t asked = inl (record { ending = tt; journal_is = inl refl })
-unled sink facts Grouped t asked = inl (record { ending = tt; journal_is = inl refl })
-unled sink facts Journal t asked = inl (record { ending = tt; journal_is = inl refl })
+    (groups : List ScriptGroup) → RanIn G sink facts form t asked groups ending.NoMemory []
+unled-in G sink facts Plain t asked groups = unled (with_lines G sink facts) t asked groups
+unled-in G sink facts Grouped t asked groups = unled (unwatched G facts) t asked groups
+unled-in G sink facts Journal t asked groups = unled (with_text G sink facts) t asked groups
 
 -- where there was no memory for a run, nothing was written, and the journal is empty
 pub runs-none : {K V : Type 0} {G : Ghosts ScriptEnd} (sink : K → SinkFacts)
@@ -82,23 +93,17 @@ runs-none {K} {V} {G} sink facts form asked groups output volumes played is u =
     record {
       how = ending.NoMemory;
       journal = [];
-      within = subst (λ (n : ℕ). n ≤ 0) (sym u.first) (omega arith);
-      bound = lit≤ tt;
-      held = u.journal ∙ sym (ap (λ (n : ℕ). drop n []) u.first);
-      taken = subst (λ (n : ℕ). WhereTold (HasTaken t n []) (facts played.volumes).taken)
-          (sym u.first)
-          (subst (λ (w : V). WhereTold (HasTaken t 0 []) (facts w).taken) (sym u.volumes_are)
-          (took-nothing t v.taken (told-taken form asked groups o v)));
-      filled = subst (λ (n : ℕ). FillsVolume asked.volume n) (sym u.first)
-          (λ some. absurd (omega (arith, some)));
-      run = inl refl;
-      done = λ done. absurd (not-done (sym is ∙ done));
-      all = λ done none. absurd (not-done (sym is ∙ done));
-      led = unled sink facts form t asked;
-      one = λ workers until. record {
-        serial = λ over. absurd (not-over over);
-        few = λ idle. omega arith;
+      is = record {
+        within = subst (λ (n : ℕ). n ≤ 0) (sym u.first) (omega arith);
+        held = u.journal ∙ sym (ap (λ (n : ℕ). drop n []) u.first);
+        taken_is = subst (λ (n : ℕ). WhereTold (HasTaken t n []) (facts played.volumes).taken)
+            (sym u.first)
+            (subst (λ (w : V). WhereTold (HasTaken t 0 []) (facts w).taken) (sym u.volumes_are)
+            (took-nothing t v.taken (told-taken form asked groups o v)));
+        filled = subst (λ (n : ℕ). FillsVolume asked.volume n) (sym u.first)
+            (λ some. absurd (omega (arith, some)));
       };
+      ran = unled-in G sink facts form t asked groups;
       ends = subst (λ (e : ReplayEnd). EndsAs e ending.NoMemory v.faults
           (facts played.volumes).faults) (sym is) not-failed;
       written = subst (λ (e : ReplayEnd).

@@ -19,7 +19,6 @@ use Rattle.acceptor.specs.declared.server.ServerHandler.{ServerHandler}
 use Rattle.reactor_model.specs.Volumes.{VolumesFacts}
 use Rattle.log_handler.specs.declared.note.ServerNote.{ServerNote}
 use Rattle.cmd_line.specs.declared.options.Form.{Form}
-use Rattle.cmd_line.specs.declared.options.Form.TheVariants as forms
 use Rattle.script_net.specs.event_script.specs.Script.{ScriptGroup, steps_of, groups_told, opened}
 use Rattle.script_net.specs.event_script.specs.Stories.{story, stories, offers}
 use Rattle.grouped_lines.specs.laws_script_runs.specs.Connections.{lines_by_connection}
@@ -35,11 +34,10 @@ use Rattle.server_run.specs.declared.ending.Ending.{Ending}
 use Rattle.server_run.specs.declared.ending.Ending.TheVariants as ending
 use Rattle.server_run.specs.declared.ending.Served.{Served}
 use Rattle.log_handler.specs.sink_buffer.specs.Written.{TookAll, TookFront}
-use Rattle.cmd_replay.proofs.All.{all-of}
-use Rattle.cmd_replay.specs.Leading.{LedIn}
 use Rattle.cmd_replay.specs.Outputs.{Writes, WritesBehind, text_in}
 use Rattle.cmd_replay.specs.Playing.{CanPlay, terms_of_content}
-use Rattle.cmd_replay.specs.Replays.{EndsAs, IsOfText, RunsScript, WritesHeld, end_by, terms_in}
+use Rattle.cmd_replay.specs.Replays.{EndsAs, IsOfText, RanIn, RunsScript, WritesHeld, end_by}
+use Rattle.cmd_replay.specs.Replays.{terms_in}
 use Rattle.cmd_replay.specs.Runs.{FailsNet, ForScript, LeavesScript}
 use Rattle.cmd_replay.specs.declared.ends.Kept.{Kept}
 use Rattle.cmd_replay.specs.declared.ends.Played.{Played}
@@ -239,37 +237,20 @@ pub runs-script : {K W V Q : Type 0} {G : Ghosts ScriptEnd}
     (o : SinkFacts) (v : VolumesFacts ServerNote) (served : Served NetContent Q W V)
     (how : ReplayEnd) (output : K)
     (l : LeavesScript G m (terms_in form asked groups o v) asked groups served)
-    → LedIn G sink m.volumes form (terms_in form asked groups o v) asked served.ending l.journal
+    → RanIn G sink m.volumes form (terms_in form asked groups o v) asked groups served.ending
+    l.journal
     → EndsAs how served.ending v.faults (m.volumes served.parts.volumes).faults
     → Writes form how o (text_in form (asked.connections + 1) l.journal) (sink output)
     → RunsScript G sink m.volumes form asked groups o v (played_of served how output)
-runs-script {K} {W} {V} {Q} {G} m sink form asked groups o v served how output l led ends
+runs-script {K} {W} {V} {Q} {G} m sink form asked groups o v served how output l ran ends
     written = record {
       how = served.ending;
       journal = l.journal;
-      within = l.within;
-      bound = l.bound;
-      held = l.held;
-      taken = l.taken;
-      filled = l.filled;
-      run = l.run;
-      done = λ is. l.some (over is);
-      all = λ is none. all-of G (terms_in form asked groups o v) asked groups l.journal
-          (most-in form)
-          served.ending (over is) (l.some (over is)) none;
-      led = led;
-      one = l.one;
+      is = l.is;
+      ran = ran;
       ends = ends;
       written = written;
-    } where
-      over : how ≡ end.Done → (served.ending ≡ ending.Over) ⊎ (served.ending ≡ ending.Notified)
-      over is = subst (λ (e : ReplayEnd).
-          EndsAs e served.ending v.faults (m.volumes served.parts.volumes).faults) is ends
-
-      most-in : (f : Form) → (terms_in f asked groups o v).most ≡ asked.connections + 1
-      most-in forms.Plain = refl
-      most-in forms.Grouped = refl
-      most-in forms.Journal = refl
+    }
 
 -- ---- text that is written behind the run
 

@@ -7,8 +7,6 @@ use Rattle.acceptor.specs.Servers.{servers}
 use Rattle.acceptor.specs.declared.server.ServerHandler.{ServerHandler}
 use Rattle.chosen_timers.specs.Chosen.{spare_of, timers_of}
 use Rattle.chosen_timers.specs.declared.ChosenTimers.{ChosenTimers}
-use Rattle.cmd_line.specs.declared.options.Form.{Form}
-use Rattle.cmd_line.specs.declared.options.Form.TheVariants.{Plain, Grouped, Journal}
 use Rattle.journal_text.specs.JournalSink as text
 use Rattle.journal_text.specs.declared.journal_sink.JournalSink.{JournalSink}
 use Rattle.log_handler.specs.LineSink as lines
@@ -61,14 +59,3 @@ unwatched G volumes = script_meaning G (λ t watch h. Unit {0}) (λ watch. 0) (�
 abbrev pub LedOrNone : {H M Q W V N E : Type 0} → Meaning H M Q W V N E → Terms → Asked → Ending
     → List (Entry N) → Type 0
 LedOrNone m t asked how journal = HasNoLead how journal ⊎ HasLed m t asked how journal
-
--- the same with the watch of each form: text that is grouped is written behind the run
-abbrev pub LedIn : {K V : Type 0} → Ghosts ScriptEnd → (K → SinkFacts)
-    → (V → VolumesFacts ServerNote) → Form → Terms → Asked → Ending → List (Entry ServerNote)
-    → Type 0
-LedIn G sink volumes Plain t asked how journal =
-    LedOrNone (with_lines G sink volumes) t asked how journal
-LedIn G sink volumes Grouped t asked how journal =
-    LedOrNone (unwatched G volumes) t asked how journal
-LedIn G sink volumes Journal t asked how journal =
-    LedOrNone (with_text G sink volumes) t asked how journal

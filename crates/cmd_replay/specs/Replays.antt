@@ -1,13 +1,11 @@
 -- What a run over a script leaves, written in one of three forms.
-use Rattle.std.specs.Prelude.{◌≡◌, ◌≤◌, ◌⊎◌, ◌+◌, ◌^◌, ℕ, Bool, true, false, List, drop, length}
+use Rattle.std.specs.Prelude.{◌≡◌, ◌⊎◌, ◌+◌, ◌^◌, ℕ, Bool, true, false, List}
 use Rattle.std.specs.Prelude.{None}
 use Rattle.ev_base.specs.Counts.{Rose}
 use Rattle.ev_base.specs.Sink.{SinkFacts}
 use Rattle.ev_base.specs.Terms.{Terms}
 use Rattle.ev_base.specs.declared.end.PeerEnd.{Ghosts}
 use Rattle.reactor_model.specs.reactor_journal.specs.declared.entry.Entry.{Entry}
-use Rattle.reactor_core.specs.Ends.{WhereTold}
-use Rattle.reactor_core.specs.Stands.{HasTaken}
 use Rattle.reactor_model.specs.Volumes.{VolumesFacts}
 use Rattle.log_handler.specs.declared.note.ServerNote.{ServerNote}
 use Rattle.cmd_line.specs.declared.options.Form.{Form}
@@ -19,14 +17,13 @@ use Rattle.script_net.specs.Hosts.{ScriptContent}
 use Rattle.script_net.specs.declared.end.ScriptEnd.{ScriptEnd}
 use Rattle.script_text.specs.Parsing.{HasGroups}
 use Rattle.laws_script_served.specs.Terms.{terms_of_script}
-use Rattle.server_run.specs.reactor_desk.specs.Desks.{FillsVolume}
 use Rattle.server_run.specs.declared.asked.Asked.{Asked}
 use Rattle.server_run.specs.declared.ending.Ending.{Ending}
 use Rattle.server_run.specs.declared.ending.Ending.TheVariants as ending
 use Rattle.log_handler.specs.sink_buffer.specs.Written.{TookAll, TookFront}
-use Rattle.cmd_replay.specs.Leading.{LedIn}
+use Rattle.cmd_replay.specs.Leading.{unwatched, with_lines, with_text}
 use Rattle.cmd_replay.specs.Outputs.{Writes, text_in}
-use Rattle.cmd_replay.specs.Runs.{DoesAll, IsOfOneWorker, IsRunOrNone, IsScriptRun}
+use Rattle.cmd_replay.specs.Runs.{IsHeld, RanSo}
 use Rattle.cmd_replay.specs.declared.ends.Played.{Played}
 use Rattle.cmd_replay.specs.declared.ends.ReplayEnd.{ReplayEnd}
 use Rattle.cmd_replay.specs.declared.ends.ReplayEnd.TheVariants as end
@@ -99,29 +96,28 @@ WritesHeld end.Done first o text end.NoMemory p = p ≡ o
 WritesHeld end.Done first o text _ p = ⊥
 WritesHeld run first o text now p = (now ≡ run) × (p ≡ o)
 
+-- what it came to, with the watch of each form
+abbrev pub RanIn : {K V : Type 0} → Ghosts ScriptEnd → (K → SinkFacts)
+    → (V → VolumesFacts ServerNote) → Form → Terms → Asked → List ScriptGroup → Ending
+    → List (Entry ServerNote) → Type 0
+RanIn G sink facts Plain t asked groups how journal =
+    RanSo G (with_lines G sink facts) t asked groups how journal
+RanIn G sink facts Grouped t asked groups how journal =
+    RanSo G (unwatched G facts) t asked groups how journal
+RanIn G sink facts Journal t asked groups how journal =
+    RanSo G (with_text G sink facts) t asked groups how journal
+
 -- What a run over a script leaves whose journal is written in this form, where the output told o
--- and the volumes v before it: one journal, of at most 2^62 entries, of which the last are held and
--- the others were handed over; it is that of a run, or empty where there was no memory for one; and
--- its text was written. Where it is done, and no notice was asked for, it did all that the script
--- has. So many workers led to it as were asked for, or none did: of the answers of several the
--- first in order ended the run.
+-- and the volumes v before it: one journal, of which the last entries are held. The run came to it
+-- and ended in a way with which a replay ends so; and its text was written.
 pub record RunsScript {K V : Type 0} (G : Ghosts ScriptEnd) (sink : K → SinkFacts)
     (facts : V → VolumesFacts ServerNote) (form : Form) (asked : Asked) (groups : List ScriptGroup)
     (o : SinkFacts) (v : VolumesFacts ServerNote) (played : Played K V) : Type 0 where
   pub how : Ending
   pub journal : List (Entry ServerNote)
-  pub within : played.first ≤ length journal
-  pub bound : length journal ≤ 2 ^ 62
-  pub held : played.journal.entries ≡ drop played.first journal
-  pub taken : WhereTold (HasTaken (terms_in form asked groups o v) played.first journal)
-      (facts played.volumes).taken
-  pub filled : FillsVolume asked.volume played.first
-  pub run : IsRunOrNone G (terms_in form asked groups o v) asked groups how journal
-  pub done : played.end ≡ end.Done → IsScriptRun G (terms_in form asked groups o v) asked groups how
-      journal
-  pub all : played.end ≡ end.Done → asked.until ≡ None → DoesAll asked groups journal
-  pub led : LedIn G sink facts form (terms_in form asked groups o v) asked how journal
-  pub one : asked.workers ≡ 1 → asked.until ≡ None → IsOfOneWorker asked groups how journal
+  pub is : IsHeld (terms_in form asked groups o v) asked (facts played.volumes).taken played.first
+      played.journal.entries journal
+  pub ran : RanIn G sink facts form (terms_in form asked groups o v) asked groups how journal
   pub ends : EndsAs played.end how v.faults (facts played.volumes).faults
   pub written : Writes form played.end o (text_in form (asked.connections + 1) journal)
       (sink played.output)

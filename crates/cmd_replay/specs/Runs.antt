@@ -1,6 +1,6 @@
 -- What the journal of a run of the server over a script says.
 use Rattle.std.specs.Prelude.{◌≡◌, ◌≤◌, ◌⊎◌, ◌+◌, ◌*◌, ◌/◌, ◌^◌, ℕ, List, [], ◌∷◌, ◌++◌, drop}
-use Rattle.std.specs.Prelude.{length, true, Some, None}
+use Rattle.std.specs.Prelude.{length, true, Option, Some, None}
 use Rattle.std.specs.List.{list_any}
 use Rattle.ev_base.specs.ev_types.specs.declared.upcall.Handle.{Handle}
 use Rattle.ev_base.specs.Terms.{Terms}
@@ -119,32 +119,46 @@ pub record DoesAll (asked : Asked) (groups : List ScriptGroup)
   pub grouped_text : asked.idle ≡ None → opened (steps_of groups) ≤ asked.connections
       → HadMemory journal → lines_by_connection journal ≡ grouped (steps_of groups)
 
--- no reactor was made, or the journal is that of a run
-abbrev pub IsRunOrNone : Ghosts ScriptEnd → Terms → Asked → List ScriptGroup → Ending
+-- What the journal is, by how the run ended. At a wait that was answered Over, it is that of a run,
+-- which did all that the script has, if no notice was asked for. By its notice, it is that of a
+-- run. Else it is so too, or empty, where there was no memory for a reactor.
+abbrev pub EndedSo : Ghosts ScriptEnd → Terms → Asked → List ScriptGroup → Ending
     → List (Entry ServerNote) → Type 0
-IsRunOrNone G t asked groups how journal = (journal ≡ []) ⊎ IsScriptRun G t asked groups how journal
+EndedSo G t asked groups ending.Over journal = IsScriptRun G t asked groups ending.Over journal
+    × (asked.until ≡ None → DoesAll asked groups journal)
+EndedSo G t asked groups ending.Notified journal =
+    IsScriptRun G t asked groups ending.Notified journal
+EndedSo G t asked groups how journal = (journal ≡ []) ⊎ IsScriptRun G t asked groups how journal
 
--- What is left of a run over a script: one journal, of at most 2^62 entries, of which the last are
--- held and the others were handed over, and the watch stands for it. So many workers led to it as
--- were asked for, or none did.
+-- What a run over a script came to that ended so, with this journal, which has at most 2^62 entries.
+-- So many workers led to it as were asked for, or none did.
+pub record RanSo {H M Q W V E : Type 0} (G : Ghosts ScriptEnd) (m : Meaning H M Q W V ServerNote E)
+    (t : Terms) (asked : Asked) (groups : List ScriptGroup) (how : Ending)
+    (journal : List (Entry ServerNote)) : Type 0 where
+  pub bound : length journal ≤ 2 ^ 62
+  pub ended : EndedSo G t asked groups how journal
+  pub led : LedOrNone m t asked how journal
+  pub one : asked.workers ≡ 1 → asked.until ≡ None → IsOfOneWorker asked groups how journal
+
+-- Its first entries were handed over, so many, and the others are held. Those that were handed over
+-- were whole volumes, or more, of the size that was asked for.
+pub record IsHeld (t : Terms) (asked : Asked) (taken : Option (List (Entry ServerNote))) (first : ℕ)
+    (entries journal : List (Entry ServerNote)) : Type 0 where
+  pub within : first ≤ length journal
+  pub held : entries ≡ drop first journal
+  pub taken_is : WhereTold (HasTaken t first journal) taken
+  pub filled : FillsVolume asked.volume first
+
+-- What is left of a run over a script: one journal, and the watch stands for it.
 pub record LeavesScript {W V Q : Type 0} (G : Ghosts ScriptEnd)
     (m : Meaning (ServerHandler ScriptEnd G) NetContent Q W V ServerNote ScriptEnd)
     (t : Terms) (asked : Asked) (groups : List ScriptGroup)
     (served : Served NetContent Q W V) : Type 0 where
   pub journal : List (Entry ServerNote)
-  pub within : served.parts.first ≤ length journal
-  pub bound : length journal ≤ 2 ^ 62
-  pub held : served.parts.journal.entries ≡ drop served.parts.first journal
-  pub taken : WhereTold (HasTaken t served.parts.first journal)
-      (m.volumes served.parts.volumes).taken
-  pub filled : FillsVolume asked.volume served.parts.first
+  pub is : IsHeld t asked (m.volumes served.parts.volumes).taken served.parts.first
+      served.parts.journal.entries journal
   pub watch : m.watched t served.parts.watch journal
-  pub run : IsRunOrNone G t asked groups served.ending journal
-  pub some : (served.ending ≡ ending.Over) ⊎ (served.ending ≡ ending.Notified)
-      → IsScriptRun G t asked groups served.ending journal
-  pub led : LedOrNone m t asked served.ending journal
-  pub one : asked.workers ≡ 1 → asked.until ≡ None
-      → IsOfOneWorker asked groups served.ending journal
+  pub ran : RanSo G m t asked groups served.ending journal
 
 -- the terms have the script of a text, with a net that fails in no call
 pub record ForScript (asked : Asked) (groups : List ScriptGroup) (t : Terms) : Type 0 where

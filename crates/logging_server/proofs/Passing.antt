@@ -1,8 +1,8 @@
 -- From what a replay wrote to what its audit finds.
-use Rattle.std.proofs.Common.{◌≡◌, ◌∙◌, ◌≤◌, ◌<◌, ◌+◌, ◌^◌, arith, ℕ, false, List, [], ◌∷◌, ◌++◌}
-use Rattle.std.proofs.Common.{length, drop, Option, Some, None, refl, sym, ap, subst}
+use Rattle.std.proofs.Common.{◌≡◌, ◌∙◌, ◌≤◌, ◌+◌, arith, ℕ, List, [], ◌∷◌, ◌++◌, length, Option}
+use Rattle.std.proofs.Common.{Some, None, refl, sym, ap, subst}
 use Rattle.std.specs.Prelude.{IfSome}
-use Rattle.std.specs.List.{AllByRecursion, list_any}
+use Rattle.std.specs.List.{AllByRecursion}
 use Rattle.std.proofs.lemmas.List.{append_cancel_left, length-drop}
 use Rattle.ev_base.specs.Sink.{SinkFacts}
 use Rattle.ev_base.specs.Source.{SourceFacts}
@@ -12,7 +12,7 @@ use Rattle.cmd_audit.specs.Audits.{Audits}
 use Rattle.cmd_audit.specs.Laws.{Passes}
 use Rattle.cmd_audit.specs.declared.auditing.AuditEnd.{AuditEnd}
 use Rattle.cmd_audit.proofs.Passing.{passes}
-use Rattle.cmd_line.specs.Ranges.{AreInRange, IsWithin}
+use Rattle.cmd_line.specs.Ranges.{IsWithin}
 use Rattle.cmd_line.specs.declared.options.Form.{Form}
 use Rattle.cmd_line.specs.declared.options.Form.TheVariants.{Journal}
 use Rattle.cmd_line.specs.declared.options.Options.{Options}
@@ -20,8 +20,9 @@ use Rattle.cmd_gen.specs.cmd_replay.specs.acceptor.specs.Servers.{servers}
 use Rattle.cmd_gen.specs.cmd_replay.specs.acceptor.specs.declared.server.ServerHandler.{ServerHandler}
 use Rattle.cmd_gen.specs.cmd_replay.specs.Outputs.{Writes, text_in}
 use Rattle.cmd_gen.specs.cmd_replay.specs.Replaying.{Replays, ReplaysWhole, ServesText}
-use Rattle.cmd_gen.specs.cmd_replay.specs.Replays.{RunsScript, asked_by, terms_in}
+use Rattle.cmd_gen.specs.cmd_replay.specs.Replays.{EndsAs, RunsScript, asked_by, terms_in}
 use Rattle.cmd_gen.specs.cmd_replay.specs.Runs.{IsScriptRun}
+use Rattle.cmd_gen.specs.cmd_replay.proofs.All.{run-of}
 use Rattle.cmd_gen.specs.cmd_replay.specs.declared.ends.Played.{Played}
 use Rattle.cmd_gen.specs.cmd_replay.specs.declared.ends.ReplayEnd.{ReplayEnd}
 use Rattle.cmd_gen.specs.cmd_replay.specs.declared.ends.ReplayEnd.TheVariants.{Done}
@@ -37,7 +38,6 @@ use Rattle.reactor_model.specs.reactor_journal.specs.declared.entry.Entry.TheVar
 use Rattle.script_net.specs.ScriptEnd.{script_end_facts, ScriptEndKeeps}
 use Rattle.script_net.specs.declared.end.ScriptEnd.{ScriptEnd}
 use Rattle.script_net.specs.event_script.specs.Grammar.{last_moment}
-use Rattle.script_net.specs.event_script.specs.Script.{ScriptGroup}
 use Rattle.logging_server.specs.Laws.{ReplaysToText}
 use Rattle.cmd_audit.specs.journal_reader.specs.Journals.{IsJournalText}
 use Rattle.cmd_audit.specs.journal_reader.specs.Limits.{EntryIsWithin}
@@ -93,7 +93,10 @@ module _ {K V : Type 0} (G : Ghosts ScriptEnd) (sink : K → SinkFacts)
   terms = terms_in Journal asked served.groups (sink output) (facts volumes)
 
   run : IsScriptRun G terms asked served.groups runs.how runs.journal
-  run = runs.done r.done
+  run =
+      let ends = subst (λ (e : ReplayEnd). EndsAs e runs.how (facts volumes).faults
+      (facts played.volumes).faults) r.done runs.ends in
+      run-of terms asked served.groups runs.journal runs.how ends runs.ran.ended
 
   -- the text is that of its journal
   wrote : text ≡ text_in Journal (options.most + 1) runs.journal
@@ -105,7 +108,7 @@ module _ {K V : Type 0} (G : Ghosts ScriptEnd) (sink : K → SinkFacts)
 
   within : AllByRecursion EntryIsWithin runs.journal
   within =
-      let bound = runs.bound in
+      let bound = runs.ran.bound in
       let taken = whole.whole.takes.within in
       let few = r.short in
       journal_within {H = ServerHandler ScriptEnd G}
@@ -137,9 +140,9 @@ module _ {K V : Type 0} (G : Ghosts ScriptEnd) (sink : K → SinkFacts)
   -- those that were handed over and those that are held
   many : length runs.journal ≡ played.first + length played.journal.entries
   many =
-      let held = ap length runs.held in
+      let held = ap length runs.is.held in
       let rest = length-drop played.first runs.journal in
-      let low = runs.within in
+      let low = runs.is.within in
       omega (arith, held, rest, low)
 
   pub replayed_pass : (most : ℕ) (given : List ℕ) (k l : SourceFacts) (o p : SinkFacts)

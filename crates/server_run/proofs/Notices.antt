@@ -1,12 +1,9 @@
 -- What is drained of a ring was posted, and what a turn was notified of stands in the journal.
-use Rattle.std.proofs.Common.{ℕ, suc, ◌≡◌, ◌==◌, Bool, true, false, not, ◌&&◌, ◌||◌, if◌then◌else◌}
-use Rattle.std.proofs.Common.{List, [], ◌∷◌, ◌++◌, length, filter, refl, sym, ap, ◌∙◌, Option, Some}
+use Rattle.std.proofs.Common.{ℕ, ◌≡◌, ◌==◌, Bool, true, false, not, ◌&&◌, ◌||◌, if◌then◌else◌}
+use Rattle.std.proofs.Common.{List, [], ◌∷◌, length, filter, refl, ap, ◌∙◌, Option, Some}
 use Rattle.std.proofs.Common.{None}
 use Rattle.std.proofs.lemmas.Bool.{and_parts, and_from, or_right, false≢true}
-use Rattle.std.proofs.lemmas.List.Folds.{list_all-append}
 use Rattle.std.specs.List.{list_all, list_any}
-use mathlib.Core.Option.{some}
-use lib.ListN.{get_elem?}
 use Rattle.std.specs.Prelude.{option_map}
 use Rattle.ev_base.specs.ev_types.specs.declared.upcall.Answer.TheVariants.{Again}
 use Rattle.ev_base.specs.ev_types.specs.declared.upcall.Kind.{Kind}

@@ -55,6 +55,6 @@ returns g c = λ groups text.
     let both = writes-behind served.ending served.parts.first o c.as_slice.result.now l.journal
     c.write_held-end.result.0 p v.faults (g.V.Volumes.facts served.parts.volumes).faults net
     rose
-    (c.as_slice.ensures ∙ l.held) held in
+    (c.as_slice.ensures ∙ l.is.held) held in
     runs-script (unwatched _ g.V.Volumes.facts) g.K.Sink.facts Grouped c.args.asked groups o v
-    served c.write_held-end.result.0 c.write_held-end.result.1 l l.led both.0 both.1
+    served c.write_held-end.result.0 c.write_held-end.result.1 l l.ran both.0 both.1

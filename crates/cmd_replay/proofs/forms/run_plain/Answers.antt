@@ -66,7 +66,7 @@ returns g c = λ groups text.
     let written = writes-along broken served.ending o _ _
     (by-lines g.K.Sink.facts _ o served.parts.watch l.journal refl refl l.watch) in
     runs-script (with_lines _ g.K.Sink.facts g.V.Volumes.facts) g.K.Sink.facts Plain
-    c.args.asked groups o v served c.end_by-end.result c.into_output.result l l.led
+    c.args.asked groups o v served c.end_by-end.result c.into_output.result l l.ran
     (subst (λ (e : ReplayEnd). EndsAs e served.ending v.faults
     (g.V.Volumes.facts served.parts.volumes).faults) (sym is) ends)
     (subst (λ k. Writes Plain c.end_by-end.result o
