@@ -1,13 +1,15 @@
 -- What contracts see of a net that plays a script, and what it tells.
-use Rattle.std.specs.Prelude.{◌≡◌, ℕ, Bool, true, false, ◌&&◌, ◌==◌, if◌then◌else◌, List, [], ◌∷◌}
+use Rattle.std.specs.Prelude.{◌≡◌, ℕ, ◌-◌, Bool, true, false, ◌&&◌, ◌==◌, List, [], ◌∷◌}
+use Rattle.std.specs.Prelude.{if◌then◌else◌}
 use Rattle.std.specs.Prelude.{Option, Some, None}
 use Rattle.ev_base.specs.ev_types.specs.declared.upcall.Mask.{Mask}
 use Rattle.ev_base.specs.Counts.{counted}
 use Rattle.ev_base.specs.Terms.{Terms, Group}
 use Rattle.ev_base.specs.Playing.{Playing, Seat, played, Plays, waited}
-use Rattle.ev_base.specs.Net.{NetFacts, Call, Waits}
+use Rattle.ev_base.specs.Net.{NetFacts, Call, Attaches, SetsMask, Retires, TurnsAway, Waits}
 use Rattle.ev_base.specs.declared.net.Report.{Report}
 use Rattle.script_net.specs.declared.end.ScriptEnd.{ScriptEnd}
+use Rattle.script_net.specs.ScriptEnd.{script_end_facts}
 use Rattle.script_net.specs.Seating.{handles_of}
 
 -- The groups of its script and the calls that it made say how far the script was played. Its lists
@@ -78,6 +80,37 @@ after_wait most n =
       reports = a.reports;
       calls = Waits most a.answer a.reports ∷ n.calls;
     }
+
+-- the net after an attach that failed, and after one that was met
+abbrev pub after_failed_attach : NetContent → NetContent
+after_failed_attach n = record n {
+  attaches = counted n.attaches;
+  failed_attaches = counted n.failed_attaches;
+}
+
+abbrev pub attached_by : ℕ → Mask → Option ℕ → NetContent → NetContent
+attached_by handle mask serial n = record n {
+  attaches = counted n.attaches;
+  spare = n.spare - 1;
+  calls = Attaches handle mask serial ∷ n.calls;
+}
+
+-- after a mask was set, an end retired, and an end turned away
+abbrev pub mask_set_by : ℕ → Mask → NetContent → NetContent
+mask_set_by handle mask n = record n { calls = SetsMask handle mask ∷ n.calls }
+
+abbrev pub retired_by : ℕ → ScriptEnd → NetContent → NetContent
+retired_by handle end n = record n {
+  retired = (handle, end) ∷ n.retired;
+  calls = Retires handle ∷ n.calls;
+}
+
+abbrev pub turned_away_by : ScriptEnd → NetContent → NetContent
+turned_away_by end n = record n {
+  turned_away = end ∷ n.turned_away;
+  spare = n.spare - 1;
+  calls = TurnsAway (script_end_facts end).serial ∷ n.calls;
+}
 
 -- the end that was retired last of those of a handle
 abbrev pub retired_of : ℕ → List (ℕ × ScriptEnd) → Option ScriptEnd

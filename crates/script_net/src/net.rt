@@ -1,7 +1,6 @@
 //! A demultiplexer that plays a script.
-ghost use Rattle.std.specs.Prelude.{◌≡◌, ◌≤◌, ◌<◌, ◌+◌, ◌-◌, ◌∷◌, ℕ, [], length, option_map};
+ghost use Rattle.std.specs.Prelude.{◌≡◌, ◌≤◌, ◌<◌, ◌-◌, option_map};
 ghost use Rattle.std.specs.Prelude.{reverse, Some, None, OnOk, IsOk, IfOk, Contains};
-ghost use Rattle.ev_base.specs.Counts.{counted};
 ghost use Rattle.ev_base.specs.Playing.{waited};
 ghost use Rattle.script_net.specs.Scripts.{group_views};
 ghost use Rattle.script_net.specs.Playable.{AreInOrder, AllWithin, many_steps};
@@ -139,7 +138,9 @@ impl ScriptNet {
 impl Net for ScriptNet {
     ghost use Rattle.ev_base.specs.Terms.{Terms, KeepsOn, KeepsOnWith};
     ghost use Rattle.ev_base.specs.Net.{NetWaits, Reserves, NetAttaches, SetsMaskOf, RetiresEnd};
-    ghost use Rattle.ev_base.specs.Net.{TurnsAwayEnd, Attaches, SetsMask, Retires, TurnsAway};
+    ghost use Rattle.ev_base.specs.Net.{TurnsAwayEnd};
+    ghost use Rattle.script_net.specs.NetContent.{after_failed_attach, attached_by, mask_set_by};
+    ghost use Rattle.script_net.specs.NetContent.{retired_by, turned_away_by};
     ghost use Rattle.script_net.specs.ScriptEnd.{script_end_facts, ScriptEndKeeps};
     ghost use Rattle.script_net.specs.NetLaws.{net_is_sound, net_follows_groups};
 
@@ -206,17 +207,9 @@ impl Net for ScriptNet {
             → ScriptEndKeeps t end.new }
         ensures same_end { end.new ≡ end.old }
         ensures fails { Contains self.old.fail_attaches self.old.attaches → (result ≡ Err record {})
-            × (self.new ≡ record self.old {
-              attaches = counted self.old.attaches;
-              failed_attaches = counted self.old.failed_attaches;
-            }) }
+            × (self.new ≡ after_failed_attach self.old) }
         ensures exactly { (Contains self.old.fail_attaches self.old.attaches → ⊥) → (result ≡ Ok tt)
-            × (self.new ≡ record self.old {
-              attaches = counted self.old.attaches;
-              spare = self.old.spare - 1;
-              calls = Attaches handle.0 mask (script_end_facts end.old).serial
-                  ∷ self.old.calls;
-            }) }
+            × (self.new ≡ attached_by handle.0 mask (script_end_facts end.old).serial self.old) }
     {
         let number = self.attaches;
         self.attaches = number.saturating_add(1);
@@ -236,9 +229,7 @@ impl Net for ScriptNet {
         ensures sets { SetsMaskOf (script_net_facts self.old) handle.0 mask
             (script_net_facts self.new) }
         ensures kept { KeepsOn script_net_keeps self.old self.new }
-        ensures exactly { self.new ≡ record self.old {
-          calls = SetsMask handle.0 mask ∷ self.old.calls;
-        } }
+        ensures exactly { self.new ≡ mask_set_by handle.0 mask self.old }
     {
         self.player.seats.set_mask(handle, mask);
         self.player.changed = true;
@@ -250,10 +241,7 @@ impl Net for ScriptNet {
         ensures retires { RetiresEnd (script_net_facts self.old) handle.0 end
             (script_net_facts self.new) }
         ensures kept { KeepsOnWith script_net_keeps ScriptEndKeeps end self.old self.new }
-        ensures exactly { self.new ≡ record self.old {
-          retired = (handle.0, end) ∷ self.old.retired;
-          calls = Retires handle.0 ∷ self.old.calls;
-        } }
+        ensures exactly { self.new ≡ retired_by handle.0 end self.old }
     {
         let place = self.player.seats.retire(handle);
         self.player.seats.mark(place);
@@ -269,11 +257,7 @@ impl Net for ScriptNet {
         ensures turns_away { TurnsAwayEnd (script_net_facts self.old) (script_end_facts end).serial
             end (script_net_facts self.new) }
         ensures kept { KeepsOnWith script_net_keeps ScriptEndKeeps end self.old self.new }
-        ensures exactly { self.new ≡ record self.old {
-          turned_away = end ∷ self.old.turned_away;
-          spare = self.old.spare - 1;
-          calls = TurnsAway (script_end_facts end).serial ∷ self.old.calls;
-        } }
+        ensures exactly { self.new ≡ turned_away_by end self.old }
     {
         let serial = end.serial();
         self.player.seats.mark(end.place());

@@ -1,5 +1,5 @@
 -- The chains of a wheel, as its calls find and leave them.
-use Rattle.std.specs.Prelude.{ℕ, ◌≡◌, ◌<◌, List, length, vec_capacity}
+use Rattle.std.specs.Prelude.{◌≡◌, ◌<◌, List, length, vec_capacity}
 use Rattle.timer_queue.specs.declared.timer.Timer.{Timer}
 use Rattle.timer_queue.specs.Timers.{in_order, AreApart}
 use Rattle.timer_wheel.specs.declared.chain.Chains.{Chains}

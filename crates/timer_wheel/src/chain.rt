@@ -1,5 +1,5 @@
 //! The chains of a wheel: the places of each spoke, linked in order of (deadline, timer).
-ghost use Rattle.std.specs.Prelude.{◌≡◌, ◌<◌, ◌≤◌, ◌++◌, ◌∷◌, [], ℕ, List, length, true, false};
+ghost use Rattle.std.specs.Prelude.{◌≡◌, ◌<◌, ◌≤◌, ◌++◌, ◌∷◌, [], List, length, true, false};
 ghost use Rattle.std.specs.Prelude.{vec_len, vec_capacity, replicate, None, Some, IfOk, IfSome};
 ghost use Rattle.std.specs.Prelude.{IfNone, slice_get, Contains};
 ghost use Rattle.std.specs.List.Sorted.{IsPermutation};

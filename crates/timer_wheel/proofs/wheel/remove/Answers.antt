@@ -1,6 +1,6 @@
-use Rattle.std.proofs.Common.{◌≤◌, length, ap, sym, ◌∙◌, subst, arith}
+use Rattle.std.proofs.Common.{length, sym, subst, arith}
 use Rattle.timer_queue.specs.Timers.{in_order, without_timer}
-use Rattle.timer_wheel.specs.Chains.{AreChains, first_of}
+use Rattle.timer_wheel.specs.Chains.{AreChains}
 use Rattle.timer_wheel.specs.Linked.{timers_in}
 use Rattle.timer_queue.proofs.Contents.{apart_removed}
 use Rattle.timer_wheel.proofs.Firsts.{wheel_removed, chains_removed_in_order, first_stays, behind}

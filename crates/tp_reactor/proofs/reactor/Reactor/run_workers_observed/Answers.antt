@@ -68,8 +68,8 @@ returns-in-Ok-clause-runs g c =
     (HasPlaces g.Q.TimerQueue.spare) IsPlaced g.W.Watch.stands g.W.Watch.faults
     g.W.Watch.is_broken g.W.Watch.whole g.V.Volumes.facts in
     let pool : RunsPool m c.args.most_ms c.args.until (length c.args.hired.now.items)
-        (known_by c.args.root.now) (poster_view (poster_of c.args.root.now))
-        (worker_end c.run_pool.result c.run_pool.new.root) =
+    (known_by c.args.root.now) (poster_view (poster_of c.args.root.now))
+    (worker_end c.run_pool.result c.run_pool.new.root) =
     pool_runs _ _ _ _ _ _ _ _ _ _ c.run_pool.ensures.runs in
     record {
       one = λ is. absurd (c.if-many-eq0.false (omega (arith, is, c.len-many.ensures)));
