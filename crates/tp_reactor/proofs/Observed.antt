@@ -16,7 +16,8 @@ use Rattle.reactor_desk.specs.declared.terms.DeskTerms.{DeskTerms}
 use Rattle.reactor_desk.specs.declared.leading.Led.{Led}
 use Rattle.reactor_desk.specs.declared.leading.Led.TheVariants as led
 use Rattle.tp_reactor.specs.Led.{IsLed}
-use Rattle.tp_reactor.specs.Observed.{AllObserved, EndsObserved, Goes, Loop, Observers, PoolObserved}
+use Rattle.tp_reactor.specs.Observed.{AllObserved, EndsObserved, Goes, Loop, Observers}
+use Rattle.tp_reactor.specs.Observed.{PoolObserved}
 use Rattle.tp_reactor.specs.Observed.{RoundObserved, RoundThenLed, RoundsObserved, RunsObserved}
 use Rattle.tp_reactor.specs.Observed.{ServesAndLeadsObserved, loop_end}
 use Rattle.tp_reactor.specs.Pool.{AllRun, EndsPool, RunsPool, WorkerEnd, hirer, hirer_posted}

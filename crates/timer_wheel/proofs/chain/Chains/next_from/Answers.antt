@@ -13,10 +13,12 @@ use Rattle.timer_wheel.proofs.chain.Chains.next_from.Goals.{then-at-spokes, else
 pub loop-turn-init : goal.loop-turn-init
 loop-turn-init c =
     let many : c.len-spokes.result ≡ length c.args.self.now.heads.items = omega arith in
-    let n : c.args.from / c.args.self.now.resolution + 0 ≡ c.args.from / c.args.self.now.resolution = omega arith in
+    let n : c.args.from / c.args.self.now.resolution + 0
+        ≡ c.args.from / c.args.self.now.resolution = omega arith in
     record {
       within = rw many at c.spoke-at.ensures.within;
-      spoke = (rw many at c.spoke-at.ensures.is) ∙ ap (λ k. k % length c.args.self.now.heads.items) (sym n);
+      spoke = (rw many at c.spoke-at.ensures.is)
+          ∙ ap (λ k. k % length c.args.self.now.heads.items) (sym n);
       later = λ u a.
           let m = among_at u (timers_of c.args.self.now.places.items) a in
           let e : c.args.from ≤ u.deadline =
@@ -36,8 +38,10 @@ returns-then-is_some c =
     ∙ ap (λ h. in_tick c.args.self.now.resolution (c.args.from / c.args.self.now.resolution)
     c.loop-turn.turn (head_timer places h))
     (get_or_read heads c.loop-turn.at _ c.loop-turn.invariant.within c.index.ensures None) in
-    found_some c.args.self.now.heads.items c.args.self.now.places.items c.args.self.now.resolution c.requires.chains.ticks
-    c.requires.chains.apart c.requires.chains.chains (c.args.from / c.args.self.now.resolution) c.loop-turn.turn
+    found_some c.args.self.now.heads.items c.args.self.now.places.items c.args.self.now.resolution
+        c.requires.chains.ticks
+    c.requires.chains.apart c.requires.chains.chains (c.args.from / c.args.self.now.resolution)
+        c.loop-turn.turn
     c.loop-turn.at c.loop-turn.invariant.within c.loop-turn.invariant.spoke
     c.loop-turn.invariant.later c.head_of_tick-found.result here
     c.if-is_some.ensures
@@ -61,13 +65,15 @@ loop-turn-preserved c =
     ∙ ap (λ k. k % spokes) n in
     let later : (u : Timer) → Among u (timers_of c.args.self.now.places.items)
     → tick + (c.loop-turn.turn + 1) ≤ u.deadline / c.args.self.now.resolution =
-    found_none c.args.self.now.heads.items c.args.self.now.places.items c.args.self.now.resolution c.requires.chains.ticks
+    found_none c.args.self.now.heads.items c.args.self.now.places.items c.args.self.now.resolution
+        c.requires.chains.ticks
     c.requires.chains.apart c.requires.chains.chains tick c.loop-turn.turn c.loop-turn.at
     c.loop-turn.invariant.within c.loop-turn.invariant.spoke c.loop-turn.invariant.later
     c.head_of_tick-found.result here c.if-is_some.ensures in
     elim c.if-at-spokes.branch [
       | then-at-spokes w ↦
-          let full : c.loop-turn.at + 1 ≡ spokes = omega (arith, w.if-at-spokes.true, c.len-spokes.ensures) in
+          let full : c.loop-turn.at + 1 ≡ spokes =
+              omega (arith, w.if-at-spokes.true, c.len-spokes.ensures) in
           record {
             within = omega (arith, w.at-is, c.requires.chains.spokes);
             spoke = w.at-is ∙ sym (mod_self spokes) ∙ ap (λ k. k % spokes) (sym full) ∙ next;

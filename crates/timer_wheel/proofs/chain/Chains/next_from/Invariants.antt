@@ -8,5 +8,6 @@ abbrev pub invariant-loop-turn : goal.invariant-loop-turn
 invariant-loop-turn l = record {
   within : l.at < length l.self.heads.items;
   spoke : l.at ≡ (l.tick + l.turn) % length l.self.heads.items;
-  later : (u : Timer) → Among u (timers_of l.self.places.items) → l.tick + l.turn ≤ u.deadline / l.self.resolution;
+  later : (u : Timer) → Among u (timers_of l.self.places.items) → l.tick + l.turn
+      ≤ u.deadline / l.self.resolution;
 }

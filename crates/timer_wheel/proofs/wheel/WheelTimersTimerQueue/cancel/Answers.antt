@@ -28,7 +28,8 @@ led_away : (g : _) (c : goal.In_default-find g)
 led_away g c =
     let s = c.self.inside in
     sym (ap (λ q. is_scheduled c.args.timer (in_order (timers_of q.places))) c.self.view_is)
-    ∙ led_nowhere s.index.items (timers_of s.chains.places.items) c.args.timer c.self.invariant.covers
+    ∙ led_nowhere s.index.items (timers_of s.chains.places.items) c.args.timer
+        c.self.invariant.covers
     c.in-Some.entry c.in-Some.ensures.0 (rw c.deref.ensures.value at c.in-Some.ensures.1)
     c.in_default-find.ensures.none
 
@@ -43,7 +44,8 @@ returns-in_default-find-clause-timers g c =
 pub invariant_of-self : goal.invariant_of-self
 invariant_of-self g c =
     let s = c.self.inside in
-    kept_removed g.row.SPOKES s.chains.resolution _ s.chains.heads.items c.remove.new.chains.heads.items s.chains.places.items
+    kept_removed g.row.SPOKES s.chains.resolution _ s.chains.heads.items
+        c.remove.new.chains.heads.items s.chains.places.items
     c.remove.new.chains.places.items s.first c.remove.new.first s.index.items s.room _ _ _
     c.in-Some-find.t c.self.invariant c.remove.ensures.wheel c.remove.ensures.timers
     c.remove.ensures.shape.ticks c.remove.ensures.shape.capacity
@@ -63,18 +65,21 @@ returns-clause-found g c =
 pub returns-clause-timers : goal.returns-clause-timers
 returns-clause-timers g c =
     let places = c.self.inside.chains.places.items in
-    in_order-removed c.in-Some-find.t (timers_of places) (timers_of c.remove.new.chains.places.items)
+    in_order-removed c.in-Some-find.t (timers_of places) (timers_of
+        c.remove.new.chains.places.items)
     c.self.invariant.wheel.apart c.remove.ensures.timers
     ∙ ap (λ n. without_timer n (in_order (timers_of places))) (number g c)
     ∙ ap (λ q. without_timer c.args.timer (in_order (timers_of q.places))) c.self.view_is
 
 pub returns-clause-spare : goal.returns-clause-spare
 returns-clause-spare g c =
-    let spare : c.self.inside.room - length c.self.inside.chains.places.items ≡ c.args.self.now.spare =
+    let spare : c.self.inside.room - length c.self.inside.chains.places.items
+        ≡ c.args.self.now.spare =
     ap (λ q. q.spare) c.self.view_is in
     omega (
       arith,
-      fewer_places c.in-Some-find.t c.self.inside.chains.places.items c.remove.new.chains.places.items
+      fewer_places c.in-Some-find.t c.self.inside.chains.places.items
+          c.remove.new.chains.places.items
           c.self.invariant.wheel.apart c.remove.ensures.timers,
       c.self.invariant.fits,
     )

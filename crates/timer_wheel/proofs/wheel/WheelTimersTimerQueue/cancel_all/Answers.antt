@@ -46,7 +46,8 @@ loop-end-preserved-then-t-handle g c =
           c.remove.new.chains.places.items c.remove.new.first)
           c.loop-end.invariant.wheel.each_spoke c.remove.ensures.wheel);
       resolution = c.remove.ensures.shape.ticks ∙ c.loop-end.invariant.resolution;
-      others = filter-removed p.timer (timers_of places) (timers_of c.remove.new.chains.places.items)
+      others = filter-removed p.timer (timers_of places) (timers_of
+          c.remove.new.chains.places.items)
           c.loop-end.invariant.wheel.apart c.remove.ensures.timers q out
           ∙ c.loop-end.invariant.others;
       capacity = c.remove.ensures.shape.capacity ∙ c.loop-end.invariant.capacity;
@@ -58,7 +59,8 @@ loop-end-preserved-then-t-handle g c =
       );
       index = c.loop-end.invariant.index;
       room = c.loop-end.invariant.room;
-      covers = covers_removed w.index.items (timers_of places) (timers_of c.remove.new.chains.places.items)
+      covers = covers_removed w.index.items (timers_of places) (timers_of
+          c.remove.new.chains.places.items)
           p.timer c.remove.ensures.timers c.loop-end.invariant.covers;
       within = omega (
         arith,
@@ -66,7 +68,8 @@ loop-end-preserved-then-t-handle g c =
             c.loop-end.invariant.wheel.apart c.remove.ensures.timers,
         c.loop-end.invariant.within,
       );
-      clear = clear_taken c.args.handle.0 places c.remove.new.chains.places.items (c.loop-end.end - 1)
+      clear = clear_taken c.args.handle.0 places c.remove.new.chains.places.items (c.loop-end.end -
+          1)
           p.timer p c.loop-end.invariant.wheel.apart here refl c.remove.ensures.timers
           c.remove.ensures.forward (λ k r least at.
           c.loop-end.invariant.clear k r (omega arith) at);
@@ -96,8 +99,10 @@ loop-end-preserved g c =
       ];
     }
   where
-    same_place : (y z : Place) → slice_get c.loop-end.self-inside.chains.places.items (c.loop-end.end - 1)
-        ≡ Some y → slice_get c.loop-end.self-inside.chains.places.items (c.loop-end.end - 1) ≡ Some z
+    same_place : (y z : Place)
+        → slice_get c.loop-end.self-inside.chains.places.items (c.loop-end.end - 1)
+        ≡ Some y → slice_get c.loop-end.self-inside.chains.places.items (c.loop-end.end - 1)
+            ≡ Some z
         → y ≡ z
     same_place y z a b = cc
 
@@ -106,7 +111,8 @@ invariant_of-self g c =
     let w = c.loop-end.self-inside in
     let k = c.loop-end.invariant in
     record {
-      wheel = subst (λ n. IsWheel n w.chains.resolution w.chains.heads.items w.chains.places.items w.first)
+      wheel = subst (λ n. IsWheel n w.chains.resolution w.chains.heads.items w.chains.places.items
+          w.first)
           c.self.invariant.wheel.each_spoke k.wheel;
       rising = subst (λ v. IsRising v.items) (sym k.index) c.self.invariant.rising;
       covers = k.covers;
@@ -122,7 +128,8 @@ invariant_of-self g c =
 
 pub returns-clause-kept : goal.returns-clause-kept
 returns-clause-kept g c =
-    let spare : c.self.inside.room - length c.self.inside.chains.places.items ≡ c.args.self.now.spare =
+    let spare : c.self.inside.room - length c.self.inside.chains.places.items
+        ≡ c.args.self.now.spare =
     ap (λ q. q.spare) c.self.view_is in
     omega (arith, spare, c.loop-end.invariant.room, c.loop-end.invariant.fewer)
 
@@ -139,7 +146,8 @@ returns-clause-timers g c =
 
 pub returns-clause-spare : goal.returns-clause-spare
 returns-clause-spare g c =
-    let spare : c.self.inside.room - length c.self.inside.chains.places.items ≡ c.args.self.now.spare =
+    let spare : c.self.inside.room - length c.self.inside.chains.places.items
+        ≡ c.args.self.now.spare =
     ap (λ q. q.spare) c.self.view_is in
     let places : length c.self.inside.chains.places.items ≡ length c.args.self.now.places =
     ap (λ q. length q.places) c.self.view_is in

@@ -11,7 +11,8 @@ invariant-loop-end g l =
     let w = l.self-inside in
     let before = l.initial.self-inside in
     record {
-      wheel : IsWheel (length before.chains.heads.items) w.chains.resolution w.chains.heads.items w.chains.places.items w.first;
+      wheel : IsWheel (length before.chains.heads.items) w.chains.resolution w.chains.heads.items
+          w.chains.places.items w.first;
       resolution : w.chains.resolution ≡ before.chains.resolution;
       others : without_handle l.handle.0 (in_order (timers_of w.chains.places.items))
           ≡ without_handle l.handle.0 (in_order (timers_of before.chains.places.items));

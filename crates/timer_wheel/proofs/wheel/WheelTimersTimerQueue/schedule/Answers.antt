@@ -26,7 +26,8 @@ enter-requires-clause-fresh g c =
 
 pub enter-requires-clause-room : goal.enter-requires-clause-room
 enter-requires-clause-room g c =
-    let spare : c.self.inside.room - length c.self.inside.chains.places.items ≡ c.args.self.now.spare =
+    let spare : c.self.inside.room - length c.self.inside.chains.places.items
+        ≡ c.args.self.now.spare =
     ap (λ q. q.spare) c.self.view_is in
     omega (
       arith,
@@ -51,7 +52,8 @@ invariant_of-self g c =
     let spare : s.room - length s.chains.places.items ≡ c.args.self.now.spare =
     ap (λ q. q.spare) c.self.view_is in
     let n : length c.add.new.self.places.items ≡ length s.chains.places.items + 1 =
-    one_place_more c.args.t s.chains.places.items c.add.new.self.places.items c.add.ensures.timers in
+    one_place_more c.args.t s.chains.places.items c.add.new.self.places.items c.add.ensures.timers
+        in
     let new = c.add.new.self in
     let added = wheel_added g.row.SPOKES s.chains.resolution s.chains.heads.items new.heads.items
     s.chains.places.items new.places.items s.first c.args.t c.self.invariant.wheel fresh
@@ -96,5 +98,6 @@ returns-clause-spare g c =
     let spare : s.room - length s.chains.places.items ≡ c.args.self.now.spare =
     ap (λ q. q.spare) c.self.view_is in
     let n : length c.add.new.self.places.items ≡ length s.chains.places.items + 1 =
-    one_place_more c.args.t s.chains.places.items c.add.new.self.places.items c.add.ensures.timers in
+    one_place_more c.args.t s.chains.places.items c.add.new.self.places.items c.add.ensures.timers
+        in
     omega (arith, n, spare, c.requires.room)
