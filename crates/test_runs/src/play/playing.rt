@@ -13,7 +13,7 @@ use acceptor::{Acceptor, ServerHandler};
 use core_loop::{RunEnd, close, post, register, run};
 use ev_base::{Handle, Host, Kind, Mask, Why};
 use log_handler::ServerNote;
-use reactor_core::{Core, Means, Parts};
+use reactor_core::{Core, Means, Parts, PostRefused};
 use reactor_model::{DropVolumes, EventHandler, Watch};
 use script_net::{ScriptEnd, ScriptHost, ScriptNet};
 use script_text::parse_script;
@@ -193,10 +193,26 @@ fn serve<R: Wait, W: Watch<ServerNote> + Drop>(
     requires { IsIdle ⟦<Player<W> as Means>⟧.m core }
 {
     let mut core = core;
-    let mut end = run(rt, &mut core, None, until);
-    if end == RunEnd::Enough {
-        let _ = post(&mut core, Handle(0), Kind::Except, 0, 0);
-        end = run(rt, &mut core, None, None);
-    }
+    let end = run_until(rt, &mut core, until);
     (end, watch_of(core))
+}
+
+/// Runs a reactor. Where that ended since so many handlers were closed or refused, it posts the
+/// notice, and runs it again.
+fn run_until<R: Wait, W: Watch<ServerNote> + Drop>(
+    rt: &R,
+    core: &mut Player<W>,
+    until: Option<u64>,
+) -> RunEnd
+    requires { IsIdle ⟦<Player<W> as Means>⟧.m core.old }
+    ensures { IsIdle ⟦<Player<W> as Means>⟧.m core.new }
+{
+    let end = run(rt, core, None, until);
+    if end != RunEnd::Enough {
+        return end;
+    }
+    match post(core, Handle(0), Kind::Except, 0, 0) {
+        Ok(()) | Err(PostRefused::Stopped) => run(rt, core, None, None),
+        Err(PostRefused::NoMemory) => RunEnd::NoMemory,
+    }
 }

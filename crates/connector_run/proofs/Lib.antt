@@ -1,0 +1,4 @@
+pub mod Serving
+pub mod Ending
+pub mod Leaving
+pub mod Beginning

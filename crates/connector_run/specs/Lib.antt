@@ -1,0 +1,4 @@
+pub mod Phases
+pub mod Running
+pub mod Leaving
+pub mod Opening
