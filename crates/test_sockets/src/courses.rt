@@ -5,7 +5,7 @@ use demux_mio::MioHost;
 use ev_base::{Handle, Host, Kind, ListenRefused, Mask, Report, Sent, Taken};
 use std::alloc::Global;
 use std::fs::File;
-use std::net::{IpAddr, Ipv4Addr};
+use std::net::IpAddr;
 
 /// What is done, and what it has to come to.
 #[derive(Clone, Copy)]
@@ -197,9 +197,6 @@ fn finds_out(stand: &mut Stand) -> bool {
     false
 }
 
-/// An address for documents (RFC 5737), which no interface has.
-const NOBODY: IpAddr = IpAddr::V4(Ipv4Addr::new(203, 0, 113, 1));
-
 /// Whether a host listens on this port, for a moment.
 fn listen(host: &mut MioHost<HostRuntime>, alloc: Global, port: u16) -> Result<(), ListenRefused> {
     match host.listen(alloc, port) {
@@ -211,7 +208,8 @@ fn listen(host: &mut MioHost<HostRuntime>, alloc: Global, port: u16) -> Result<(
 fn is_refused(mut host: MioHost<HostRuntime>, alloc: Global, port: u16) -> bool {
     let taken = listen(&mut host, alloc, port);
     let free = listen(&mut host, alloc, 0);
-    host.set_address(NOBODY);
+    // An address for documents (RFC 5737), which no interface has.
+    host.set_address(IpAddr::from([203, 0, 113, 1]));
     let foreign = listen(&mut host, alloc, 0);
     taken == Err(ListenRefused::Failed) && free == Ok(()) && foreign == Err(ListenRefused::Failed)
 }
