@@ -335,7 +335,7 @@ module _ {H M Q' W V N E : Type 0} (m : Meaning H M Q' W V N E) (t : Terms) wher
   goes_running until ended before_over over h between new a b =
       goes_then h _ _ (RunsSo m.means until ended over t h) between new a b
       (runs_then m.means t until ended before_over over a.first b.first h a.history b.history a.so
-          b.so)
+      b.so)
 
   -- ---- a step of a run
 
@@ -353,7 +353,7 @@ module _ {H M Q' W V N E : Type 0} (m : Meaning H M Q' W V N E) (t : Terms) wher
   step_enough until closed over h new a is =
       goes_so h _ (RunsSo m.means until (Some end.Enough) over t h) new a
       (runs_once m.means t until (Some end.Enough) over a.first h a.so.0 a.history (inr a.so.1)
-          a.so.2
+      a.so.2
       (record {
         earlier = [];
         between = h;
@@ -386,7 +386,7 @@ module _ {H M Q' W V N E : Type 0} (m : Meaning H M Q' W V N E) (t : Terms) wher
   step_over until over h between same new b none =
       let is : b.history ≡ h ++ b.so.entries = b.so.is ∙ ap (λ k. k ++ b.so.entries) same in
       runs_once m.means t until (Some end.Over) over b.first h b.so.entries b.history (inl
-          b.so.wait) is
+      b.so.wait) is
       (record {
         earlier = [];
         between = h;
@@ -554,7 +554,7 @@ module _ {H M Q' W V N E : Type 0} (m : Meaning H M Q' W V N E) where
       → Leads m (λ t before first h. PostedSo handle kind from seq result before h) old new
   posts old new handle kind from seq (Ok done) ok err cause = λ t F h stands none.
       goes_keeping m t h _ _ F new (keeps_posting h handle kind from seq) (ok t F h stands) none
-          refl
+      refl
   posts old new handle kind from seq (Err post.Stopped) ok err cause = λ t F h stands none.
       goes_same m t h _ F new (err t F h stands) none (refl, (cause t F h stands).0 refl)
   posts old new handle kind from seq (Err post.NoMemory) ok err cause = λ t F h stands none.
@@ -575,7 +575,7 @@ module _ {H M Q' W V N E : Type 0} (m : Meaning H M Q' W V N E) where
       → GoesOn m t h (TurnedSo m.means known t h) core
   known_turn t h core result known is a =
       subst (λ (r : Result (Option ℕ) StartRefused). GoesOn m t h (TurnedSo m.means r t h) core) is
-          a
+      a
 
   pub known_wait : (t : Terms) (h : List (Entry N)) (over : ℕ) (core : Core H M Q' W V N E)
       (result known : Result Polled PollRefused) → result ≡ known

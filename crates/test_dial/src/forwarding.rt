@@ -28,13 +28,13 @@ const BIG: &[u8] = &[
 
 /// One whose seconds do not fit version 1, with slack, and as it is sent.
 const WIDE: &[u8] = &[
-    3, 9, 9, 9, 28, 0, 0, 0, 4, 0, 0, 0, 7, 0, 0, 0, 0, 0, 0, 0, 1, 0, 0, 0, 2, 0, 0, 0, 2, 0, 0, 0,
-    104, 105, 5, 5,
+    3, 9, 9, 9, 28, 0, 0, 0, 4, 0, 0, 0, 7, 0, 0, 0, 0, 0, 0, 0, 1, 0, 0, 0, 2, 0, 0, 0, 2, 0, 0,
+    0, 104, 105, 5, 5,
 ];
 
 const WIDE_BIG: &[u8] = &[
-    2, 0, 0, 0, 0, 0, 0, 26, 0, 0, 0, 4, 0, 0, 0, 7, 0, 0, 0, 1, 0, 0, 0, 0, 0, 0, 0, 2, 0, 0, 0, 2,
-    104, 105,
+    2, 0, 0, 0, 0, 0, 0, 26, 0, 0, 0, 4, 0, 0, 0, 7, 0, 0, 0, 1, 0, 0, 0, 0, 0, 0, 0, 2, 0, 0, 0,
+    2, 104, 105,
 ];
 
 static ROWS: [Row; 7] = [
@@ -65,15 +65,24 @@ static ROWS: [Row; 7] = [
     },
     // A record that comes in two pieces.
     Row {
-        pieces: &[&[1, 0, 0], &[
-            0, 22, 0, 0, 0, 4, 0, 0, 0, 7, 0, 0, 0, 1, 0, 0, 0, 2, 0, 0, 0, 2, 0, 0, 0, 104, 105, 9,
-        ]],
+        pieces: &[
+            &[1, 0, 0],
+            &[
+                0, 22, 0, 0, 0, 4, 0, 0, 0, 7, 0, 0, 0, 1, 0, 0, 0, 2, 0, 0, 0, 2, 0, 0, 0, 104,
+                105, 9,
+            ],
+        ],
         read_fails: &[],
         takes: &[],
         write_fails: &[],
         turns: &[
             (Answer::Again, 0, 0, None),
-            (Answer::Close, 1, 30, Some(ForwardEnding::BadRecord { at: 30 })),
+            (
+                Answer::Close,
+                1,
+                30,
+                Some(ForwardEnding::BadRecord { at: 30 }),
+            ),
         ],
         held: BIG,
     },
@@ -86,7 +95,12 @@ static ROWS: [Row; 7] = [
         turns: &[
             (Answer::Again, 1, 30, None),
             (Answer::Again, 1, 30, None),
-            (Answer::Close, 1, 30, Some(ForwardEnding::BadRecord { at: 30 })),
+            (
+                Answer::Close,
+                1,
+                30,
+                Some(ForwardEnding::BadRecord { at: 30 }),
+            ),
         ],
         held: BIG,
     },

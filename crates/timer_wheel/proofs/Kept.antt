@@ -179,7 +179,7 @@ pub kept_removed : (spokes resolution new_resolution : ℕ) (heads new_heads : L
     → IsWheel (length heads) resolution new_heads new new_first
     → IsPermutation (timers_of places) (t ∷ timers_of new) → new_resolution ≡ resolution
     → new_room ≡ places_room
-        → IsKept spokes new_resolution new_heads new new_first index room new_room
+    → IsKept spokes new_resolution new_heads new new_first index room new_room
     index_room
 kept_removed spokes resolution new_resolution heads new_heads places new first new_first index room
     places_room new_room index_room t k w moved ticks same = record {

@@ -19,7 +19,7 @@ play-ending-requires g c κs within =
     let is_fine = subst IsFine (sym c.asked_for-asked.ensures)
     (fine c.args.connections c.requires.some c.requires.within) in
     let can = can-play (λ t watch h. Unit {0}) g.V.Volumes.facts asked c.in-Ok.prepared.0
-        c.in-Ok.prepared.1 _
+    c.in-Ok.prepared.1 _
     c.args.volumes unseen c.in-Ok.ensures.timers unlimited tt in (
       search rules,
       (

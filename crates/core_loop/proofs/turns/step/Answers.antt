@@ -13,7 +13,7 @@ poll-requires g c = c.turn.ensures.none (c.in-Ok-None.is ∙ ap Ok c.in-Ok-None.
 pub returns-in-Ok-Some-clause-ends : goal.returns-in-Ok-Some-clause-ends
 returns-in-Ok-Some-clause-ends g c =
     let e = enough_of c.args.until c.in-Ok-Some.closed (sym c.is_enough.ensures
-        ∙ c.if-is_enough.true)
+    ∙ c.if-is_enough.true)
     in (
       e.0,
       c.in-Ok-Some.closed,
@@ -63,7 +63,7 @@ returns-in-Ok-clause-leads g c = λ t F h stands fits none.
     let b = known_wait _ t a.history _ _ c.poll.result (Ok c.in-Ok.field-0) c.in-Ok.is
     (c.poll.ensures.leads t a.first a.history a.stands fits a.none_open) in
     goes_then _ t h _ _ _ _ _ a b (step_waited _ t c.args.until c.in-Ok.field-0 _ h a.history
-        a.so.0 _ b)
+    a.so.0 _ b)
 
 pub returns-in-Err-Stopped-clause-ends : goal.returns-in-Err-Stopped-clause-ends
 returns-in-Err-Stopped-clause-ends g c =
@@ -116,4 +116,4 @@ returns-in-Ok-2-clause-leads g c = λ t F h stands fits none.
     let b = known_wait _ t a.history _ _ c.poll.result (Ok c.in-Ok.field-0) c.in-Ok.is
     (c.poll.ensures.leads t a.first a.history a.stands fits a.none_open) in
     goes_then _ t h _ _ _ _ _ a b (step_waited _ t c.args.until c.in-Ok.field-0 _ h a.history
-        a.so.0 _ b)
+    a.so.0 _ b)

@@ -5,5 +5,5 @@ use Rattle.forwarder.proofs.forwarder.Forwarder.try_take.Goals as goal
 pub returns-clause-ok : goal.returns-clause-ok
 returns-clause-ok g c = λ facts.
     took_piece (standing c.args.self.now facts) c.args.piece.now _ _ _ _ c.requires.none
-        c.in_ok-bytes.ensures.completes c.in_ok-put.ensures.ok
+    c.in_ok-bytes.ensures.completes c.in_ok-put.ensures.ok
     (let e = c.saturating_add-self.ensures in cc)

@@ -6,8 +6,7 @@ pub registered-requires : goal.registered-requires
 registered-requires g c =
     let t = open_terms c.args.asked.most in
     let fits = c.new-taker.ensures.fits t None c.requires.listener (λ offers told. cc)
-    (λ time told. cc) c.requires.given.numbered in
-    (
+    (λ time told. cc) c.requires.given.numbered in (
       record {
         terms = t;
         limit = refl;

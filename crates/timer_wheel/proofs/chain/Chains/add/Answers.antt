@@ -38,10 +38,10 @@ returns-clause-chains c =
     let chain : Follows places (get_or heads s None)
     (of_spoke (length heads) c.args.self.now.resolution s timers) = c.requires.chains.chains s l in
     let start : IsStart places (of_spoke (length heads) c.args.self.now.resolution s timers)
-        c.args.t
+    c.args.t
     c.start_for-start.result =
     start_in_spoke (length heads) c.args.self.now.resolution s c.len-place.result places timers
-        c.args.t
+    c.args.t
     c.start_for-start.result is c.start_for-start.ensures
     (λ k p ne e. (members_in_order (timers_of places)).there p.timer (among_places places k p e)) in
     let gap : IsGap places (get_or heads s None) c.args.t
@@ -67,10 +67,10 @@ returns-clause-chains c =
     subst (λ r. AreChains (length c.link.new.self.heads.items) r c.link.new.self.heads.items
     c.link.new.self.places.items (with_timer c.args.t timers)) (sym c.link.ensures.ticks)
     (chains_same (length heads) (length c.link.new.self.heads.items) c.args.self.now.resolution _ _
-        _ _ _
+    _ _ _
     (ap length new_heads ∙ length-linked_heads heads s c.gap_of-gap.result.last
     (Some (length places))) new_heads new_places
     (chains_added (length heads) c.args.self.now.resolution heads places timers c.args.t s
     c.gap_of-gap.result.last c.gap_of-gap.result.at sched
     (unscheduled c.args.t.timer (timers_of places) c.requires.fresh) is l gap
-        c.requires.chains.chains))
+    c.requires.chains.chains))

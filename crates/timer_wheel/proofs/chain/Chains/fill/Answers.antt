@@ -20,12 +20,12 @@ popped : (c : goal.After-pop) → c.pop.new.self.items
 popped c =
     let n : c.len-last.result ≡ length c.args.self.now.places.items = omega arith in
     c.pop.ensures.rest ∙ ap (λ m. take (m - 1) c.args.self.now.places.items) (sym
-        c.len-last.ensures ∙ n)
+    c.len-last.ensures ∙ n)
 
 pub returns-then-hole-last-clause-chains : goal.returns-then-hole-last-clause-chains
 returns-then-hole-last-clause-chains c = λ timers sched all few chains.
     chains_popped (length c.args.self.now.heads.items) c.args.self.now.resolution
-        c.args.self.now.heads.items
+    c.args.self.now.heads.items
     c.args.self.now.places.items c.args.hole timers sched all chains c.pop.new.self.items (popped c)
     (omega arith)
 
@@ -80,7 +80,7 @@ returns-clause-chains c = λ timers sched all few chains.
 pub returns-clause-timers : goal.returns-clause-timers
 returns-clause-timers c = λ p e.
     permutation_filled c.args.self.now.places.items c.swap_remove.new.self.items
-        c.gap_of-gap.result.last
+    c.gap_of-gap.result.last
     (Some c.args.hole) c.args.hole p c.swap_remove.result
     (c.swap_remove.ensures.value ∙ ap (λ ps. get_or ps c.args.hole c.swap_remove.result)
     c.link.ensures.places)
@@ -94,7 +94,7 @@ returns-then-hole-last-clause-forward c =
 pub returns-clause-forward : goal.returns-clause-forward
 returns-clause-forward c =
     forward_filled c.args.self.now.places.items c.swap_remove.new.self.items
-        c.gap_of-gap.result.last
+    c.gap_of-gap.result.last
     (Some c.args.hole) c.args.hole c.swap_remove.result (omega (arith, c.requires.within))
     (c.swap_remove.ensures.items ∙ ap (λ ps. swap_remove ps c.args.hole c.swap_remove.result)
     c.link.ensures.places)

@@ -14,7 +14,7 @@ pub loop-turn-init : goal.loop-turn-init
 loop-turn-init c =
     let many : c.len-spokes.result ≡ length c.args.self.now.heads.items = omega arith in
     let n : c.args.from / c.args.self.now.resolution + 0
-        ≡ c.args.from / c.args.self.now.resolution = omega arith in
+    ≡ c.args.from / c.args.self.now.resolution = omega arith in
     record {
       within = rw many at c.spoke-at.ensures.within;
       spoke = (rw many at c.spoke-at.ensures.is)
@@ -39,9 +39,9 @@ returns-then-is_some c =
     c.loop-turn.turn (head_timer places h))
     (get_or_read heads c.loop-turn.at _ c.loop-turn.invariant.within c.index.ensures None) in
     found_some c.args.self.now.heads.items c.args.self.now.places.items c.args.self.now.resolution
-        c.requires.chains.ticks
+    c.requires.chains.ticks
     c.requires.chains.apart c.requires.chains.chains (c.args.from / c.args.self.now.resolution)
-        c.loop-turn.turn
+    c.loop-turn.turn
     c.loop-turn.at c.loop-turn.invariant.within c.loop-turn.invariant.spoke
     c.loop-turn.invariant.later c.head_of_tick-found.result here
     c.if-is_some.ensures
@@ -66,14 +66,14 @@ loop-turn-preserved c =
     let later : (u : Timer) → Among u (timers_of c.args.self.now.places.items)
     → tick + (c.loop-turn.turn + 1) ≤ u.deadline / c.args.self.now.resolution =
     found_none c.args.self.now.heads.items c.args.self.now.places.items c.args.self.now.resolution
-        c.requires.chains.ticks
+    c.requires.chains.ticks
     c.requires.chains.apart c.requires.chains.chains tick c.loop-turn.turn c.loop-turn.at
     c.loop-turn.invariant.within c.loop-turn.invariant.spoke c.loop-turn.invariant.later
     c.head_of_tick-found.result here c.if-is_some.ensures in
     elim c.if-at-spokes.branch [
       | then-at-spokes w ↦
           let full : c.loop-turn.at + 1 ≡ spokes =
-              omega (arith, w.if-at-spokes.true, c.len-spokes.ensures) in
+          omega (arith, w.if-at-spokes.true, c.len-spokes.ensures) in
           record {
             within = omega (arith, w.at-is, c.requires.chains.spokes);
             spoke = w.at-is ∙ sym (mod_self spokes) ∙ ap (λ k. k % spokes) (sym full) ∙ next;

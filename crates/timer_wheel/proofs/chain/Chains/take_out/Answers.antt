@@ -24,12 +24,12 @@ unreachable-requires c =
     let n : c.len.result ≡ length heads = omega arith in
     let l : c.spoke-spoke.result < length heads = rw n at c.spoke-spoke.ensures.within in
     let f : Found (length heads) c.args.self.now.resolution heads c.args.self.now.places.items
-        c.args.t
+    c.args.t
     c.spoke-spoke.result c.gap_of-gap.result.last c.gap_of-gap.result.at =
     found_by (length heads) c.args.self.now.resolution heads c.args.self.now.places.items c.args.t
     c.spoke-spoke.result c.len-2.result c.index-head.result.now c.start_for-start.result _ _
     c.requires.chains.apart c.requires.there c.requires.chains.chains refl (rw n at
-        c.spoke-spoke.ensures.is)
+    c.spoke-spoke.ensures.is)
     l
     (get_or_read heads c.spoke-spoke.result _ l c.index-head.ensures None)
     (rw c.deref.ensures.value at c.gap_of-gap.ensures)
@@ -38,7 +38,7 @@ unreachable-requires c =
 
 found_filled : (c : goal.After-fill)
     → Found (length c.args.self.now.heads.items) c.args.self.now.resolution
-        c.args.self.now.heads.items
+    c.args.self.now.heads.items
     c.args.self.now.places.items c.args.t c.spoke-spoke.result c.gap_of-gap.result.last
     c.gap_of-gap.result.at
 found_filled c =
@@ -48,7 +48,7 @@ found_filled c =
     found_by (length heads) c.args.self.now.resolution heads c.args.self.now.places.items c.args.t
     c.spoke-spoke.result c.len-2.result c.index-head.result.now c.start_for-start.result _ _
     c.requires.chains.apart c.requires.there c.requires.chains.chains refl (rw n at
-        c.spoke-spoke.ensures.is)
+    c.spoke-spoke.ensures.is)
     l
     (get_or_read heads c.spoke-spoke.result _ l c.index-head.ensures None)
     (rw c.deref.ensures.value at c.gap_of-gap.ensures)
@@ -68,7 +68,7 @@ index-requires c =
     found_by (length heads) c.args.self.now.resolution heads c.args.self.now.places.items c.args.t
     c.spoke-spoke.result c.len-2.result c.index-head.result.now c.start_for-start.result _ _
     c.requires.chains.apart c.requires.there c.requires.chains.chains refl (rw n at
-        c.spoke-spoke.ensures.is)
+    c.spoke-spoke.ensures.is)
     l
     (get_or_read heads c.spoke-spoke.result _ l c.index-head.ensures None)
     (rw c.deref.ensures.value at c.gap_of-gap.ensures)
@@ -90,7 +90,7 @@ fill-requires-clause-within c =
     found_by (length heads) c.args.self.now.resolution heads c.args.self.now.places.items c.args.t
     c.spoke-spoke.result c.len-2.result c.index-head.result.now c.start_for-start.result _ _
     c.requires.chains.apart c.requires.there c.requires.chains.chains refl (rw n at
-        c.spoke-spoke.ensures.is)
+    c.spoke-spoke.ensures.is)
     l
     (get_or_read heads c.spoke-spoke.result _ l c.index-head.ensures None)
     (rw c.deref.ensures.value at c.gap_of-gap.ensures)
@@ -110,7 +110,7 @@ pub fill-requires-clause-apart : goal.fill-requires-clause-apart
 fill-requires-clause-apart c = subst AreApart
     (sym (ap timers_of c.link.ensures.places
     ∙ timers-linked c.args.self.now.places.items c.gap_of-gap.result.last _))
-        c.requires.chains.apart
+    c.requires.chains.apart
 
 -- what was read at the place
 read : (c : goal.After-fill) → (slice_get c.args.self.now.places.items c.in-Some.place
@@ -165,22 +165,22 @@ returns-clause-chains c =
     let timers : List Timer = in_order (timers_of places) in
     let rest : List Timer = without_timer c.args.t.timer timers in
     let removed = chains_removed (length heads) c.args.self.now.resolution heads places timers
-        c.args.t s
+    c.args.t s
     last c.in-Some.place p f.sched f.there f.spoke_is f.within
     (subst (λ a. IsGap places (get_or heads s None) c.args.t
     (of_spoke (length heads) c.args.self.now.resolution s timers) last a) c.in-Some.is f.gap) (read
-        c).0
+    c).0
     c.requires.chains.chains in
     let n : length c.link.new.self.heads.items ≡ length heads =
     ap length c.link.ensures.heads ∙ length-linked_heads heads s last p.next in
     let m : length c.link.new.self.places.items ≡ length places =
     ap length c.link.ensures.places ∙ length-linked places last p.next in
     let chains : AreChains (length c.link.new.self.heads.items) c.args.self.now.resolution
-        c.link.new.self.heads.items
+    c.link.new.self.heads.items
     c.link.new.self.places.items rest =
     chains_same (length heads) (length c.link.new.self.heads.items) c.args.self.now.resolution
     (linked_heads heads s last p.next) c.link.new.self.heads.items (linked_places places last
-        p.next)
+    p.next)
     c.link.new.self.places.items rest n c.link.ensures.heads c.link.ensures.places removed.1 in
     let all : HasAllBut c.in-Some.place c.link.new.self.places.items rest =
     subst (λ ps. HasAllBut c.in-Some.place ps rest) (sym c.link.ensures.places)

@@ -29,7 +29,7 @@ led_away g c =
     let s = c.self.inside in
     sym (ap (λ q. is_scheduled c.args.timer (in_order (timers_of q.places))) c.self.view_is)
     ∙ led_nowhere s.index.items (timers_of s.chains.places.items) c.args.timer
-        c.self.invariant.covers
+    c.self.invariant.covers
     c.in-Some.entry c.in-Some.ensures.0 (rw c.deref.ensures.value at c.in-Some.ensures.1)
     c.in_default-find.ensures.none
 
@@ -45,7 +45,7 @@ pub invariant_of-self : goal.invariant_of-self
 invariant_of-self g c =
     let s = c.self.inside in
     kept_removed g.row.SPOKES s.chains.resolution _ s.chains.heads.items
-        c.remove.new.chains.heads.items s.chains.places.items
+    c.remove.new.chains.heads.items s.chains.places.items
     c.remove.new.chains.places.items s.first c.remove.new.first s.index.items s.room _ _ _
     c.in-Some-find.t c.self.invariant c.remove.ensures.wheel c.remove.ensures.timers
     c.remove.ensures.shape.ticks c.remove.ensures.shape.capacity
@@ -66,7 +66,7 @@ pub returns-clause-timers : goal.returns-clause-timers
 returns-clause-timers g c =
     let places = c.self.inside.chains.places.items in
     in_order-removed c.in-Some-find.t (timers_of places) (timers_of
-        c.remove.new.chains.places.items)
+    c.remove.new.chains.places.items)
     c.self.invariant.wheel.apart c.remove.ensures.timers
     ∙ ap (λ n. without_timer n (in_order (timers_of places))) (number g c)
     ∙ ap (λ q. without_timer c.args.timer (in_order (timers_of q.places))) c.self.view_is
@@ -74,7 +74,7 @@ returns-clause-timers g c =
 pub returns-clause-spare : goal.returns-clause-spare
 returns-clause-spare g c =
     let spare : c.self.inside.room - length c.self.inside.chains.places.items
-        ≡ c.args.self.now.spare =
+    ≡ c.args.self.now.spare =
     ap (λ q. q.spare) c.self.view_is in
     omega (
       arith,

@@ -102,7 +102,7 @@ loop-end-preserved g c =
     same_place : (y z : Place)
         → slice_get c.loop-end.self-inside.chains.places.items (c.loop-end.end - 1)
         ≡ Some y → slice_get c.loop-end.self-inside.chains.places.items (c.loop-end.end - 1)
-            ≡ Some z
+        ≡ Some z
         → y ≡ z
     same_place y z a b = cc
 
@@ -129,7 +129,7 @@ invariant_of-self g c =
 pub returns-clause-kept : goal.returns-clause-kept
 returns-clause-kept g c =
     let spare : c.self.inside.room - length c.self.inside.chains.places.items
-        ≡ c.args.self.now.spare =
+    ≡ c.args.self.now.spare =
     ap (λ q. q.spare) c.self.view_is in
     omega (arith, spare, c.loop-end.invariant.room, c.loop-end.invariant.fewer)
 
@@ -147,7 +147,7 @@ returns-clause-timers g c =
 pub returns-clause-spare : goal.returns-clause-spare
 returns-clause-spare g c =
     let spare : c.self.inside.room - length c.self.inside.chains.places.items
-        ≡ c.args.self.now.spare =
+    ≡ c.args.self.now.spare =
     ap (λ q. q.spare) c.self.view_is in
     let places : length c.self.inside.chains.places.items ≡ length c.args.self.now.places =
     ap (λ q. length q.places) c.self.view_is in

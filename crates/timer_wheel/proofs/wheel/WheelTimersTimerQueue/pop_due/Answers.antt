@@ -30,11 +30,11 @@ pub invariant_of-self : goal.invariant_of-self
 invariant_of-self g c =
     let s = c.self.inside in
     kept_removed g.row.SPOKES s.chains.resolution _ s.chains.heads.items
-        c.remove.new.chains.heads.items s.chains.places.items
+    c.remove.new.chains.heads.items s.chains.places.items
     c.remove.new.chains.places.items s.first c.remove.new.first s.index.items s.room _ _ _
-        c.in_ok-t.t
+    c.in_ok-t.t
     c.self.invariant c.remove.ensures.wheel c.remove.ensures.timers c.remove.ensures.shape.ticks
-        c.remove.ensures.shape.capacity
+    c.remove.ensures.shape.capacity
 
 pub returns-clause-taken : goal.returns-clause-taken
 returns-clause-taken g c =
@@ -46,12 +46,12 @@ returns-clause-taken g c =
     (sym c.self.invariant.wheel.earliest ∙ c.in_ok-t.was)
     ∙ ap (λ xs. t ∷ xs) (sym (in_order-removed t (timers_of places)
     (timers_of c.remove.new.chains.places.items) c.self.invariant.wheel.apart
-        c.remove.ensures.timers))
+    c.remove.ensures.timers))
 
 pub returns-clause-spare : goal.returns-clause-spare
 returns-clause-spare g c =
     let spare : c.self.inside.room - length c.self.inside.chains.places.items
-        ≡ c.args.self.now.spare =
+    ≡ c.args.self.now.spare =
     ap (λ q. q.spare) c.self.view_is in
     omega (
       arith,

@@ -7,7 +7,7 @@ pub invariant_of-self-in_err-reserve-3 : goal.invariant_of-self-in_err-reserve-3
 invariant_of-self-in_err-reserve-3 g c =
     let s = c.self.inside in
     kept_grown g.row.SPOKES s.chains.resolution s.chains.heads.items s.chains.places.items
-        c.reserve-3.new.self.items
+    c.reserve-3.new.self.items
     s.first s.index.items c.reserve-2.new.self.items s.room s.room _ _ _ _ c.self.invariant
     c.in_err-reserve-3.ensures.items c.reserve-2.ensures.items
     c.self.invariant.fits (omega (arith, c.reserve-3.ensures.capacity, c.self.invariant.places_fit))
@@ -22,7 +22,7 @@ invariant_of-self-2 g c =
     let entries : vec_len c.reserve-2.new.self + c.saturating_sub.result
     ≤ vec_capacity c.reserve-2.new.self = c.in_ok-reserve-2.ensures.ok in
     kept_grown g.row.SPOKES s.chains.resolution s.chains.heads.items s.chains.places.items
-        c.reserve-3.new.self.items
+    c.reserve-3.new.self.items
     s.first s.index.items c.reserve-2.new.self.items s.room c.min-self-inside.result _ _ _ _
     c.self.invariant c.reserve-3.ensures.items c.reserve-2.ensures.items
     (omega (

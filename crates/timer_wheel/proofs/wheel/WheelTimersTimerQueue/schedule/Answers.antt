@@ -27,7 +27,7 @@ enter-requires-clause-fresh g c =
 pub enter-requires-clause-room : goal.enter-requires-clause-room
 enter-requires-clause-room g c =
     let spare : c.self.inside.room - length c.self.inside.chains.places.items
-        ≡ c.args.self.now.spare =
+    ≡ c.args.self.now.spare =
     ap (λ q. q.spare) c.self.view_is in
     omega (
       arith,
@@ -53,7 +53,7 @@ invariant_of-self g c =
     ap (λ q. q.spare) c.self.view_is in
     let n : length c.add.new.self.places.items ≡ length s.chains.places.items + 1 =
     one_place_more c.args.t s.chains.places.items c.add.new.self.places.items c.add.ensures.timers
-        in
+    in
     let new = c.add.new.self in
     let added = wheel_added g.row.SPOKES s.chains.resolution s.chains.heads.items new.heads.items
     s.chains.places.items new.places.items s.first c.args.t c.self.invariant.wheel fresh
@@ -99,5 +99,5 @@ returns-clause-spare g c =
     ap (λ q. q.spare) c.self.view_is in
     let n : length c.add.new.self.places.items ≡ length s.chains.places.items + 1 =
     one_place_more c.args.t s.chains.places.items c.add.new.self.places.items c.add.ensures.timers
-        in
+    in
     omega (arith, n, spare, c.requires.room)

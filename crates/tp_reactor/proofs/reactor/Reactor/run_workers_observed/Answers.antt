@@ -64,7 +64,7 @@ returns-then-many-eq0-clause-observed g c = record {
 pub returns-in-Ok-clause-runs : goal.returns-in-Ok-clause-runs
 returns-in-Ok-clause-runs g c =
     let same : length c.args.hired.now.items ≡ length c.args.hired.now.items + 1 - 1 =
-        omega arith in
+    omega arith in
     let m = meaning g.H.EventHandler.means g.M.Net.facts g.M.Net.keeps (Shows g.Q.TimerQueue.timers)
     (HasPlaces g.Q.TimerQueue.spare) IsPlaced g.W.Watch.stands g.W.Watch.faults
     g.W.Watch.is_broken g.W.Watch.whole g.V.Volumes.facts in
