@@ -10,15 +10,16 @@ use mio::net::TcpStream;
 use mio::{Poll, Waker};
 use std::alloc::Global;
 use std::io;
-use std::net::{Ipv4Addr, Net as Sockets, SocketAddr};
+use std::net::{IpAddr, Ipv4Addr, Net as Sockets, SocketAddr};
 use std::sync::Arc;
 use std::time::{Clock, Instant};
 
-/// A dialler of connections to 127.0.0.1. It keeps the runtime, of which sockets and the clock are
-/// asked.
+/// A dialler of connections to one address, 127.0.0.1 unless `set_address` says another. It keeps the
+/// runtime, of which sockets and the clock are asked.
 #[derive(Drop)]
 pub struct MioDialer<R> {
     rt: R,
+    address: IpAddr,
     faults: u64,
 }
 
@@ -38,7 +39,19 @@ impl<R: Sockets + Clock + Copy> MioDialer<R> {
     pub fn new(rt: R) -> MioDialer<R>
         ensures { mio_dialer_faults result ≡ 0 }
     {
-        MioDialer { rt, faults: 0 }
+        MioDialer {
+            rt,
+            address: IpAddr::V4(Ipv4Addr::LOCALHOST),
+            faults: 0,
+        }
+    }
+
+    /// From now on it dials this address. One that can't be reached fails, at once or when the
+    /// connection is asked for.
+    pub fn set_address(&mut self, address: IpAddr)
+        ensures faults { mio_dialer_faults self.new ≡ mio_dialer_faults self.old }
+    {
+        self.address = address;
     }
 
     /// Asks the system for all that a connection wants.
@@ -46,7 +59,7 @@ impl<R: Sockets + Clock + Copy> MioDialer<R> {
         let poll = Poll::new(&self.rt)?;
         let waker = Waker::new(poll.registry(), WAKER)?;
         let shared = Shared::new(poll.registry().try_clone()?, waker);
-        let address = SocketAddr::from((Ipv4Addr::LOCALHOST, port));
+        let address = SocketAddr::from((self.address, port));
         let stream = TcpStream::connect(&self.rt, address)?;
         let start = Instant::now(&self.rt)?;
         Ok(Begun {
