@@ -1,0 +1,5 @@
+pub mod Logs
+pub mod Rule
+pub mod Calls
+pub use Rattle.list_lemmas
+pub use Rattle.cdr_record
