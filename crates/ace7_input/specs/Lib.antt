@@ -1,0 +1,9 @@
+pub mod Wide
+pub mod Places
+pub mod Facts
+pub mod Ends
+pub mod Laws
+pub mod Nets
+pub mod NoStory
+pub use Rattle.cdr_record
+pub use Rattle.ev_base
