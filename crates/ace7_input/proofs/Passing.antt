@@ -71,8 +71,8 @@ begun_more begun byte t few =
     rw all (byte_passes (is_header ((begun ++ byte ∷ []) ++ t)) _ _ byte t left)
 
 -- a header that is whole
-whole_header : (o n l : ℕ) → o < 2 → l ≡ 8 + n
-    → (w : Bool) → (nat_lt o 2 && (not (nat_lt l 8) && w)) ≡ w
+whole_header : (o n l : ℕ) → o < 4 → l ≡ 8 + n
+    → (w : Bool) → (nat_lt o 4 && (not (nat_lt l 8) && w)) ≡ w
 whole_header o n l version long w = grind (arith, nat_tests)
 
 goes_on : (w : Bool) (n m : ℕ) (t : List ℕ) → n ≡ m
@@ -80,7 +80,7 @@ goes_on : (w : Bool) (n m : ℕ) (t : List ℕ) → n ≡ m
 goes_on true n m t e = rw e refl
 goes_on false n m t e = refl
 
-pub begun_whole : (header t : List ℕ) → length header ≡ 8 → octet header < 2
+pub begun_whole : (header t : List ℕ) → length header ≡ 8 → octet header < 4
     → behind_begun header t ≡ behind (place_after header) t
 begun_whole header t whole version =
     let some : 0 < length header = omega arith in
@@ -89,7 +89,7 @@ begun_whole header t whole version =
     let payload = word_at-append 4 header t some room in
     let long : length (header ++ t) ≡ 8 + length t = omega (arith, length-append header t) in
     let is : is_header (header ++ t) ≡ is_wide_length (payload_length header) =
-    ap₂ (λ o p. nat_lt o 2 && (not (nat_lt (length (header ++ t)) 8) && is_wide_length p)) first
+    ap₂ (λ o p. nat_lt o 4 && (not (nat_lt (length (header ++ t)) 8) && is_wide_length p)) first
     payload
     ∙ whole_header (octet header) (length t) (length (header ++ t)) version long
     (is_wide_length (payload_length header)) in
@@ -104,17 +104,11 @@ one_more bytes count byte h = grind (arith, common_steps)
 
 -- ---- the first byte of what may be a header
 
-pub takes_version_1 : (first : ℕ) (t : List ℕ) → first < 2
-    → wide_behind 0 (first ∷ t) ≡ (first + 2) ∷ behind_begun (first ∷ []) t
-takes_version_1 first t h =
-    let wide : widened first ≡ first + 2 = grind (arith, nat_tests) in
-    wide_first first t ∙ ap (λ (b : ℕ). b ∷ behind_begun (first ∷ []) t) wide
-
--- another byte begins no header
-begins_none : (first : ℕ) (rest : Bool) → 2 ≤ first → (nat_lt first 2 && rest) ≡ false
+-- a byte that is no order octet begins no header
+begins_none : (first : ℕ) (rest : Bool) → 4 ≤ first → (nat_lt first 4 && rest) ≡ false
 begins_none first rest h = grind (arith, nat_tests)
 
-pub takes_other : (first : ℕ) (t : List ℕ) → 2 ≤ first → wide_behind 0 (first ∷ t) ≡ first ∷ t
+pub takes_other : (first : ℕ) (t : List ℕ) → 4 ≤ first → wide_behind 0 (first ∷ t) ≡ first ∷ t
 takes_other first t h =
     let same : widened first ≡ first = grind (arith, nat_tests) in
     let none : is_header (first ∷ t) ≡ false = begins_none first _ h in

@@ -6,14 +6,14 @@ use crate::place::{Place, after};
 /// How many bytes a header has before its last one.
 const ALL_BUT_ONE: usize = 7;
 
-/// A header of which 1 to 7 bytes came. Its order octet is one of version 1.
+/// A header of which 1 to 7 bytes came. The first is an order octet.
 #[derive(Clone, Copy)]
 pub(crate) struct Begun {
     bytes: [u8; 8],
     count: usize,
     ghost some: { 1 ≤ count },
     ghost few: { count < 8 },
-    ghost version: { slice_index bytes 0 < 2 },
+    ghost version: { slice_index bytes 0 < 4 },
 }
 
 impl Begun {
@@ -22,7 +22,7 @@ impl Begun {
 
     /// A header of which the order octet came.
     pub(crate) fn new(octet: u8) -> Begun
-        requires { octet < 2 }
+        requires { octet < 4 }
         ensures count { result.count ≡ 1 }
         ensures octet { take 1 result.bytes ≡ octet ∷ [] }
     {

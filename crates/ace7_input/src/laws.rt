@@ -2,12 +2,13 @@
 
 ghost use Rattle.ace7_input.specs.Laws as L;
 
-/// A record of version 2 that was sent after an order octet of version 1 is given as it was meant.
+/// A record of version 2, whether its order octet is one of version 1 or says so, is given as it was
+/// meant.
 pub fn record_is_widened()
     ensures { L.RecordIsWidened }
 {}
 
-/// What begins with no order octet of version 1 is given as it is.
+/// What begins with no order octet is given as it is.
 pub fn other_is_left()
     ensures { L.OtherIsLeft }
 {}

@@ -2,6 +2,7 @@
 ghost use Rattle.std.specs.Prelude.{◌≡◌, ◌≤◌, ◌<◌, ◌∷◌, [], ℕ, List, length};
 ghost use Rattle.cdr_record.specs.Grammar.{payload_length};
 ghost use Rattle.ace7_input.specs.Places.{place_after};
+ghost use Rattle.ace7_input.specs.Wide.{widened};
 
 use crate::begun::Begun;
 use byteorder::{BigEndian, ByteOrder, LittleEndian};
@@ -47,6 +48,14 @@ fn payload_length(header: &[u8]) -> usize
         LittleEndian::read_u32(&header[4..])
     };
     length as usize
+}
+
+// The order octet of version 2 for one of version 1, and another one as it is.
+fn widened(octet: u8) -> u8
+    requires { octet < 4 }
+    ensures { result ≡ widened octet }
+{
+    if octet < 2 { octet + 2 } else { octet }
 }
 
 impl Place {
@@ -115,9 +124,9 @@ impl Place {
         requires { self.old ≡ Place.Payload 0 }
         ensures { Passes self.old (byte ∷ []) (result ∷ []) self.new }
     {
-        if byte < 2 {
+        if byte < 4 {
             *self = Place::Header(Begun::new(byte));
-            byte + 2
+            widened(byte)
         } else {
             *self = Place::Behind;
             byte
