@@ -1,9 +1,12 @@
 -- What the net of a run of one connector has taken back.
-use Rattle.std.proofs.Common.{ℕ, ◌≡◌, ◌==◌, true, false, not, List, [], ◌∷◌, ◌++◌}
+use Rattle.std.proofs.Common.{ℕ, ◌≡◌, ◌≤◌, ◌==◌, ◌&&◌, ◌||◌, true, false, not, List, [], ◌∷◌}
+use Rattle.std.proofs.Common.{◌++◌, length, refl}
 use Rattle.std.proofs.Common.{sym, ap, ◌∙◌, subst, arith, Option, Some, None, cond, drop}
 use Rattle.std.proofs.lemmas.List.{append-nil, append_assoc, drop-append-le}
 use Rattle.std.specs.List.{list_any, filter}
-use Rattle.ev_base.specs.Net.{NetFacts}
+use Rattle.ev_base.specs.Net.{NetFacts, Call}
+use Rattle.ev_base.specs.declared.net.Waited.{Waited}
+use Rattle.ev_base.specs.declared.net.Waited.TheVariants as waited
 use Rattle.ev_base.specs.Terms.{Terms}
 use Rattle.ev_base.specs.ev_types.specs.declared.upcall.Answer.TheVariants.{Close}
 use Rattle.ev_base.specs.ev_types.specs.declared.upcall.Handle.{Handle}
@@ -16,21 +19,24 @@ use Rattle.reactor_model.specs.reactor_journal.specs.Past.{past_of, had, origin_
 use Rattle.reactor_model.specs.reactor_journal.specs.Past.{count, is_closed}
 use Rattle.reactor_model.specs.reactor_journal.specs.Follow.{Legal}
 use Rattle.reactor_model.specs.reactor_journal.proofs.Turning.{past_of-more, Legal-front}
-use Rattle.reactor_core.specs.reactor_summary.specs.Summary.{Summary, is_busy}
+use Rattle.reactor_core.specs.reactor_summary.specs.Summary.{Summary, is_alive, is_busy}
 use Rattle.reactor_core.specs.reactor_summary.specs.Tells.{is_refused}
 use Rattle.reactor_core.specs.reactor_summary.specs.declared.parts.LiveHandle.{LiveHandle}
 use Rattle.reactor_core.specs.reactor_summary.proofs.Told.{told}
 use Rattle.reactor_core.specs.Acting.{StopAppends}
 use Rattle.reactor_core.specs.Beginning.{PartsStand}
 use Rattle.reactor_core.specs.Ends.{AreRetired, AreTurnedAway, WhereTold}
+use Rattle.reactor_core.specs.Marks.{MarksStand, answers, is_polled, last_over, told_answers}
 use Rattle.reactor_core.specs.Removing.{AreRemovals}
 use Rattle.reactor_core.specs.Settling.{IsClosing}
 use Rattle.reactor_core.specs.Stands.{Meaning, NetStands}
+use Rattle.reactor_core.specs.declared.marks.WaitMarks.{WaitMarks}
 use Rattle.reactor_core.specs.declared.reactor.Parts.{Parts}
 use Rattle.reactor_core.proofs.Dispatch.{had_returned}
+use Rattle.reactor_core.proofs.Started.{alive_no_close}
 use Rattle.core_loop.specs.Leading.{LeavesFrom, NoneOpen, closed_of}
-use Rattle.core_loop.proofs.Keeping.{sum}
-use Rattle.connector_run.specs.Leaving.{LeavesOne, LeavesClosed, LeavesAlive}
+use Rattle.core_loop.proofs.Keeping.{sum, sum_more}
+use Rattle.connector_run.specs.Leaving.{LastWaitWasOver, LeavesOne, LeavesClosed, LeavesAlive}
 use Rattle.connector_run.specs.Phases.{ClosedItself, IsAlive, one_handle}
 
 -- ---- what the stop appended
@@ -71,6 +77,14 @@ stops_alive {N} s entries handler going are handle alive none stops =
     }
 
 -- ---- ends
+
+-- no mark is behind the last wait
+last_within : (told : List Waited) → last_over told ≤ length told
+last_within [] = omega arith
+last_within (waited.Over moment ∷ earlier) = omega arith
+last_within (waited.Reports now many ∷ earlier) = omega (arith, last_within earlier)
+last_within (waited.Quiet now ∷ earlier) = omega (arith, last_within earlier)
+last_within (waited.Failed ∷ earlier) = omega (arith, last_within earlier)
 
 pub told_as : {A : Type 0} (a b : A) (told : Option A) → a ≡ b → WhereTold (λ x. x ≡ a) told
     → WhereTold (λ x. x ≡ b) told
@@ -212,8 +226,13 @@ module _ {H M Q' W V N E : Type 0} (m : Meaning H M Q' W V N E) (armed : Q' → 
       (entry.Started c.event ∷ returned ∷ closed ∷ entry.Ended ∷ []) c.held
       ∙ sym (append_assoc (drop first c.before) (entry.Started c.event ∷ [])
       (returned ∷ closed ∷ entry.Ended ∷ []))))) in
+      let alive : is_alive (sum g) 0 ≡ true =
+      ap (λ (s : Summary). is_alive s 0) (sum_more c.before (entry.Started c.event))
+      ∙ (ap (list_any (λ (h : LiveHandle). h.handle.0 == 0 && h.alive)) c.alive.handles
+      ∙ here c.alive.handler c.alive.handle c.alive.alive) in
       record {
         earlier = had (past_of g) 0;
+        goes_on = alive_no_close t.most (past_of g) 0 legal_g alive;
         one = leaves_one m.means t (entry.Ended ∷ closed ∷ returned ∷ past_of g)
             (returned ∷ past_of g) c.said (m.facts parts.net) _ net
             (ap (count is_closed) at_start ∙ counted t.most c.before legal_before counts.0)
@@ -224,3 +243,35 @@ module _ {H M Q' W V N E : Type 0} (m : Meaning H M Q' W V N E) (armed : Q' → 
         front = drop first c.before ++ entry.Started c.event ∷ [];
         journal = journal;
       }
+    where
+      here : (handler : LiveHandle) → handler.handle ≡ one_handle → handler.alive ≡ true
+          → (handler.handle.0 == 0 && handler.alive || false) ≡ true
+      here handler handle alive =
+          ap (λ (x : Handle). x.0 == 0 && handler.alive || false) handle
+          ∙ ap (λ b. true && b || false) alive
+
+-- ---- the last wait
+
+last_is_over : (told : List Waited) → last_over told ≡ length told → 1 ≤ length told
+    → (moment : ℕ) × (earlier : List Waited) × (told ≡ waited.Over moment ∷ earlier)
+last_is_over [] q some = absurd (none some)
+  where
+    none : 1 ≤ 0 → ⊥
+    none q = omega (arith, q)
+last_is_over (waited.Over moment ∷ earlier) q some = (moment, earlier, refl)
+last_is_over (waited.Reports now many ∷ earlier) q some =
+    absurd (omega (arith, q, last_within earlier))
+last_is_over (waited.Quiet now ∷ earlier) q some = absurd (omega (arith, q, last_within earlier))
+last_is_over (waited.Failed ∷ earlier) q some = absurd (omega (arith, q, last_within earlier))
+
+-- where the mark is the number of the last wait
+pub last_waited : {N : Type 0} (marks : WaitMarks) (past later : List (Entry N))
+    (calls : Option (List Call)) → marks.made ≡ count is_polled past
+    → MarksStand marks later (told_answers calls) → marks.over ≡ count is_polled past
+    → 1 ≤ marks.over → WhereTold LastWaitWasOver calls
+last_waited marks past later None made st over some = tt
+last_waited marks past later (Some calls) made st over some =
+    let r = last_is_over (answers calls)
+    (sym st.over.over ∙ (over ∙ (sym made ∙ st.over.made)))
+    (omega (arith, some, over, made, st.over.made)) in
+    record { moment = r.0; earlier = r.1; is = r.2 }

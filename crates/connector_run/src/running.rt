@@ -1,19 +1,22 @@
 //! The run of one connector on a reactor.
-ghost use Rattle.std.specs.Prelude.{◌≡◌, ℕ, List, None};
+ghost use Rattle.std.specs.Prelude.{◌≡◌, ◌≤◌, ℕ, List, None};
 ghost use Rattle.ev_base.specs.Terms.{Terms};
 ghost use Rattle.connector.specs.declared.note.ConnectNote.{ConnectNote};
 ghost use Rattle.reactor_model.specs.reactor_journal.specs.declared.entry.Entry.{Entry};
+ghost use Rattle.reactor_model.specs.reactor_journal.specs.Past.{count, past_of};
+ghost use Rattle.reactor_core.specs.Ends.{WhereTold};
+ghost use Rattle.reactor_core.specs.Marks.{is_polled};
 ghost use Rattle.reactor_core.specs.Polling.{FitsLimit};
 ghost use Rattle.reactor_core.specs.Stands.{Stands};
 ghost use Rattle.reactor_core.specs.Views.{net_of, over_of};
 ghost use Rattle.core_loop.specs.Idle.{IsIdle};
 ghost use Rattle.core_loop.specs.Leading.{GoesOn, NoneOpen};
-ghost use Rattle.connector_run.specs.Leaving.{LeavesAlive, LeavesClosed};
+ghost use Rattle.connector_run.specs.Leaving.{LastWaitWasOver, LeavesAlive, LeavesClosed};
 ghost use Rattle.connector_run.specs.Phases.{ClosedItself, IsAlive, first_entries};
 ghost use Rattle.connector_run.specs.Running.{EndsSo, HasCause, IsRegistered};
 
 use connector::{ConnectNote, Connector, Service};
-use core_loop::{RunEnd, close};
+use core_loop::RunEnd;
 use ev_base::{DialEnd, Net};
 use reactor_core::{Core, Means, Parts};
 use reactor_model::{DropVolumes, NoWatch};
@@ -68,7 +71,8 @@ where
 
 /// Stops a reactor with no upcall on its way, and takes it apart. Its net has retired one end, that
 /// of the connector, and turned none away. Where the connector had closed itself, the journal ends
-/// with the note of its last turn.
+/// with the note of its last turn. Where the last wait was answered that nothing can be reported any
+/// more, the net tells so, if it tells its calls.
 pub fn finish<E: DialEnd, V: Service<End = E> + Drop, M: Net<End = E>>(
     core: ConnectCore<E, V, M>,
 ) -> Parts<ConnectNote<V::Note>, M, SortedTimers, NoWatch, DropVolumes>
@@ -83,7 +87,13 @@ where
         → Stands ⟦<ConnectCore<E, V, M> as Means>⟧.m t core F h → NoneOpen h → IsAlive wait h
         → LeavesAlive ⟦<ConnectCore<E, V, M> as Means>⟧.m ⟦<SortedTimers as TimerQueue>⟧.timers t F
         h result }
+    ensures over { (t : Terms) (F : ℕ) (h : List (Entry (ConnectNote V.Note)))
+        → Stands ⟦<ConnectCore<E, V, M> as Means>⟧.m t core F h → NoneOpen h
+        → over_of core ≡ count is_polled (past_of h) → 1 ≤ over_of core
+        → WhereTold LastWaitWasOver (M.facts result.net).calls }
     ensures waits { (M.facts result.net).failed_waits ≡ (M.facts (net_of core)).failed_waits }
 {
-    close(core)
+    let mut core = core;
+    core.stop();
+    core.into_parts()
 }
