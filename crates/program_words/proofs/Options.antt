@@ -50,7 +50,8 @@ says text entries (Some own) address control ace7 found = record {
 -- of words that it takes the options have the texts that were found
 pub taken : (words : List Text) (rows : List Row) (own : Option Own) → AreWords words
     → are_taken own_app words ≡ true → rows ≡ rows_on own_app words
-    → MatchOption own (SaysNone (first_of (codes "address") rows)) (Says (λ name. first_of name rows))
+    → MatchOption own (SaysNone (first_of (codes "address") rows))
+    (Says (λ name. first_of name rows))
     → ReadsOwn (given own_line words) own
 taken words rows own are all is found = go (given own_line words) (own_parsed words are)
   where
