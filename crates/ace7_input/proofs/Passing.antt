@@ -1,6 +1,8 @@
 -- How a piece passes.
-use Rattle.std.proofs.Common.{◌≡◌, ◌≤◌, ◌<◌, ℕ, zero, suc, ◌+◌, ◌-◌, List, [], ◌∷◌, ◌++◌, length, take}
-use Rattle.std.proofs.Common.{drop, refl, sym, ◌∙◌, ap, ap₂, arith, Bool, true, false, if◌then◌else◌}
+use Rattle.std.proofs.Common.{◌≡◌, ◌≤◌, ◌<◌, ℕ, zero, suc, ◌+◌, ◌-◌, List, [], ◌∷◌, ◌++◌, length}
+use Rattle.std.proofs.Common.{take}
+use Rattle.std.proofs.Common.{drop, refl, sym, ◌∙◌, ap, ap₂, arith, Bool, true, false}
+use Rattle.std.proofs.Common.{if◌then◌else◌}
 use Rattle.std.proofs.Common.{nat_lt, get_or, slice_set, not, ◌&&◌}
 use Rattle.std.proofs.lemmas.Bool.Decides.{nat_tests}
 use Rattle.std.proofs.lemmas.Grind.{common_steps}
@@ -38,7 +40,8 @@ unfolding wide_behind
 wide_first first t = refl
 
 -- what stands for a list has as many bytes
-same_length : (c : Bool) (w t : List ℕ) → length w ≡ length t → length (if c then w else t) ≡ length t
+same_length : (c : Bool) (w t : List ℕ) → length w ≡ length t
+    → length (if c then w else t) ≡ length t
 same_length true w t e = e
 same_length false w t e = refl
 

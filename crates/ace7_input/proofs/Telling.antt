@@ -29,7 +29,8 @@ starts bytes none b told t =
     subst (λ (g : List ℕ). as_wide (g ++ t) ≡ as_wide g ++ as_wide t) (sym given)
     (sym (ap (λ (l : List ℕ). l ++ as_wide t) (wide_nil 0)))
 
-pub has_given_none : (bytes : Option ReaderBytes) → HasGiven bytes [] → HasGiven (told_wide bytes) []
+pub has_given_none : (bytes : Option ReaderBytes) → HasGiven bytes []
+    → HasGiven (told_wide bytes) []
 has_given_none None none = tt
 has_given_none (Some b) none = ap as_wide none ∙ wide_nil 0
 
@@ -66,8 +67,8 @@ module _ (g piece given left : List ℕ) (old new : Place)
   was_left : drop (length g) (as_wide (g ++ (piece ++ left))) ≡ given ++ behind new left
   was_left =
       let long = length_wide 0 g in
-      ap (drop (length g)) (ends (piece ++ left)) ∙ drop_at (as_wide g) (behind old (piece ++ left)) (length g) long
-      ∙ passes left
+      ap (drop (length g)) (ends (piece ++ left))
+      ∙ drop_at (as_wide g) (behind old (piece ++ left)) (length g) long ∙ passes left
 
   now_left : drop (length (g ++ piece)) (as_wide ((g ++ piece) ++ left)) ≡ behind new left
   now_left =
@@ -139,7 +140,8 @@ module _ (buffer given : List ℕ) (n : ℕ) (within : n ≤ length buffer)
 -- the place after a read that gave bytes
 pub source_ends : (old new : SourceFacts) (buffer given : List ℕ) (n : ℕ) (before after : Place)
     → length given ≡ length (take n buffer) → EndsAt old.bytes before
-    → Passes before (take n buffer) given after → GivesBytes old buffer n new → EndsAt new.bytes after
+    → Passes before (take n buffer) given after → GivesBytes old buffer n new
+    → EndsAt new.bytes after
 source_ends old new buffer given n before after same ends passes gives =
     ends_after old.bytes new.bytes (take n buffer) given before after same ends passes gives.bytes
 

@@ -1,6 +1,7 @@
 -- What the order octets that are widened come to.
-use Rattle.std.proofs.Common.{◌≡◌, ◌≤◌, ◌<◌, ◌∙◌, ◌+◌, ◌-◌, ◌%◌, ◌==◌, ◌&&◌, ℕ, List, ◌∷◌, ◌++◌, length}
-use Rattle.std.proofs.Common.{sym, ap, arith, refl, Bool, true, false, not, nat_lt, if◌then◌else◌, drop}
+use Rattle.std.proofs.Common.{◌≡◌, ◌≤◌, ◌<◌, ◌∙◌, ◌+◌, ◌-◌, ◌%◌, ◌==◌, ◌&&◌, ℕ, List, ◌∷◌, ◌++◌}
+use Rattle.std.proofs.Common.{length, sym, ap, arith, refl, Bool, true, false, not, nat_lt, drop}
+use Rattle.std.proofs.Common.{if◌then◌else◌}
 use Rattle.std.specs.Int.{byte_len, w32, w64}
 use Rattle.std.proofs.lemmas.Bool.Decides.{nat_tests}
 use Rattle.std.proofs.lemmas.List.{length-append}

@@ -16,8 +16,8 @@ not_some q = cc
 no_story : (t : Terms) (serial : ℕ) (story : Story) → t.stories ≡ None
     → story_of t serial ≡ Some story → ⊥
 no_story t serial story none told =
-    not_some (sym (ap (λ (s : Option (List Story)). option_and_then (λ l. slice_get l serial) s) none)
-    ∙ told)
+    let same = ap (λ (s : Option (List Story)). option_and_then (λ l. slice_get l serial) s) none in
+    not_some (sym same ∙ told)
 
 pub keeps_stories : {E : Type 0} {G : Ghosts E} (tells : E → EndFacts) (keeps : Terms → E → Type 0)
     → ((t : Terms) (end : E) → keeps t end → KeepsStory t (tells end))

@@ -1,6 +1,7 @@
 pub mod Asked
 pub mod Moves
 pub mod Waits
+pub mod Controls
 pub mod Ends
 pub mod NoStory
 pub mod Accepts

@@ -99,7 +99,7 @@ impl<R: Sockets + Clock + Copy> Dialer for MioDialer<R> {
         let Ok(shared) = Arc::new(alloc, shared) else {
             return Err(DialRefused::NoMemory);
         };
-        let Ok(net) = MioNet::new(self.rt, alloc, poll, shared, None, start) else {
+        let Ok(net) = MioNet::new(self.rt, alloc, poll, shared, None, None, start) else {
             return Err(DialRefused::NoMemory);
         };
         Ok((net, end))

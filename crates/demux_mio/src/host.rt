@@ -2,6 +2,7 @@
 ghost use Rattle.std.specs.Prelude.{◌≡◌};
 
 use crate::closer::Closer;
+use crate::control::Control;
 use crate::net::WAKER;
 use crate::shared::{Shared, Sharing};
 use crate::socket::Socket;
@@ -11,6 +12,7 @@ use mio::net::TcpListener;
 use mio::{Poll, Waker};
 use std::alloc::Global;
 use std::io;
+use std::io::Stdin;
 use std::net::{IpAddr, Ipv4Addr, Net as Sockets, SocketAddr};
 use std::sync::{Arc, Wait};
 use std::thread::Threads;
@@ -37,6 +39,7 @@ pub struct MioHost<R> {
     faults: u64,
     ports: PortLog,
     closer: Option<Closer>,
+    control: Option<Stdin>,
 }
 
 /// The address of this machine alone.
@@ -48,6 +51,7 @@ struct Opened {
     poll: Poll,
     listener: TcpListener,
     shared: Shared,
+    control: Option<Control>,
     start: Instant,
 }
 
@@ -64,6 +68,7 @@ impl<R: Sockets + Clock + Copy> MioHost<R> {
             faults: 0,
             ports: PortLog::none(),
             closer: None,
+            control: None,
         }
     }
 
@@ -76,6 +81,19 @@ impl<R: Sockets + Clock + Copy> MioHost<R> {
         self.address = address;
     }
 
+    /// From now on its nets watch standard input too. Once that is at its end their waits answer
+    /// Over; bytes that come there are passed over. A pipe, a FIFO, a socket and a terminal are
+    /// watched with the sockets, without a thread. A file cannot be watched, and counts as at its
+    /// end from the start. Where standard input is closed, or cannot be watched for another cause,
+    /// each `listen` fails. Nobody else may read it meanwhile: a read that was to find bytes could
+    /// wait then.
+    pub fn set_control(&mut self, input: Stdin)
+        ensures faults { mio_host_faults self.new ≡ mio_host_faults self.old }
+        ensures ports { mio_host_ports self.new ≡ mio_host_ports self.old }
+    {
+        self.control = Some(input);
+    }
+
     /// Asks the system for all that a listener wants.
     fn open(&self, port: u16) -> io::Result<Opened> {
         let poll = Poll::new(&self.rt)?;
@@ -83,11 +101,16 @@ impl<R: Sockets + Clock + Copy> MioHost<R> {
         let shared = Shared::new(poll.registry().try_clone()?, waker);
         let address = SocketAddr::from((self.address, port));
         let listener = TcpListener::bind(&self.rt, address)?;
+        let control = match self.control {
+            Some(input) => Some(Control::watch(poll.registry(), input)?),
+            None => None,
+        };
         let start = Instant::now(&self.rt)?;
         Ok(Opened {
             poll,
             listener,
             shared,
+            control,
             start,
         })
     }
@@ -110,6 +133,7 @@ impl<R: Sockets + Clock + Threads + Wait + Copy + Send + 'static> MioHost<R> {
             faults: 0,
             ports: PortLog::none(),
             closer: Closer::start(rt, alloc),
+            control: None,
         }
     }
 }
@@ -144,6 +168,7 @@ impl<R: Sockets + Clock + Copy> Host for MioHost<R> {
             poll,
             listener,
             shared,
+            control,
             start,
         } = opened;
         let Ok(end) = MioEnd::new(alloc, Socket::listening(listener), true) else {
@@ -158,7 +183,7 @@ impl<R: Sockets + Clock + Copy> Host for MioHost<R> {
         let Ok(closer) = self.closer.as_ref().map(Closer::try_clone).transpose() else {
             return Err(ListenRefused::NoMemory);
         };
-        let Ok(net) = MioNet::new(self.rt, alloc, poll, shared, closer, start) else {
+        let Ok(net) = MioNet::new(self.rt, alloc, poll, shared, closer, control, start) else {
             return Err(ListenRefused::NoMemory);
         };
         let waker = MioWake { shared: theirs };

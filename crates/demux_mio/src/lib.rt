@@ -20,6 +20,9 @@
 //! - That an accept that failed, as where no descriptor is left, is owed again: its listener is
 //!   reported again 100 ms later. So neither is it lost nor does it spin. Want of memory for the
 //!   new end goes the same way, which no test shows.
+//! - That the end of standard input is found where a host has it as a control, and that bytes which
+//!   come there do not stop a server. It is watched with the sockets, and read once for each report.
+//!   That a wait answers Over exactly from then on is proved.
 //! - That a waker ends a wait. It costs a call of the system only while the net is in a wait; else
 //!   the next wait returns at once.
 //! - That the connection of a retired end is closed: at once, or, where the host has a closer,
@@ -33,6 +36,7 @@
 #![tactic(auto)]
 
 mod closer;
+mod control;
 mod dialer;
 mod end;
 mod host;

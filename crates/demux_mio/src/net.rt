@@ -5,6 +5,7 @@ ghost use Rattle.demux_mio.specs.Waits.{limit_of};
 
 use crate::MioEnd;
 use crate::closer::{Closer, MOST_RETIRED};
+use crate::control::Control;
 use crate::readiness::Readiness;
 use crate::shared::Sharing;
 use crate::socket::Place;
@@ -44,6 +45,7 @@ pub struct MioNet<R> {
     events: Events,
     shared: Sharing,
     closer: Option<Closer>,
+    control: Option<Control>,
     start: Instant,
     last: u64,
     // When the listeners are tried again.
@@ -83,7 +85,8 @@ fn limit_of(owing: bool, until_retry: Option<u64>, most_ms: Option<u64>) -> Opti
 impl<R: Clock + Copy> MioNet<R> {
     ghost use Rattle.ev_base.specs.Net.{IsNew, Attaches};
     ghost use Rattle.demux_mio.specs.Asked.{attached_in};
-    ghost use Rattle.demux_mio.specs.Nets.{mio_net_facts, asked_of};
+    ghost use Rattle.demux_mio.specs.Nets.{mio_net_facts, asked_of, control_of};
+    ghost use Rattle.demux_mio.specs.Controls.{has_ended};
     ghost use Rattle.demux_mio.specs.Ends.{mio_end_facts};
 
     /// A net that has made no call, over this poll.
@@ -93,9 +96,11 @@ impl<R: Clock + Copy> MioNet<R> {
         poll: Poll,
         shared: Sharing,
         closer: Option<Closer>,
+        control: Option<Control>,
         start: Instant,
     ) -> Result<MioNet<R>, NoMemory>
-        ensures { IfOk result (λ net. IsNew (mio_net_facts net)) }
+        ensures new { IfOk result (λ net. IsNew (mio_net_facts net)) }
+        ensures control { IfOk result (λ net. control_of net ≡ control) }
     {
         Ok(MioNet {
             rt,
@@ -104,6 +109,7 @@ impl<R: Clock + Copy> MioNet<R> {
             events: Events::with_capacity(alloc, MOST_EVENTS)?,
             shared,
             closer,
+            control,
             start,
             last: 0,
             retry: None,
@@ -140,6 +146,7 @@ impl<R: Clock + Copy> MioNet<R> {
     fn wait_for_events(&mut self, limit: Option<Duration>) -> io::Result<()>
         ensures facts { mio_net_facts self.new ≡ mio_net_facts self.old }
         ensures asked { asked_of self.new ≡ asked_of self.old }
+        ensures control { control_of self.new ≡ control_of self.old }
     {
         if self.close_retired(limit)? {
             self.shared.end_wait();
@@ -160,6 +167,7 @@ impl<R: Clock + Copy> MioNet<R> {
     fn close_retired(&mut self, limit: Option<Duration>) -> io::Result<bool>
         ensures facts { mio_net_facts self.new ≡ mio_net_facts self.old }
         ensures asked { asked_of self.new ≡ asked_of self.old }
+        ensures control { control_of self.new ≡ control_of self.old }
     {
         for _ in 0..MOST_RETIRED {
             let Some(closer) = &self.closer else {
@@ -187,6 +195,7 @@ impl<R: Clock + Copy> MioNet<R> {
     fn look(&mut self) -> io::Result<bool>
         ensures facts { mio_net_facts self.new ≡ mio_net_facts self.old }
         ensures asked { asked_of self.new ≡ asked_of self.old }
+        ensures control { control_of self.new ≡ control_of self.old }
     {
         for _ in 0..LOOKS {
             self.poll.poll(&mut self.events, Some(Duration::ZERO))?;
@@ -201,6 +210,7 @@ impl<R: Clock + Copy> MioNet<R> {
     fn sleep(&mut self, limit: Option<Duration>) -> io::Result<()>
         ensures facts { mio_net_facts self.new ≡ mio_net_facts self.old }
         ensures asked { asked_of self.new ≡ asked_of self.old }
+        ensures control { control_of self.new ≡ control_of self.old }
     {
         let lasts = self.shared.begin_wait();
         let limit = if lasts { limit } else { Some(Duration::ZERO) };
@@ -218,6 +228,7 @@ impl<R: Clock + Copy> MioNet<R> {
     fn note_failed_accepts(&mut self)
         ensures facts { mio_net_facts self.new ≡ mio_net_facts self.old }
         ensures asked { asked_of self.new ≡ asked_of self.old }
+        ensures control { control_of self.new ≡ control_of self.old }
     {
         if self.shared.take_failed_accept() {
             self.retry = Some(self.last.saturating_add(RETRY));
@@ -228,6 +239,7 @@ impl<R: Clock + Copy> MioNet<R> {
     fn retry_listeners(&mut self)
         ensures facts { mio_net_facts self.new ≡ mio_net_facts self.old }
         ensures asked { asked_of self.new ≡ asked_of self.old }
+        ensures control { control_of self.new ≡ control_of self.old }
     {
         match self.retry {
             Some(retry) if retry <= self.last => {
@@ -235,6 +247,29 @@ impl<R: Clock + Copy> MioNet<R> {
                 self.watching.owe_listeners();
             }
             _ => {}
+        }
+    }
+
+    /// Whether the end of the control was found, where there is one.
+    fn has_ended(&self) -> bool
+        ensures { result ≡ has_ended (control_of self.now) }
+    {
+        match &self.control {
+            Some(control) => control.has_ended(),
+            None => false,
+        }
+    }
+
+    /// Has the control see what came.
+    fn take_control(&mut self)
+        ensures facts { mio_net_facts self.new ≡ mio_net_facts self.old }
+        ensures asked { asked_of self.new ≡ asked_of self.old }
+        ensures stays { has_ended (control_of self.old) ≡ true
+            → has_ended (control_of self.new) ≡ true }
+        ensures none { control_of self.old ≡ None → control_of self.new ≡ None }
+    {
+        if let Some(control) = &mut self.control {
+            control.take(self.poll.registry(), &self.events);
         }
     }
 
@@ -279,7 +314,9 @@ impl<R: Clock + Copy> Net for MioNet<R> {
     ghost use Rattle.ev_base.specs.Terms.{Terms, KeepsOn, KeepsOnWith};
     ghost use Rattle.ev_base.specs.Net.{NetWaits, NetAttaches, SetsMaskOf, RetiresEnd, Attaches};
     ghost use Rattle.ev_base.specs.Net.{SetsMask, Retires};
-    ghost use Rattle.demux_mio.specs.Nets.{mio_net_facts, mio_net_keeps, asked_of, GivesWanted};
+    ghost use Rattle.demux_mio.specs.Nets.{mio_net_facts, mio_net_keeps, asked_of, control_of};
+    ghost use Rattle.demux_mio.specs.Nets.{GivesWanted};
+    ghost use Rattle.demux_mio.specs.Controls.{EndsWith};
     ghost use Rattle.demux_mio.specs.Ends.{mio_end_facts, mio_end_keeps};
 
     type End = MioEnd;
@@ -293,17 +330,24 @@ impl<R: Clock + Copy> Net for MioNet<R> {
         ensures kept { KeepsOn mio_net_keeps self.old self.new }
         ensures asked { asked_of self.new ≡ asked_of self.old }
         ensures wanted { GivesWanted result (asked_of self.old) (mio_net_facts self.new).reports }
+        ensures control { EndsWith (control_of self.old) result (control_of self.new) }
     {
-        self.note_failed_accepts();
-        let limit = self.limit(most_ms);
-        if self.wait_for_events(limit).is_err() {
-            self.failed_waits = self.failed_waits.saturating_add(1);
-            return Waited::Failed;
+        if !self.has_ended() {
+            self.note_failed_accepts();
+            let limit = self.limit(most_ms);
+            if self.wait_for_events(limit).is_err() {
+                self.failed_waits = self.failed_waits.saturating_add(1);
+                return Waited::Failed;
+            }
+            self.take_control();
         }
         let now = self.moment();
         self.last = now;
-        self.retry_listeners();
         self.reports.clear();
+        if self.has_ended() {
+            return Waited::Over { now };
+        }
+        self.retry_listeners();
         self.watching.collect(&self.events, &mut self.reports);
         match self.reports.len() {
             0 => Waited::Quiet { now },

@@ -261,8 +261,8 @@ impl Socket {
     }
 }
 
-// Reads once. Where the reader knows its bytes, it gives the next of them.
-fn read_once<R: Read>(reader: &mut R, buf: &mut [u8]) -> Got
+/// Reads once. Where the reader knows its bytes, it gives the next of them.
+pub(crate) fn read_once<R: Read>(reader: &mut R, buf: &mut [u8]) -> Got
     requires { 0 < length buf.old }
     ensures within { GotWithin result buf.new }
     ensures bytes { GotFrom (R.remaining reader.old) buf.new result (R.remaining reader.new) }

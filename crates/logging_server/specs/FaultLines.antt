@@ -28,4 +28,7 @@ fault_text code at =
     else (if code == 10 then as_line (codes "logd: illegal entry " ++ decimal at)
     else (if code == 11 then as_line (codes "logd: input over " ++ decimal at)
     else (if code == 12 then as_line (codes "logd: volume failed")
-    else []))))))))))
+    else (if code == 13 then as_line (codes "logd: peer failed")
+    else (if code == 14 then as_line (codes "logd: connect timed out at " ++ decimal at)
+    else (if code == 15 then as_line (codes "logd: unfinished")
+    else [])))))))))))))

@@ -41,6 +41,9 @@ impl fmt::Display for FaultLine {
             10 => writeln!(f, "logd: illegal entry {at}"),
             11 => writeln!(f, "logd: input over {at}"),
             12 => f.write_str("logd: volume failed\n"),
+            13 => f.write_str("logd: peer failed\n"),
+            14 => writeln!(f, "logd: connect timed out at {at}"),
+            15 => f.write_str("logd: unfinished\n"),
             _ => Ok(()),
         }
     }

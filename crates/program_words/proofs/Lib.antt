@@ -1,3 +1,4 @@
 pub mod Dashes
 pub mod Options
 pub mod Parts
+pub mod Keeping

@@ -1,3 +1,4 @@
 pub use Rattle.cmd_line
 pub mod Parting
 pub mod Calling
+pub mod Laws

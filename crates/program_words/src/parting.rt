@@ -1,10 +1,11 @@
 //! The program's own words, and those that a command sees.
 ghost use Rattle.std.specs.Prelude.{◌≡◌, false, map, IfOk};
 ghost use Rattle.std.specs.String.{string_bytes};
-ghost use Rattle.program_words.specs.Parting.{is_alone, is_joined, is_own};
-ghost use Rattle.program_words.specs.Parting.{left_over, taken_off, with_own};
+ghost use Rattle.program_words.specs.Parting.{is_alone, is_flag, is_joined, is_own};
+ghost use Rattle.program_words.specs.Parting.{left_over, taken_off};
 ghost use Rattle.cmd_line.specs.Given.{may_be_text};
 
+use crate::takes::Takes;
 use ev_types::NoMemory;
 use std::alloc::Global;
 
@@ -17,29 +18,19 @@ pub(crate) struct Parted {
     pub(crate) rest: Vec<String>,
 }
 
-/// Whether the command that these words name has options of the program's own.
-pub(crate) fn with_own(words: &[String]) -> bool
-    ensures { result ≡ with_own (map string_bytes words.now) }
-{
-    match words {
-        [name, ..] => name.as_str() == "serve",
-        [] => false,
-    }
-}
-
 /// Parts the words of a command.
-pub(crate) fn part(alloc: Global, words: Vec<String>) -> Result<Parted, NoMemory>
+pub(crate) fn part(alloc: Global, takes: Takes, words: Vec<String>) -> Result<Parted, NoMemory>
     ensures own { IfOk result (λ parted. map string_bytes parted.own.items
-        ≡ taken_off false (map string_bytes words.items)) }
+        ≡ taken_off takes false (map string_bytes words.items)) }
     ensures rest { IfOk result (λ parted. map string_bytes parted.rest.items
-        ≡ left_over false (map string_bytes words.items)) }
+        ≡ left_over takes false (map string_bytes words.items)) }
 {
     let mut own = Vec::new(alloc);
     let mut rest = Vec::new(alloc);
     let mut waits = false;
     for word in words {
-        let is_own = is_own(waits, &word);
-        waits = is_alone(&word);
+        let is_own = is_own(takes, waits, &word);
+        waits = is_alone(takes, &word);
         if is_own {
             own.push(word)?;
         } else {
@@ -50,10 +41,13 @@ pub(crate) fn part(alloc: Global, words: Vec<String>) -> Result<Parted, NoMemory
 }
 
 // Whether the word is the program's own.
-fn is_own(waits: bool, word: &str) -> bool
-    ensures { result ≡ is_own waits word.now }
+fn is_own(takes: Takes, waits: bool, word: &str) -> bool
+    ensures { result ≡ is_own takes waits word.now }
 {
-    waits && may_be_text(word) || is_alone(word) || is_joined(word)
+    waits && may_be_text(word)
+        || is_alone(takes, word)
+        || is_joined(takes, word)
+        || is_flag(takes, word)
 }
 
 // Whether the word may be an option's text.
@@ -67,15 +61,22 @@ fn may_be_text(word: &str) -> bool
 }
 
 // Whether the word is an option whose text is the next word.
-fn is_alone(word: &str) -> bool
-    ensures { result ≡ is_alone word.now }
+fn is_alone(takes: Takes, word: &str) -> bool
+    ensures { result ≡ is_alone takes word.now }
 {
-    word == "--address"
+    takes.address && word == "--address"
 }
 
 // Whether the word is an option with its text.
-fn is_joined(word: &str) -> bool
-    ensures { result ≡ is_joined word.now }
+fn is_joined(takes: Takes, word: &str) -> bool
+    ensures { result ≡ is_joined takes word.now }
 {
-    word.as_bytes().starts_with(b"--address=")
+    takes.address && word.as_bytes().starts_with(b"--address=")
+}
+
+// Whether the word is an option without a text.
+fn is_flag(takes: Takes, word: &str) -> bool
+    ensures { result ≡ is_flag takes word.now }
+{
+    takes.control && word == "--control" || takes.ace7 && word == "--ace7"
 }

@@ -10,7 +10,8 @@ use Rattle.ace7_input.proofs.begun.Begun.add.Goals as goal
 pub returns-then-count-lt-ALL_BUT_ONE : goal.returns-then-count-lt-ALL_BUT_ONE
 returns-then-count-lt-ALL_BUT_ONE c t =
     let bytes : List ℕ = c.args.self.bytes in
-    let few : length (bytes_of c.args.self) < 8 = omega (arith, length-take c.args.self.count bytes) in
+    let few : length (bytes_of c.args.self) < 8 =
+    omega (arith, length-take c.args.self.count bytes) in
     let within : c.args.self.count < length bytes = omega arith in
     let more : take (c.args.self.count + 1) (slice_set bytes c.args.self.count c.args.byte)
     ≡ bytes_of c.args.self ++ c.args.byte ∷ [] =
@@ -22,7 +23,8 @@ pub returns : goal.returns
 returns c t =
     let bytes : List ℕ = c.args.self.bytes in
     let header : List ℕ = slice_set bytes c.args.self.count c.args.byte in
-    let few : length (bytes_of c.args.self) < 8 = omega (arith, length-take c.args.self.count bytes) in
+    let few : length (bytes_of c.args.self) < 8 =
+    omega (arith, length-take c.args.self.count bytes) in
     let within : c.args.self.count < length bytes = omega arith in
     let all : take (c.args.self.count + 1) header ≡ header =
     take_all (c.args.self.count + 1) header
