@@ -1,0 +1,9 @@
+pub mod Operations
+pub mod Queues
+pub mod Events
+pub mod Standing
+pub mod Sums
+pub mod Turns
+pub mod Parts
+pub mod Closing
+pub mod Ends
