@@ -63,7 +63,8 @@ public:
 
     int handle_close(ACE_HANDLE handle, ACE_Reactor_Mask mask)
     {
-        write_closing(&held, &lines, how, number);
+        put_closing(&held, &lines, how, number);
+        write_out(&lines);
         int told = Base::handle_close(handle, mask);
         if (++closed == until) exit(0);
         return told;

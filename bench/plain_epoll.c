@@ -2,8 +2,9 @@
    of 4,096 bytes, pauses behind four reads in a row, writes the lines of the records that each piece completes in one write, and a
    closing line at the end of each connection.
 
-   plain_epoll PORT [UNTIL [THREADS]]: ends once UNTIL connections were closed, where that is above 0. THREADS (1 if left out)
-   threads have an epoll set each; the first also accepts, and deals the connections out in turn. */
+   plain_epoll PORT [UNTIL [THREADS [grouped]]]: ends once UNTIL connections were closed, where that is above 0. THREADS (1 if left out)
+   threads have an epoll set each; the first also accepts, and deals the connections out in turn. With `grouped` it keeps the lines of each connection, and
+   writes those of one connection after another at its end. */
 #define _GNU_SOURCE
 #include <arpa/inet.h>
 #include <errno.h>
@@ -16,19 +17,32 @@
 #define NAME "plain_epoll"
 #include "plain_lines.h"
 
-enum { ROW = 4, MOST_EVENTS = 128, MOST_THREADS = 64 };
+enum { ROW = 4, MOST_EVENTS = 128, MOST_THREADS = 64, MOST_GROUPS = 1 << 16 };
 
 static int sets[MOST_THREADS];
 static int threads = 1;
 static uint64_t until, accepted, closed;
 static int listener;
+static int grouped;
+static struct text groups[MOST_GROUPS];
+
+/* The text to which the lines of a connection go. */
+static struct text *text_of(struct connection *c, struct text *t) { return grouped ? &groups[c->number % MOST_GROUPS] : t; }
+
+static void write_groups(void) {
+    for (uint64_t i = 0; grouped && i < accepted && i < MOST_GROUPS; i++) write_out(&groups[i]);
+}
 
 static void close_connection(struct connection *c, struct text *t, const char *how, int64_t number) {
-    write_closing(c, t, how, number);
+    put_closing(c, t, how, number);
+    if (!grouped) write_out(t);
     close(c->socket);
     free(c->rest);
     free(c);
-    if (__atomic_add_fetch(&closed, 1, __ATOMIC_SEQ_CST) == until) exit(0);
+    if (__atomic_add_fetch(&closed, 1, __ATOMIC_SEQ_CST) == until) {
+        write_groups();
+        exit(0);
+    }
 }
 
 static void watch(int set, int how, int socket, void *of) {
@@ -45,7 +59,7 @@ static void serve(int set, struct connection *c, struct text *t) {
         if (n == 0) return close_connection(c, t, c->held ? "partial" : "end", c->held ? (int64_t)c->held : -1);
         c->held += (size_t)n;
         if (!decode(c, t)) return close_connection(c, t, "malformed", (int64_t)c->decoded);
-        if (t->length) write_out(t);
+        if (t->length && !grouped) write_out(t);
     }
     watch(set, EPOLL_CTL_MOD, c->socket, c);
 }
@@ -72,16 +86,17 @@ static void *run(void *which) {
         if (n < 0 && errno != EINTR) stop(5, "wait failed");
         for (int i = 0; i < n; i++) {
             if (!events[i].data.ptr) accept_all();
-            else if (events[i].events & ~(uint32_t)EPOLLOUT) serve(set, events[i].data.ptr, &t);
+            else if (events[i].events & ~(uint32_t)EPOLLOUT) serve(set, events[i].data.ptr, text_of(events[i].data.ptr, &t));
         }
     }
     return 0;
 }
 
 int main(int argc, char **argv) {
-    if (argc < 2) stop(1, "usage: plain_epoll PORT [UNTIL [THREADS]]");
+    if (argc < 2) stop(1, "usage: plain_epoll PORT [UNTIL [THREADS [grouped]]]");
     until = argc > 2 ? strtoull(argv[2], 0, 10) : 0;
     threads = argc > 3 ? atoi(argv[3]) : 1;
+    grouped = argc > 4 && !strcmp(argv[4], "grouped");
     if (threads < 1 || threads > MOST_THREADS) stop(1, "1 to 64 threads");
     signal(SIGPIPE, SIG_IGN);
     int on = 1;

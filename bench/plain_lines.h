@@ -147,8 +147,8 @@ static void make_room(struct connection *c) {
     if (!c->rest) stop(6, "out of memory");
 }
 
-/* Puts the line of a connection that is closed, and writes out. */
-static void write_closing(struct connection *c, struct text *t, const char *how, int64_t number) {
+/* Puts the line of a connection that is closed. */
+static void put_closing(struct connection *c, struct text *t, const char *how, int64_t number) {
     put_number(t, (int64_t)c->number);
     put_word(t, " closed: ");
     put_word(t, how);
@@ -157,5 +157,4 @@ static void write_closing(struct connection *c, struct text *t, const char *how,
         put_number(t, number);
     }
     put(t, "\n", 1);
-    write_out(t);
 }

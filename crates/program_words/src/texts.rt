@@ -1,7 +1,7 @@
 //! What the program says of itself.
 
-/// Which program it is, with its version and a line feed.
-pub const VERSION: &str = "logd 0.1.0\n";
+/// Which program it is, with its version, the kit that it is proved with, and a line feed.
+pub const VERSION: &str = "logd 0.1.0, rattle-kit-13f\n";
 
 /// How the program is called, with a line feed after each line.
 pub const USAGE: &str = "\
