@@ -1,7 +1,7 @@
 -- Operations that are cancelled, one after another.
-use Rattle.std.proofs.Common.{◌≡◌, ◌∙◌, ◌+◌, ◌-◌, ◌^◌, ℕ, suc, min, arith, Bool, false, List, []}
-use Rattle.std.proofs.Common.{◌∷◌, ◌++◌, length, refl, sym, ap, subst, Option, Some, None}
-use Rattle.std.specs.Prelude.{◌||◌, Result, Ok, Err}
+use Rattle.std.proofs.Common.{◌≡◌, ◌∙◌, ◌+◌, ◌-◌, ◌^◌, ℕ, suc, min, arith, false, List, []}
+use Rattle.std.proofs.Common.{◌∷◌, ◌++◌, length, refl, sym, ap, subst, Some, None}
+use Rattle.std.specs.Prelude.{Result, Ok, Err}
 use Rattle.std.proofs.Math.Bool.{or-false}
 use Rattle.std.proofs.lemmas.List.{append-nil, append_assoc}
 use Rattle.ev_base.specs.ev_types.specs.declared.refusal.NoMemory.{NoMemory}
@@ -13,14 +13,14 @@ use Rattle.proactor.specs.declared.standing.Reading.{Reading}
 use Rattle.proactor.specs.declared.standing.Writing.{Writing}
 use Rattle.proactor.specs.declared.sums.Sums.{Sums}
 use Rattle.proactor.specs.Operations.{FollowsOn, Told, ops_of}
-use Rattle.proactor.specs.Events.{Event, Reply, Asked, FoundNoMemory, ReadDone, WriteDone}
+use Rattle.proactor.specs.Events.{Event, Asked, FoundNoMemory, ReadDone, WriteDone}
 use Rattle.proactor.specs.Events.{completion, count_done, told, told_in}
 use Rattle.proactor.specs.Standing.{Stands, TakesOut}
 use Rattle.proactor.specs.Sums.{completed_sums}
 use Rattle.proactor.specs.Turns.{Cancels, count_standing}
 use Rattle.proactor.specs.Parts.{CountsMore, FollowsTold}
 use Rattle.proactor.specs.Closing.{CancelsOne, CancelsSo}
-use Rattle.proactor.proofs.Events.{count_done_append, counts_on, counts_same}
+use Rattle.proactor.proofs.Events.{count_done_append, counts_same}
 use Rattle.proactor.proofs.Parting.{told_on, told_same}
 
 pub cancelled_one : {C : Type 0} (follows : C → Op → List Told → Type 0) (id : ℕ) (old new : C)

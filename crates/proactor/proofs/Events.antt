@@ -1,14 +1,14 @@
 -- What happened, one part of a turn after another.
-use Rattle.std.proofs.Common.{◌≡◌, ◌∙◌, ◌+◌, ℕ, arith, Bool, true, false, List, [], ◌∷◌, ◌++◌}
+use Rattle.std.proofs.Common.{◌≡◌, ◌∙◌, ◌+◌, ℕ, arith, Bool, List, [], ◌∷◌, ◌++◌}
 use Rattle.std.proofs.Common.{length, refl, sym, ap, subst}
 use Rattle.std.specs.Prelude.{◌||◌}
 use Rattle.std.proofs.Math.Bool.{or_assoc, or-false}
 use Rattle.std.proofs.lemmas.Grind.{flat_map-append}
 use Rattle.std.specs.List.{flat_map}
-use Rattle.std.proofs.lemmas.List.{append-nil, append_assoc, length-append}
+use Rattle.std.proofs.lemmas.List.{length-append}
 use Rattle.ev_base.specs.Counts.{Counts}
-use Rattle.proactor.specs.Events.{Event, some_of, told, taken, given, done_reads, done_writes}
-use Rattle.proactor.specs.Events.{count_done, told_by, taken_by, given_by, read_done_by}
+use Rattle.proactor.specs.Events.{Event, some_of}
+use Rattle.proactor.specs.Events.{count_done, taken_by, given_by, read_done_by}
 use Rattle.proactor.specs.Events.{write_done_by, starves}
 use Rattle.proactor.specs.declared.sums.Sums.{Sums}
 use Rattle.proactor.specs.Parts.{CountsMore, IsSummed}

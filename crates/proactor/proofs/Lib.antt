@@ -4,4 +4,6 @@ pub mod Events
 pub mod Parting
 pub mod Rooms
 pub mod Cancelling
+pub mod Accounting
+pub mod Ordering
 pub mod Turning

@@ -1,5 +1,5 @@
 -- Lists of operations.
-use Rattle.std.proofs.Common.{◌≡◌, ◌∙◌, List, [], ◌∷◌, ◌++◌, refl, ap}
+use Rattle.std.proofs.Common.{◌≡◌, List, [], ◌∷◌, ◌++◌, refl, ap}
 use Rattle.proactor.specs.declared.operation.Op.{Op}
 use Rattle.proactor.specs.declared.operation.Op.TheVariants as op
 use Rattle.proactor.specs.declared.standing.Reading.{Reading}

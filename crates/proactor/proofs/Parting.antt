@@ -1,11 +1,10 @@
 -- Parts of a turn of an end.
-use Rattle.std.proofs.Common.{◌≡◌, ◌∙◌, ◌+◌, ◌≤◌, ◌⊎◌, inl, inr, ℕ, arith, Bool, true, false, List}
+use Rattle.std.proofs.Common.{◌≡◌, ◌∙◌, ◌+◌, ◌≤◌, inl, inr, ℕ, arith, Bool, true, false, List}
 use Rattle.std.proofs.Common.{[], ◌∷◌, ◌++◌, length, take, drop, refl, sym, ap, subst}
-use Rattle.std.specs.Prelude.{◌||◌, not, nat_lt, Ok, Option, Some, None}
+use Rattle.std.specs.Prelude.{◌||◌, not, Ok, Some, None}
 use Rattle.std.proofs.Math.Bool.{or-false}
 use Rattle.std.proofs.lemmas.Grind.{flat_map-append}
 use Rattle.std.proofs.lemmas.List.{append-nil, append_assoc, length-take}
-use Rattle.ev_base.specs.Counts.{Counts}
 use Rattle.ev_base.specs.Terms.{Terms}
 use Rattle.ev_base.specs.End.{EndFacts, EndReads, EndWrites, EndGives, EndPauses, EndTakes}
 use Rattle.ev_base.specs.End.{EndIsFull, EndFailsToWrite}
@@ -24,7 +23,7 @@ use Rattle.proactor.specs.declared.standing.Writing.{Writing}
 use Rattle.proactor.specs.declared.sums.Sums.{Sums}
 use Rattle.proactor.specs.declared.operation.Next.{Next}
 use Rattle.proactor.specs.Operations.{FollowsOn, Told}
-use Rattle.proactor.specs.Events.{Event, ReadDone, WriteDone, Took, Gave, Reply, completion, up_in}
+use Rattle.proactor.specs.Events.{Event, ReadDone, WriteDone, Took, Gave, completion, up_in}
 use Rattle.proactor.specs.Events.{Asked, some_there, done_in, ends, is_failed, is_starved, lost_in, moves, some_of}
 use Rattle.proactor.specs.Events.{starves, told, told_by, told_in, taken, given, count_done}
 use Rattle.proactor.specs.Standing.{Stands, FinishesRead, FinishesReadOf, FinishesWrite, TakesUp}
@@ -35,7 +34,7 @@ use Rattle.proactor.specs.Turns.{State, CompletesRead, CompletesWrite, TriesRead
 use Rattle.proactor.specs.Turns.{TriesBoth, tries_read, tries_write, Advances, TakesRead}
 use Rattle.proactor.specs.Turns.{TakesWrite, GoesOnToWrite}
 use Rattle.proactor.specs.Parts.{CompletesFirstRead, CompletesFirstWrite, DoesPart, FollowsTold}
-use Rattle.proactor.specs.Parts.{HearsOf, IsStep, IsSummed, completes_read, completes_write, end_of}
+use Rattle.proactor.specs.Parts.{HearsOf, IsSummed, completes_read, completes_write, end_of}
 use Rattle.proactor.specs.Parts.{handler_of, number_of, standing_of, state_of, sums_of, takes_bytes}
 use Rattle.proactor.specs.Parts.{TakesFirstBytes, CountsMore}
 use Rattle.proactor.proofs.Events.{counts_same, some_of_append, summed_none}

@@ -1,5 +1,5 @@
 -- The bytes that a read left in a vector.
-use Rattle.std.proofs.Common.{◌≡◌, ◌∙◌, ◌≤◌, ℕ, arith, List, [], ◌++◌, length, take, drop, refl, ap}
+use Rattle.std.proofs.Common.{◌≡◌, ◌∙◌, ℕ, arith, List, ◌++◌, length, take, drop, ap}
 use Rattle.std.proofs.lemmas.List.{append-nil, drop_all, take_all}
 
 pub cut_room : (n len : ℕ) (buf items : List ℕ) → length buf ≡ length items → length items ≡ len

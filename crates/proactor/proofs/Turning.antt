@@ -1,5 +1,5 @@
 -- That the turns of an end are what its relations say.
-use Rattle.std.proofs.Common.{◌≡◌, ◌∙◌, ◌+◌, ℕ, arith, Bool, true, false, List, [], ◌∷◌, ◌++◌, length}
+use Rattle.std.proofs.Common.{◌≡◌, ◌∙◌, ℕ, arith, Bool, true, false, List, [], ◌∷◌, ◌++◌, length}
 use Rattle.std.proofs.Common.{refl, sym, ap, subst, Option, Some, None}
 use Rattle.std.specs.Prelude.{◌||◌, not}
 use Rattle.std.specs.List.{flat_map}
@@ -11,11 +11,13 @@ use Rattle.ev_base.specs.ev_types.specs.declared.upcall.Upcall.{Upcall}
 use Rattle.ev_base.specs.ev_types.specs.declared.upcall.Upcall.TheVariants.{Input, Output, Except}
 use Rattle.ev_base.specs.ev_types.specs.declared.upcall.Upcall.TheVariants.{Timeout, Notice}
 use Rattle.ev_base.specs.ev_types.specs.declared.upcall.Why.{Why}
+use Rattle.ev_base.specs.ev_types.specs.declared.upcall.Why.TheVariants.{Own}
 use Rattle.ev_base.specs.Counts.{Counts}
 use Rattle.ev_base.specs.Terms.{Terms}
 use Rattle.ev_base.specs.End.{EndFacts, IsFresh}
 use Rattle.ev_base.specs.declared.end.PeerEnd.{Ghosts}
 use Rattle.reactor_model.specs.reactor_journal.specs.Event.{Item, Origin}
+use Rattle.reactor_model.specs.Handling.{EndsInClose, NoClose}
 use Rattle.reactor_model.specs.Turns.{HasTimer, IsNotOfMine, IsTimeout, KeepsPromises, MayAct}
 use Rattle.reactor_model.specs.Turns.{TakesTurn}
 use Rattle.reactor_model.specs.declared.handler.Act.{Act}
@@ -28,19 +30,21 @@ use Rattle.proactor.specs.declared.standing.Reading.{Reading}
 use Rattle.proactor.specs.declared.standing.Writing.{Writing}
 use Rattle.proactor.specs.declared.sums.Sums.{Sums}
 use Rattle.proactor.specs.Operations.{IsOp, Told}
+use Rattle.proactor.specs.Account.{Accounts}
 use Rattle.proactor.specs.Events.{Event, count_done, ends, given, given_by, some_of, starves, taken}
 use Rattle.proactor.specs.Events.{taken_by, told, told_by}
 use Rattle.proactor.specs.Queues.{none_stand}
 use Rattle.proactor.specs.Standing.{Stands, begins_with}
 use Rattle.proactor.specs.Sums.{no_sums, note_of}
 use Rattle.proactor.specs.Turns.{State, Cancels, Course, NotesSo, Serves, Turns, answer_to, at_start}
-use Rattle.proactor.specs.Turns.{answer_by, count_standing}
+use Rattle.proactor.specs.Turns.{OnlyLast, answer_by}
 use Rattle.proactor.specs.Parts.{CountsMore, DoesPart, IsSummed, end_of, handler_of, number_of, standing_of}
 use Rattle.proactor.specs.Parts.{state_of, sums_of}
 use Rattle.proactor.specs.Closing.{CancelsSo}
 use Rattle.proactor.specs.Ends.{AsynchFits, AsynchGone, HadTurns, MakesTurn, asynch_ends, change_by}
 use Rattle.proactor.specs.Ends.{masking}
 use Rattle.proactor.proofs.Events.{count_done_append, lengths, summed_none, summed_on}
+use Rattle.proactor.proofs.Ordering.{accounts, completes_all, ended_so}
 use Rattle.proactor.proofs.Parting.{state_is}
 
 -- an upcall that is for neither input nor output does nothing
@@ -69,6 +73,13 @@ course_more conn past start (x ∷ had) all s events item next course turn = (
   course.2,
   course_more conn (past ++ course.0) course.1 had all s events item next course.3 turn,
 )
+
+-- it went on until then
+last_more : (had : List (Item AsynchNote)) (item : Item AsynchNote) → NoClose had
+    → OnlyLast (had ++ item ∷ [])
+last_more [] item going = tt
+last_more (x ∷ []) item going = (going.0, tt)
+last_more (x ∷ y ∷ had) item going = (going.0, last_more (y ∷ had) item going.1)
 
 -- what was counted from the start on
 counted : (more now : ℕ) → CountsMore 0 more now → Counts now more
@@ -210,13 +221,21 @@ module _ {E C : Type 0} {G : Ghosts E} (tells : E → EndFacts) (keeps : Terms �
   pub takes_turn : (origin : Option (Origin AsynchNote)) (up : Upcall) (now : ℕ)
       (had : List (Item AsynchNote)) (old new : AsynchEnd E C G)
       (turn : Turn (AsynchEnd E C G) AsynchNote E) → MakesTurn tells keeps follows up old new turn
-      → AsynchFits tells keeps follows t old had
+      → NoClose had → AsynchFits tells keeps follows t old had
       → TakesTurn (asynch_ends {E = E} {C = C} {G = G} tells keeps follows) t origin up now had new
       turn
-  takes_turn origin up now had old new turn m h =
+  takes_turn origin up now had old new turn m going h =
       let item : Item AsynchNote =
       record { upcall = up; moment = now; answer = turn.answer; note = turn.note } in
       let sums = summed_on h.all m.events no_sums (sums_of old) (sums_of new) h.sums m.sums in
+      let course = course_more (number_of old) [] (at_start h.turns.start h.first) had h.all
+      (state_of tells old) m.events item (state_of tells new) h.turns.course (record {
+        serves = m.serves;
+        answers = m.answers;
+        notes = subst (λ (n : AsynchNote). NotesSo (number_of old) (h.all ++ m.events) 0
+            (some_of starves (h.all ++ m.events)) n) (sym m.notes)
+            (notes_so (number_of old) (h.all ++ m.events) (sums_of new) sums);
+      }) in
       record {
         fits = record {
           first = h.first;
@@ -226,16 +245,12 @@ module _ {E C : Type 0} {G : Ghosts E} (tells : E → EndFacts) (keeps : Terms �
                 operation = h.turns.operation;
                 start = h.turns.start;
                 fresh = h.turns.fresh;
-                course = course_more (number_of old) [] (at_start h.turns.start h.first) had h.all
-                    (state_of tells old) m.events item (state_of tells new) h.turns.course (record {
-                      serves = m.serves;
-                      answers = m.answers;
-                      notes = subst (λ (n : AsynchNote). NotesSo (number_of old)
-                          (h.all ++ m.events) 0 (some_of starves (h.all ++ m.events)) n)
-                          (sym m.notes) (notes_so (number_of old) (h.all ++ m.events) (sums_of new)
-                          sums);
-                    });
+                course = course;
+                only_last = last_more had item going;
               });
+          accounts = accounts (number_of old) h.first h.turns.start (had ++ item ∷ [])
+              (h.all ++ m.events) (state_of tells new) h.turns.fresh course
+              (last_more had item going);
           sums = sums;
           told_so = subst (follows (handler_of new) h.first)
               (sym (flat_map-append told_by h.all m.events))
@@ -252,12 +267,13 @@ module _ {E C : Type 0} {G : Ghosts E} (tells : E → EndFacts) (keeps : Terms �
 
   -- what it leaves
   pub leaves : (handler : AsynchEnd E C G) (had : List (Item AsynchNote)) (reason : Why) (left : C)
-      (sums : Sums) (cancelled : ℕ) → AsynchFits tells keeps follows t handler had
+      (sums : Sums) (cancelled : ℕ) → (reason ≡ Own → EndsInClose had)
+      → AsynchFits tells keeps follows t handler had
       → CancelsSo follows (standing_of handler) (handler_of handler) left (sums_of handler) sums
       cancelled
       → AsynchGone tells keeps follows t (end_of handler) had reason
       (note_of (number_of handler) cancelled sums)
-  leaves handler had reason left sums cancelled h c =
+  leaves handler had reason left sums cancelled own h c =
       let nothing = cancels_nothing (standing_of handler).reads (standing_of handler).writes c.events
       c.cancels in record {
         conn = number_of handler;
@@ -265,9 +281,14 @@ module _ {E C : Type 0} {G : Ghosts E} (tells : E → EndFacts) (keeps : Terms �
         all = h.all;
         last = state_of tells handler;
         turns = h.turns;
+        accounts = h.accounts;
+        ended = λ is. ended_so (number_of handler) [] (at_start h.turns.start h.first) had h.all
+            (state_of tells handler) h.turns.course (own is);
         facts = refl;
         closing = c.events;
         cancels = c.cancels;
+        completes = completes_all h.first h.all (state_of tells handler) c.events
+            h.accounts.operates c.cancels;
         notes = record {
           conn_is = refl;
           read = subst (λ (n : ℕ). Counts sums.read n) (sym (still taken_by h.all c.events
@@ -301,16 +322,23 @@ fits_new tells keeps follows t handler first operation fresh standing sums told 
     operation = operation;
     start = tells (end_of handler);
     fresh = fresh;
-    course = (
-      refl,
-      ap (λ (s : Stands). record { facts = tells (end_of handler); standing = s })
-          standing,
-    );
+    course = course;
+    only_last = tt;
   };
+  accounts = accounts (number_of handler) first (tells (end_of handler)) [] []
+      (state_of tells handler) fresh course tt;
   sums = subst (IsSummed [] no_sums) (sym sums) (summed_none no_sums);
   told_so = told;
   kept_end = kept;
 }
+  where
+    course : Course (number_of handler) [] (at_start (tells (end_of handler)) first) []
+        [] (state_of tells handler)
+    course = (
+      refl,
+      ap (λ (s : Stands). record { facts = tells (end_of handler); standing = s })
+          standing,
+    )
 
 -- one whose end was attached
 pub fits_attached : {E C : Type 0} {G : Ghosts E} (tells : E → EndFacts) (keeps : Terms → E → Type 0)
@@ -324,10 +352,12 @@ fits_attached {C = C} tells keeps follows t old new had number standing sums han
   first = h.first;
   all = h.all;
   turns = subst (λ (conn : ℕ). HadTurns conn h.first had h.all (state_of tells new)) (sym number)
-      (subst (λ (s : State). HadTurns (number_of old) h.first had h.all s)
-      (sym (state_is (state_of tells new) (tells (end_of old)) (standing_of old) end standing))
-      h.turns);
+      (subst (λ (s : State). HadTurns (number_of old) h.first had h.all s) (sym same) h.turns);
+  accounts = subst (λ (s : State). Accounts h.first h.all s) (sym same) h.accounts;
   sums = subst (IsSummed h.all no_sums) (sym sums) h.sums;
   told_so = subst (λ (c : C). follows c h.first (told h.all)) (sym handler) h.told_so;
   kept_end = kept;
 }
+  where
+    same : state_of tells new ≡ state_of tells old
+    same = state_is (state_of tells new) (tells (end_of old)) (standing_of old) end standing

@@ -1,12 +1,13 @@
 -- What ends over completion handlers mean by their turns: which turns they have had, and what they
 -- leave.
-use Rattle.std.specs.Prelude.{◌≡◌, ℕ, Bool, true, false, not, List, [], ◌++◌, Option, Some, None}
+use Rattle.std.specs.Prelude.{◌≡◌, ◌||◌, ℕ, Bool, true, false, not, List, [], ◌++◌, Option, Some, None}
 use Rattle.ev_base.specs.ev_types.specs.declared.upcall.Answer.{Answer}
-use Rattle.ev_base.specs.ev_types.specs.declared.upcall.Answer.TheVariants.{Keep, Again, Close}
+use Rattle.ev_base.specs.ev_types.specs.declared.upcall.Answer.TheVariants.{Close}
 use Rattle.ev_base.specs.ev_types.specs.declared.upcall.Mask.{Mask}
 use Rattle.ev_base.specs.ev_types.specs.declared.upcall.Upcall.{Upcall}
 use Rattle.ev_base.specs.ev_types.specs.declared.upcall.Upcall.TheVariants.{Input, Output}
 use Rattle.ev_base.specs.ev_types.specs.declared.upcall.Why.{Why}
+use Rattle.ev_base.specs.ev_types.specs.declared.upcall.Why.TheVariants.{Own}
 use Rattle.ev_base.specs.Terms.{Terms}
 use Rattle.ev_base.specs.End.{EndFacts, IsFresh}
 use Rattle.ev_base.specs.declared.end.PeerEnd.{Ghosts}
@@ -19,11 +20,12 @@ use Rattle.proactor.specs.declared.asynch_end.AsynchEnd.{AsynchEnd}
 use Rattle.proactor.specs.declared.note.AsynchNote.{AsynchNote}
 use Rattle.proactor.specs.declared.operation.Op.{Op}
 use Rattle.proactor.specs.Operations.{IsOp, Told}
-use Rattle.proactor.specs.Events.{Event, some_of, starves, told}
+use Rattle.proactor.specs.Account.{Accounts, CompletesAll}
+use Rattle.proactor.specs.Events.{Event, ends, some_of, starves, told}
 use Rattle.proactor.specs.Queues.{none_stand}
 use Rattle.proactor.specs.Sums.{no_sums, note_of}
 use Rattle.proactor.specs.Turns.{State, Cancels, Course, NotesSo, Serves, answer_to, at_start}
-use Rattle.proactor.specs.Turns.{count_standing}
+use Rattle.proactor.specs.Turns.{OnlyLast, count_standing}
 use Rattle.proactor.specs.Parts.{FollowsTold, IsSummed, end_of, handler_of, number_of, standing_of}
 use Rattle.proactor.specs.Parts.{state_of, sums_of}
 
@@ -71,6 +73,7 @@ pub record HadTurns (conn : ℕ) (first : Op) (had : List (Item AsynchNote)) (al
   pub start : EndFacts
   pub fresh : IsFresh start
   pub course : Course conn [] (at_start start first) had all s
+  pub only_last : OnlyLast had
 
 -- it has had these turns
 pub record AsynchFits {E C : Type 0} {G : Ghosts E} (tells : E → EndFacts)
@@ -79,12 +82,14 @@ pub record AsynchFits {E C : Type 0} {G : Ghosts E} (tells : E → EndFacts)
   pub first : Op
   pub all : List Event
   pub turns : HadTurns (number_of handler) first had all (state_of tells handler)
+  pub accounts : Accounts first all (state_of tells handler)
   pub sums : IsSummed all no_sums (sums_of handler)
   pub told_so : follows (handler_of handler) first (told all)
   pub kept_end : keeps t (end_of handler)
 
 -- What an end leaves that had these turns: the operations that stood were cancelled, and the note
--- counts all that happened.
+-- counts all that happened. Where it closed itself the handler was done, an operation failed, or
+-- there was no memory.
 pub record AsynchGone {E C : Type 0} (tells : E → EndFacts) (keeps : Terms → E → Type 0)
     (follows : C → Op → List Told → Type 0) (t : Terms)
     (end : E) (had : List (Item AsynchNote)) (reason : Why) (said : AsynchNote) : Type 0 where
@@ -93,9 +98,12 @@ pub record AsynchGone {E C : Type 0} (tells : E → EndFacts) (keeps : Terms →
   pub all : List Event
   pub last : State
   pub turns : HadTurns conn first had all last
+  pub accounts : Accounts first all last
+  pub ended : reason ≡ Own → some_of ends all || some_of starves all ≡ true
   pub facts : last.facts ≡ tells end
   pub closing : List Event
   pub cancels : Cancels last.standing.reads last.standing.writes closing
+  pub completes : CompletesAll first (all ++ closing)
   pub notes : NotesSo conn (all ++ closing) (count_standing last.standing) (some_of starves all)
       said
   pub handler : C

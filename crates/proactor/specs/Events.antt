@@ -1,6 +1,6 @@
 -- What happened at an end over a completion handler, one thing after another.
-use Rattle.std.specs.Prelude.{◌≡◌, ◌+◌, ◌^◌, ℕ, suc, min, Bool, true, false, List, [], ◌∷◌, ◌++◌}
-use Rattle.std.specs.Prelude.{length, map, ◌||◌}
+use Rattle.std.specs.Prelude.{◌+◌, ℕ, Bool, true, false, List, [], ◌∷◌, ◌++◌}
+use Rattle.std.specs.Prelude.{length, ◌||◌}
 use Rattle.std.specs.List.{flat_map}
 use Rattle.proactor.specs.declared.operation.Op.{Op}
 use Rattle.proactor.specs.declared.operation.Op.TheVariants as op

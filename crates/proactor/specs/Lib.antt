@@ -6,4 +6,5 @@ pub mod Sums
 pub mod Turns
 pub mod Parts
 pub mod Closing
+pub mod Account
 pub mod Ends

@@ -1,5 +1,5 @@
 -- Asynchronous operations, and what a completion handler is told and asks (POSA2, Proactor).
-use Rattle.std.specs.Prelude.{◌≡◌, ◌≤◌, ℕ, Bool, List, [], ◌∷◌, ◌++◌, length, Option, Some, None}
+use Rattle.std.specs.Prelude.{◌≤◌, Bool, List, [], ◌∷◌, ◌++◌, length, Option, Some, None}
 use Rattle.std.specs.Prelude.{Result, Ok, Err}
 use Rattle.ev_base.specs.ev_types.specs.declared.refusal.NoMemory.{NoMemory}
 use Rattle.proactor.specs.declared.operation.Op.{Op}

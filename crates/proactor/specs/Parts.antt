@@ -1,5 +1,5 @@
 -- Parts of a turn of an end, as the code makes them.
-use Rattle.std.specs.Prelude.{◌≡◌, ◌+◌, ◌||◌, ℕ, Bool, false, List, [], ◌∷◌, ◌++◌}
+use Rattle.std.specs.Prelude.{◌≡◌, ◌+◌, ◌||◌, ℕ, false, List, [], ◌∷◌, ◌++◌}
 use Rattle.std.specs.Prelude.{length}
 use Rattle.ev_base.specs.Counts.{Counts}
 use Rattle.ev_base.specs.Terms.{Terms}

@@ -1,5 +1,5 @@
 -- Operations that stand, one behind another.
-use Rattle.std.specs.Prelude.{◌≡◌, ℕ, Bool, true, false, List, [], ◌∷◌, length, Option, Some, None}
+use Rattle.std.specs.Prelude.{◌≡◌, Bool, true, false, List, [], ◌∷◌, length, Option, Some, None}
 
 -- the first, which has a place of its own, and the others
 abbrev pub listed : {A : Type 0} → Option A → List A → List A

@@ -1,6 +1,6 @@
 -- What an end over a completion handler does, turn by turn (POSA2, Proactor: Asynchronous Operation
 -- Processor).
-use Rattle.std.specs.Prelude.{◌≡◌, ◌⊎◌, ◌+◌, ◌<◌, ℕ, nat_lt, Bool, true, false, List, [], ◌∷◌}
+use Rattle.std.specs.Prelude.{◌≡◌, ◌⊎◌, ◌+◌, ℕ, nat_lt, Bool, true, false, List, [], ◌∷◌}
 use Rattle.std.specs.Prelude.{◌++◌, ◌||◌, length, take, drop}
 use Rattle.ev_base.specs.ev_types.specs.declared.upcall.Answer.{Answer}
 use Rattle.ev_base.specs.ev_types.specs.declared.upcall.Answer.TheVariants.{Keep, Again, Close}
@@ -14,6 +14,7 @@ use Rattle.ev_base.specs.declared.source.Got.TheVariants as got
 use Rattle.ev_base.specs.declared.end.Sent.{Sent}
 use Rattle.ev_base.specs.declared.end.Sent.TheVariants as sent
 use Rattle.reactor_model.specs.reactor_journal.specs.Event.{Item}
+use Rattle.reactor_model.specs.Handling.{GoesOn}
 use Rattle.proactor.specs.declared.note.AsynchNote.{AsynchNote}
 use Rattle.proactor.specs.declared.operation.Op.{Op}
 use Rattle.proactor.specs.declared.operation.Outcome.{Outcome}
@@ -188,6 +189,12 @@ Course conn past start [] all s = (all ≡ past) × (s ≡ start)
 Course conn past start (item ∷ items) all s =
     (events : List Event) × (next : State) × Turns conn past start events item next
     × Course conn (past ++ events) next items all s
+
+-- no answer but the last is Close
+abbrev pub OnlyLast : List (Item AsynchNote) → Type 0
+OnlyLast [] = Unit {0}
+OnlyLast (item ∷ []) = Unit {0}
+OnlyLast (item ∷ next ∷ items) = GoesOn item.answer × OnlyLast (next ∷ items)
 
 -- ---- closing
 

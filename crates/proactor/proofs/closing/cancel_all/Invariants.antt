@@ -1,4 +1,3 @@
-use Rattle.std.proofs.Common.{◌+◌, length}
 use Rattle.proactor.proofs.Cancelling.{Cancelling}
 use Rattle.proactor.specs.Turns.{count_standing}
 use Rattle.proactor.proofs.closing.cancel_all.Given as goal

@@ -1,4 +1,4 @@
-use Rattle.std.proofs.Common.{◌≡◌, Bool, true, false, refl, sym, subst}
+use Rattle.std.proofs.Common.{Bool, true, false, refl, sym, subst}
 use Rattle.proactor.specs.declared.sums.Sums.{Sums}
 use Rattle.proactor.specs.Parts.{DoesPart, takes_bytes}
 use Rattle.proactor.specs.Standing.{AdvancesTo}

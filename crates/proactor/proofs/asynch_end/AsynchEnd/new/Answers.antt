@@ -1,4 +1,3 @@
-use Rattle.std.proofs.Common.{refl}
 use Rattle.proactor.proofs.Turning.{fits_new}
 use Rattle.proactor.proofs.asynch_end.AsynchEnd.new.Goals as goal
 

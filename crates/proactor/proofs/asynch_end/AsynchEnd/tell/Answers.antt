@@ -1,4 +1,3 @@
-use Rattle.std.proofs.Common.{refl}
 use Rattle.proactor.proofs.Parting.{hears}
 use Rattle.proactor.proofs.asynch_end.AsynchEnd.tell.Goals as goal
 

@@ -1,4 +1,4 @@
-use Rattle.std.proofs.Common.{◌≡◌, ◌∙◌, length, refl, sym, ap}
+use Rattle.std.proofs.Common.{◌∙◌, length, refl, sym, ap}
 use Rattle.proactor.specs.Turns.{tries_read}
 use Rattle.proactor.proofs.Parting.{idle, no_read, read_bytes, read_paused}
 use Rattle.proactor.proofs.Rooms.{cut_room}

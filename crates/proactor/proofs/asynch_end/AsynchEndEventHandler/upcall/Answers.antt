@@ -1,4 +1,4 @@
-use Rattle.std.proofs.Common.{◌≡◌, ◌∙◌, ap, refl}
+use Rattle.std.proofs.Common.{◌∙◌, ap}
 use Rattle.std.specs.Prelude.{Bool, not}
 use Rattle.proactor.specs.declared.asynch_end.AsynchEnd.{AsynchEnd}
 use Rattle.proactor.specs.declared.note.AsynchNote.{AsynchNote}
@@ -25,7 +25,7 @@ returns g c =
     record {
       turn = λ t origin had going h. takes_turn g.E.PeerEnd.tells g.E.PeerEnd.keeps
           g.C.CompletionHandler.follows t origin c.args.up c.args._now had c.args.self.now
-          c.carry_out-step.new.self _ m h;
+          c.carry_out-step.new.self _ m going h;
       promises = promises g.E.PeerEnd.tells g.E.PeerEnd.keeps g.C.CompletionHandler.follows
           c.args.up c.args.self.now c.carry_out-step.new.self _ m;
       makes = m;

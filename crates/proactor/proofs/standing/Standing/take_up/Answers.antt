@@ -1,4 +1,4 @@
-use Rattle.std.proofs.Common.{◌≡◌, subst, true, Bool}
+use Rattle.std.proofs.Common.{subst, Bool}
 use Rattle.proactor.specs.Standing.{QueuesOne}
 use Rattle.proactor.proofs.Queueing.{both_taken_up}
 use Rattle.proactor.proofs.standing.Standing.take_up.Goals as goal
