@@ -7,3 +7,4 @@ pub mod Cancelling
 pub mod Accounting
 pub mod Ordering
 pub mod Turning
+pub mod Serving

@@ -8,3 +8,6 @@ pub mod Parts
 pub mod Closing
 pub mod Account
 pub mod Ends
+pub mod Echo
+pub mod Acceptors
+pub mod Services

@@ -1,8 +1,9 @@
 //! The event handler that carries out the operations of a connection.
-ghost use Rattle.std.specs.Prelude.{◌≡◌, ◌||◌, List, [], IfSome, Option, None, false, length, not};
+ghost use Rattle.std.specs.Prelude.{◌≡◌, ◌≤◌, ◌||◌, Contains, List, [], IfSome, Option, None, false, length, not};
 ghost use Rattle.ev_base.specs.ev_types.specs.declared.upcall.Why.TheVariants.{Own};
 ghost use Rattle.ev_base.specs.Terms.{Terms};
 ghost use Rattle.ev_base.specs.End.{IsFresh};
+ghost use Rattle.ev_base.specs.Net.{NetAttaches};
 ghost use Rattle.reactor_model.specs.reactor_journal.specs.Event.{Item, Origin};
 ghost use Rattle.reactor_model.specs.Handling.{NoClose, EndsInClose, Names};
 ghost use Rattle.reactor_model.specs.Turns.{TakesTurn, KeepsPromises};
@@ -110,6 +111,7 @@ impl<E: PeerEnd, C: CompletionHandler + Drop> AsynchEnd<E, C> {
         requires operation { IsOp first }
         requires follows { C.follows handler first [] }
         ensures end { end_of result ≡ end }
+        ensures number { number_of result ≡ conn }
         ensures handler { handler_of result ≡ handler }
         ensures fits { (t : Terms) → E.keeps t end
             → AsynchFits E.tells E.keeps C.follows t result [] }
@@ -135,6 +137,27 @@ impl<E: PeerEnd, C: CompletionHandler + Drop> AsynchEnd<E, C> {
         } else {
             Mask::READ
         }
+    }
+
+    /// Attaches its end to a net.
+    pub(crate) fn attach_end<M: Net<End = E>>(
+        &mut self,
+        net: &mut M,
+        handle: Handle,
+        mask: Mask,
+    ) -> Result<(), NetFailed>
+        requires place { 1 ≤ (M.facts net.old).spare }
+        requires absent { Contains (M.facts net.old).attached handle.0 → ⊥ }
+        ensures attaches { NetAttaches (M.facts net.old) handle.0 mask
+            (E.tells (end_of self.old)).serial result (M.facts net.new) }
+        ensures number { number_of self.new ≡ number_of self.old }
+        ensures fits { (t : Terms) (had : List (Item AsynchNote)) → M.keeps t net.old
+            → AsynchFits E.tells E.keeps C.follows t self.old had
+            → AsynchFits E.tells E.keeps C.follows t self.new had }
+        ensures kept { (t : Terms) → M.keeps t net.old → E.keeps t (end_of self.old)
+            → M.keeps t net.new }
+    {
+        net.attach(&mut self.peer.end, handle, mask)
     }
 
     /// Tells the handler that an operation has completed, and queues what it asks for.
@@ -328,7 +351,7 @@ impl<E: PeerEnd, C: CompletionHandler + Drop> EventHandler for AsynchEnd<E, C> {
         handle: Handle,
         mask: Mask,
     ) -> Result<(), NetFailed> {
-        net.attach(&mut self.peer.end, handle, mask)
+        self.attach_end(net, handle, mask)
     }
 
     fn handle_close(self, _why: Why) -> (E, AsynchNote)
