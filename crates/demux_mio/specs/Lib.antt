@@ -2,6 +2,7 @@ pub mod Asked
 pub mod Moves
 pub mod Waits
 pub mod Controls
+pub mod Reported
 pub mod Ends
 pub mod NoStory
 pub mod Accepts

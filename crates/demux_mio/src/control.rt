@@ -1,5 +1,8 @@
 //! Standard input, whose end ends the waits of a net.
-ghost use Rattle.std.specs.Prelude.{◌≡◌, true};
+ghost use Rattle.std.specs.Prelude.{◌≡◌, true, false};
+ghost use Rattle.std.specs.List.{list_any};
+ghost use Rattle.mio.specs.Events.{items};
+ghost use Rattle.demux_mio.specs.Reported.{is_of_control};
 ghost use Rattle.demux_mio.specs.Controls.{EndsAtOnce, is_end};
 
 use crate::socket::read_once;
@@ -44,7 +47,9 @@ impl Control {
     /// Passes over bytes, where the events say that there are some, or finds the end. It makes one
     /// read, which does not wait then, and asks for a new event, so that no byte is forgotten.
     pub(crate) fn take(&mut self, registry: &Registry, events: &Events)
-        ensures { self.old.ended ≡ true → self.new.ended ≡ true }
+        ensures stays { self.old.ended ≡ true → self.new.ended ≡ true }
+        ensures unreported { list_any is_of_control (items events.now) ≡ false
+            → self.new ≡ self.old }
     {
         if self.ended || !is_reported(events) {
             return;
@@ -56,8 +61,10 @@ impl Control {
 }
 
 // Whether one of the events is of standard input.
-fn is_reported(events: &Events) -> bool {
-    events.iter().any(|event| event.token() == CONTROL)
+fn is_reported(events: &Events) -> bool
+    ensures { result ≡ list_any is_of_control (items events.now) }
+{
+    events.iter().any(|event| event.token().0 == CONTROL.0)
 }
 
 // Whether it is at its end, by what a read came to. One that fails gives nothing more.
