@@ -7,3 +7,5 @@ mod connectors;
 mod diallers;
 #[cfg(test)]
 mod forwarding;
+#[cfg(test)]
+mod lists;
