@@ -291,13 +291,15 @@ reads_once s gave r open_ none h once = by once.came once.facts once.reads once.
           stopped = λ none_came waits stop. absurd (some_none (stop_at_end s.decoder)
               (sym (ap (λ (x : State). x.stop) t.1) ∙ stop));
         }
-    by got.Failed f g t = record {
-      forwarded = subst HasForwarded (sym t.1) (stops_reading s f end.ReadFailed open_ h g.bytes
-          g.gave g.counts.written g.counts.last_read);
-      writes = ap (λ (x : State). x.facts.writes) t.1 ∙ g.counts.writes;
-      stopped = λ none_came waits stop. absurd (some_none end.ReadFailed
-          (sym (ap (λ (x : State). x.stop) t.1) ∙ stop));
-    }
+    by got.Failed f g t =
+        let going = going_of s.ended (GoesOnFrom h.taken h.rest s) open_ h.going in
+        record {
+          forwarded = subst HasForwarded (sym t.1) (stops_reading s f end.ReadFailed open_ h g.bytes
+              g.gave g.counts.written (g.counts.last_read, going.sound none));
+          writes = ap (λ (x : State). x.facts.writes) t.1 ∙ g.counts.writes;
+          stopped = λ none_came waits stop. absurd (some_none end.ReadFailed
+              (sym (ap (λ (x : State). x.stop) t.1) ∙ stop));
+        }
 
 pub reads_on : (s : State) (gave : Bool) (r : State) → s.ended ≡ None → HasForwarded s
     → Reads (may_read s) s gave r → LeavesRead s gave r

@@ -60,7 +60,7 @@ pub stopped_as : (how : ForwardEnding) (taken : List ℕ) (e f : EndFacts) → f
 stopped_as end.End taken e f over last h = (over ∙ h.0, h.1)
 stopped_as (end.BadRecord at) taken e f over last (inl bad) = inl bad
 stopped_as (end.BadRecord at) taken e f over last (inr short) = inr (over ∙ short.0, short.1)
-stopped_as end.ReadFailed taken e f over last h = last ∙ h
+stopped_as end.ReadFailed taken e f over last h = (last ∙ h.0, h.1)
 stopped_as end.PeerFailed taken e f over last h = h
 stopped_as end.NoMemory taken e f over last h = h
 

@@ -36,11 +36,11 @@ StopsAtRecord e taken at = ((decode taken).stop ≡ Malformed at)
     ⊎ ((e.over ≡ true) × ((n : ℕ) × ((decode taken).stop ≡ Partial n)
     × (at ≡ told (taken_of taken))))
 
--- what holds where it reads no more, by how it will end
+-- what holds where it reads no more, by how it will end; no bad record came before a failed read
 abbrev pub HasStopped : ForwardEnding → List ℕ → EndFacts → Type 0
 HasStopped end.End taken e = (e.over ≡ true) × ((decode taken).stop ≡ Clean)
 HasStopped (end.BadRecord at) taken e = StopsAtRecord e taken at
-HasStopped end.ReadFailed taken e = e.last_read ≡ Some Faulted
+HasStopped end.ReadFailed taken e = (e.last_read ≡ Some Faulted) × (bad_of taken ≡ None)
 HasStopped end.PeerFailed taken e = ⊥
 HasStopped end.NoMemory taken e = ⊥
 

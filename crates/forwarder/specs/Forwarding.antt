@@ -166,7 +166,8 @@ Serves (Notice kind) before answer after = Forwards before answer after
 
 -- what it notes
 abbrev pub note_of : State → ForwardNote
-note_of s = record { records = s.records; bytes = s.bytes; ended = s.ended }
+note_of s =
+    record { records = s.records; bytes = s.bytes; stop = s.stop; ended = s.ended }
 
 -- one turn, with its note
 pub record Turns (before : State) (item : Item ForwardNote) (after : State) : Type 0 where

@@ -230,6 +230,7 @@ impl<E: DialEnd, S: Source> Forwarder<E, S> {
         ForwardNote {
             records: self.records,
             bytes: self.bytes,
+            stop: self.stop,
             ended: self.ended,
         }
     }

@@ -1,4 +1,5 @@
 //! The turns of a connector, by the answers of its end.
+use crate::lists::list_of;
 use connector::{ConnectNote, Connector, Service};
 use dial_memory::MemDialEnd;
 use ev_base::{Answer, DialEnd, Finish, PeerEnd, Sent, Upcall, Why};
@@ -99,12 +100,6 @@ static ROWS: [Row; 6] = [
         held: b"8 b",
     },
 ];
-
-fn list_of<T: Copy>(alloc: Global, items: &[T]) -> Result<Vec<T>, Fail> {
-    let mut list = Vec::new(alloc);
-    list.extend_from_slice(items)?;
-    Ok(list)
-}
 
 fn word_of(note: &ConnectNote<u64>) -> &'static str {
     match note {

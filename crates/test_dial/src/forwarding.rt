@@ -1,8 +1,9 @@
 //! The turns of the forwarding service over an end in memory.
+use crate::lists::{list_of, source_of};
 use connector::{ConnectNote, Connector};
 use dial_memory::MemDialEnd;
 use ev_base::{Answer, Finish, MemSource, Upcall, Why};
-use forwarder::{ForwardEnd, ForwardEnding, ForwardNote, Forwarder};
+use forwarder::{ForwardEnd, ForwardEnding, Forwarder};
 use reactor_model::{EventHandler, Turn};
 use std::alloc::Global;
 use std::test::Fail;
@@ -137,31 +138,20 @@ static ROWS: [Row; 7] = [
     },
 ];
 
-fn list_of<T: Copy>(alloc: Global, items: &[T]) -> Result<Vec<T>, Fail> {
-    let mut list = Vec::new(alloc);
-    list.extend_from_slice(items)?;
-    Ok(list)
-}
-
-fn source_of(alloc: Global, row: &Row) -> Result<MemSource, Fail> {
-    let mut pieces = Vec::new(alloc);
-    for piece in row.pieces {
-        pieces.push(list_of(alloc, piece)?)?;
-    }
-    Ok(MemSource::new(pieces, list_of(alloc, row.read_fails)?))
-}
-
 type Forwarding = Connector<ForwardEnd<MemDialEnd, MemSource>, Forwarder<MemDialEnd, MemSource>>;
 
+/// The answer of a turn, and what the service noted of it, if it was one of the service's.
+type Told = (Answer, Option<(u64, u64, Option<ForwardEnding>)>);
+
 /// Makes a turn at moment 7. The first asks whether the connection is made.
-fn turn(connector: &mut Forwarding) -> Result<(Answer, Option<ForwardNote>), Fail> {
+fn turn(connector: &mut Forwarding) -> Result<Told, Fail> {
     let Turn { answer, note, act } = connector.upcall(Upcall::Output, 7);
     match act {
         None => {}
         Some(_) => unreachable!("no turn of a connector carries an act"),
     }
     match note {
-        ConnectNote::Live(said) => Ok((answer, Some(said))),
+        ConnectNote::Live(said) => Ok((answer, Some((said.records, said.bytes, said.ended)))),
         _ => Ok((answer, None)),
     }
 }
@@ -169,12 +159,7 @@ fn turn(connector: &mut Forwarding) -> Result<(Answer, Option<ForwardNote>), Fai
 fn make_turns(connector: &mut Forwarding, row: &Row) -> Result<bool, Fail> {
     let mut right = turn(connector)? == (Answer::Again, None);
     for (answer, records, bytes, ended) in row.turns {
-        let note = ForwardNote {
-            records: *records,
-            bytes: *bytes,
-            ended: *ended,
-        };
-        right = turn(connector)? == (*answer, Some(note)) && right;
+        right = turn(connector)? == (*answer, Some((*records, *bytes, *ended))) && right;
     }
     Ok(right)
 }
@@ -190,7 +175,7 @@ fn records_are_forwarded_as_the_peer_takes_them(rt: HostRuntime) -> Result<(), F
             list_of(alloc, row.takes)?,
             list_of(alloc, row.write_fails)?,
         )?;
-        let end = ForwardEnd::new(end, source_of(alloc, row)?);
+        let end = ForwardEnd::new(end, source_of(alloc, row.pieces, row.read_fails)?);
         let mut connector = Connector::new(end, Forwarder::new(alloc));
         let made = make_turns(&mut connector, row);
         let (end, _note) = connector.handle_close(Why::Removed);

@@ -1,0 +1,12 @@
+pub mod Options
+pub mod Courses
+pub mod Timeouts
+pub mod LastTurns
+pub mod Waits
+pub mod Runs
+pub mod Closed
+pub mod Alive
+pub mod Serving
+pub mod Unopened
+pub mod Answering
+pub mod Sound

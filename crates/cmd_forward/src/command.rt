@@ -1,0 +1,118 @@
+//! The command.
+ghost use Rattle.std.specs.Prelude.{◌≡◌, Some, map};
+ghost use Rattle.std.specs.String.{string_bytes};
+ghost use Rattle.cmd_line.specs.Given.{Text};
+ghost use Rattle.std.specs.Prelude.{List};
+ghost use Rattle.cmd_forward.specs.Answers.{HasAnswered, IsUnbegun};
+ghost use Rattle.cmd_forward.specs.Telling.{HasNumbers, IsTold};
+ghost use Rattle.cmd_forward.specs.Words.{AreInRange, forward_of};
+
+use crate::running::{Ran, forward};
+use crate::status::Status;
+use crate::totals::write_totals;
+use crate::words::ForwardOptions;
+use ev_base::{DialRefused, Dialer, NoMemory, Sink, Source};
+use std::alloc::Global;
+use std::sync::Wait;
+
+/// What `forward_main` leaves.
+#[derive(Drop)]
+pub struct Forwarded<M, S, K> {
+    /// The number that the program ends with, that of a [`Status`].
+    pub status: u8,
+    /// The number that goes with it.
+    pub at: u64,
+    /// The net of the connection, if one was begun.
+    pub net: Option<M>,
+    /// The source that was handed in.
+    pub input: S,
+    /// The sink that was handed in.
+    pub output: K,
+}
+
+/// The command `logd forward` (C++NPv2 chapter 7, the client logging daemon): takes records from a
+/// source and sends them to a peer, over a connection that the dialler begins to the port that the
+/// words name.
+///
+/// Each record is sent in its canonical spelling. Once the source is read to its end and all is
+/// sent, the two lines `records R` and `bytes T` are written to the output; with another status
+/// than 0 nothing is, but for a front of them if a write failed. At most 2^40 bytes of the source
+/// are read, and one more to see whether it is there. Of several faults of a run the least status
+/// is answered. The source and the sink come back whatever happens.
+pub fn forward_main<R: Wait, D: Dialer, S: Source, K: Sink>(
+    rt: &R,
+    alloc: Global,
+    words: &[String],
+    dialer: &mut D,
+    input: S,
+    output: K,
+) -> Forwarded<D::Net, S, K>
+where
+    D::End: Drop,
+    ensures { HasAnswered D.End.tells D.Net.facts S.facts K.facts (map string_bytes words.now)
+        (D.faults dialer.old) (D.faults dialer.new) input output result }
+{
+    match ForwardOptions::of(alloc, words) {
+        Ok(Some(options)) => dial(rt, alloc, options, dialer, input, output),
+        Ok(None) => unbegun(Status::Usage, input, output),
+        Err(NoMemory) => unbegun(Status::NoMemory, input, output),
+    }
+}
+
+// Begins a connection as the words say, and runs over it.
+fn dial<R: Wait, D: Dialer, S: Source, K: Sink>(
+    rt: &R,
+    alloc: Global,
+    options: ForwardOptions,
+    dialer: &mut D,
+    input: S,
+    output: K,
+) -> Forwarded<D::Net, S, K>
+where
+    D::End: Drop,
+    requires { AreInRange options }
+    ensures { (words : List Text) → forward_of words ≡ Some options
+        → HasAnswered D.End.tells D.Net.facts S.facts K.facts words
+        (D.faults dialer.old) (D.faults dialer.new) input output result }
+{
+    match dialer.dial(alloc, options.port) {
+        Ok((net, end)) => tell(forward(rt, alloc, net, end, input, options.wait), output),
+        Err(DialRefused::Failed) => unbegun(Status::PeerFault, input, output),
+        Err(DialRefused::NoMemory) => unbegun(Status::NoMemory, input, output),
+    }
+}
+
+// What is left where no connection was begun.
+fn unbegun<M, S, K>(status: Status, input: S, output: K) -> Forwarded<M, S, K>
+    ensures numbers { HasNumbers status result }
+    ensures unbegun { IsUnbegun input output result }
+{
+    Forwarded {
+        status: status.code(),
+        at: status.number(),
+        net: None,
+        input,
+        output,
+    }
+}
+
+// Tells the totals of a run where all was sent.
+fn tell<M, S, K: Sink>(ran: Ran<M, S>, output: K) -> Forwarded<M, S, K>
+    ensures { IsTold K.facts ran output result }
+{
+    let Ran { status, net, input } = ran;
+    let (status, output) = match status {
+        Status::Done { records, bytes } => match write_totals(output, records, bytes) {
+            (output, true) => (status, output),
+            (output, false) => (Status::WriteFault, output),
+        },
+        _ => (status, output),
+    };
+    Forwarded {
+        status: status.code(),
+        at: status.number(),
+        net: Some(net),
+        input,
+        output,
+    }
+}
