@@ -7,4 +7,5 @@ pub mod Cancelling
 pub mod Accounting
 pub mod Ordering
 pub mod Turning
+pub mod Echoing
 pub mod Serving

@@ -38,6 +38,7 @@ use Rattle.proactor.specs.Parts.{number_of}
 use Rattle.proactor.specs.Services.{ClosesEnd, IsSameAct, ServesEnd, ServiceGone}
 use Rattle.proactor.specs.Services.{TalkFits, services, wrapped_item}
 use Rattle.proactor.specs.Services.{wrapped_items}
+use Rattle.proactor.proofs.Echoing.{writes_back}
 use Rattle.proactor.proofs.Turning.{takes_turn}
 
 -- ---- an acceptor
@@ -221,16 +222,20 @@ module _ {E : Type 0} {G : Ghosts E} (tells : E → EndFacts) (keeps : Terms →
       → (reason ≡ Own → EndsInClose had) → ClosesEnd tells keeps reason end left
       → TalkFits tells keeps t origin end had
       → ServiceGone tells keeps t origin left.0 had reason left.1
-  talk_gone t origin had reason end left own c h = inr (record {
-    told = c.told;
-    notes = c.notes;
-    offer = h.offer;
-    offered = h.offered;
-    accepted = h.accepted ∙ ap (λ (n : ℕ). note.Accepted n) (sym c.number);
-    items = h.items;
-    are = h.are;
-    gone = c.gone t h.items (λ is. closing h.items (subst EndsInClose h.are (own is))) h.fits;
-  })
+  talk_gone t origin had reason end left own c h =
+      let gone = c.gone t h.items (λ is. closing h.items (subst EndsInClose h.are (own is))) h.fits in
+      inr (record {
+        told = c.told;
+        notes = c.notes;
+        offer = h.offer;
+        offered = h.offered;
+        accepted = h.accepted ∙ ap (λ (n : ℕ). note.Accepted n) (sym c.number);
+        items = h.items;
+        are = h.are;
+        gone = gone;
+        back = writes_back gone.conn gone.first gone.turns.start h.items gone.all gone.closing gone.last
+            gone.told_so.reads gone.told_so.echoes gone.turns.course;
+      })
 
   -- one whose end was attached
   pub talk_attached : (t : Terms) (origin : Option (Origin AioNote)) (had : List (Item AioNote))

@@ -1,10 +1,12 @@
 -- The completion handler of an echo service.
-use Rattle.std.specs.Prelude.{◌≡◌, ℕ, Bool, true, false, List, [], ◌∷◌, Option, Some, None}
+use Rattle.std.specs.Prelude.{◌++◌, ◌≡◌, ℕ, Bool, true, false, List, [], ◌∷◌, Option, Some, None}
 use Rattle.std.specs.List.{AllByRecursion}
 use Rattle.proactor.specs.declared.operation.Op.{Op}
 use Rattle.proactor.specs.declared.operation.Op.TheVariants as op
 use Rattle.proactor.specs.declared.operation.Outcome.{Outcome}
 use Rattle.proactor.specs.declared.operation.Outcome.TheVariants as outcome
+use Rattle.proactor.specs.Account.{finds_over}
+use Rattle.proactor.specs.Events.{Event, given, some_of, taken}
 use Rattle.proactor.specs.Operations.{Told, listed_op}
 
 -- what an end over it begins with: a read of at most 4,096 bytes
@@ -34,3 +36,10 @@ pub record IsEcho (item : Told) : Type 0 where
 pub record FollowsEcho (first : Op) (list : List Told) : Type 0 where
   pub reads : first ≡ first_read
   pub echoes : AllByRecursion IsEcho list
+
+-- The bytes that were given to the end are a front of those that were taken from it, in order; and
+-- all of them, where a read found the end of its input.
+pub record WritesBack (all : List Event) : Type 0 where
+  pub waiting : List ℕ
+  pub back : taken all ≡ given all ++ waiting
+  pub all_back : some_of finds_over all ≡ true → waiting ≡ []

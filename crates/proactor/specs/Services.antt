@@ -22,6 +22,7 @@ use Rattle.proactor.specs.declared.service.AioNote.{AioNote}
 use Rattle.proactor.specs.declared.service.AioNote.TheVariants as note
 use Rattle.proactor.specs.Acceptors.{ListenerFits, ListenerGone, ServesListener}
 use Rattle.proactor.specs.Acceptors.{follows_echo, listener_of}
+use Rattle.proactor.specs.Echo.{WritesBack}
 use Rattle.proactor.specs.Ends.{AsynchFits, AsynchGone, MakesTurn, mask_by}
 use Rattle.proactor.specs.Parts.{end_of, number_of}
 
@@ -94,7 +95,7 @@ pub record TalkFits {E : Type 0} {G : Ghosts E} (tells : E → EndFacts)
   pub are : had ≡ wrapped_items items
   pub fits : AsynchFits tells keeps follows_echo t end items
 
--- what a connection leaves
+-- What a connection leaves: what came of its operations, and that it wrote back what it read.
 pub record TalkGone {E : Type 0} (tells : E → EndFacts) (keeps : Terms → E → Type 0) (t : Terms)
     (origin : Option (Origin AioNote)) (end : E) (had : List (Item AioNote)) (reason : Why)
     (said : AioNote) : Type 0 where
@@ -106,6 +107,7 @@ pub record TalkGone {E : Type 0} (tells : E → EndFacts) (keeps : Terms → E �
   pub items : List (Item AsynchNote)
   pub are : had ≡ wrapped_items items
   pub gone : AsynchGone tells keeps follows_echo t end items reason told
+  pub back : WritesBack gone.all
 
 abbrev pub ServiceFits : {E : Type 0} {G : Ghosts E} → (E → EndFacts) → (Terms → E → Type 0) → Terms
     → Option (Origin AioNote) → AioHandler E G → List (Item AioNote) → Type 0
