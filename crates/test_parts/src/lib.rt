@@ -3,6 +3,8 @@
 #![tactic(auto)]
 
 #[cfg(test)]
+mod ace7;
+#[cfg(test)]
 mod asserts;
 #[cfg(test)]
 mod one_connection;
