@@ -1,14 +1,16 @@
 //! `logd`, the networked logging server: the top call over standard input and output, and sockets.
 #![tactic(auto)]
 
+use ace7_input::{Ace7Host, Ace7Source};
 use cmd_line::Command;
 use demux_mio::MioHost;
-use ev_base::{NoMemory, StdSink, StdSource};
+use ev_base::{Host, NoMemory, Sink, Source, StdSink, StdSource};
 use logging_server::{Served, fault_line, logd_main};
 use program_words::{Called, HELP, Own, USAGE, VERSION, call_of};
 use reactor_model::DropVolumes;
 use std::alloc::{AllocError, Global};
-use std::net::Net;
+use std::io::Stdin;
+use std::net::{IpAddr, Net};
 use std::process::ExitCode;
 use std::sync::Wait;
 use std::thread::Threads;
@@ -33,20 +35,42 @@ fn main(rt: HostRuntime) -> ExitCode {
         Ok(called) => called,
         Err(code) => return code,
     };
-    let mut host = host_for(rt, rt.alloc(), &words);
-    host.set_address(own.address);
+    let control = if own.control { Some(rt.stdin()) } else { None };
+    let host = host_for(rt, rt.alloc(), own.address, control, &words);
     let input = StdSource::new(rt.stdin());
     let output = StdSink::new(rt.stdout());
+    let (status, at) = if own.ace7 {
+        let (host, input) = (Ace7Host::new(host), Ace7Source::new(input));
+        run(&rt, rt.alloc(), &words, host, input, output)
+    } else {
+        run(&rt, rt.alloc(), &words, host, input, output)
+    };
+    end_with(&rt, status, at)
+}
+
+/// Does what the words of a command say over this host, input and output, and tells the status and
+/// its number.
+fn run<
+    R: Clock + Threads + Wait + Copy + Send + Sync + 'static,
+    H: Host + Drop,
+    S: Source + Drop,
+    K: Sink + Send + Drop + 'static,
+>(rt: &R, alloc: Global, words: &[String], mut host: H, input: S, output: K) -> (u8, u64)
+where
+    H::End: Drop + Send,
+    H::Net: Drop + Send,
+    H::Waker: Drop + Sync,
+{
     let Served { status, at, .. } = logd_main(
-        &rt,
-        rt.alloc(),
-        &words,
+        rt,
+        alloc,
+        words,
         &mut host,
         input,
         output,
         DropVolumes,
     );
-    end_with(&rt, status, at)
+    (status, at)
 }
 
 /// The program's own options, and the words that a command sees. If the words ask for something
@@ -99,17 +123,25 @@ fn has_several_workers(alloc: Global, words: &[String]) -> bool {
     }
 }
 
-/// The host: for several workers one that closes connections by a thread of its own.
+/// The host, which listens to an address and which the end of standard input ends where it is its
+/// control: for several workers one that closes connections by a thread of its own.
 fn host_for<R: Net + Clock + Threads + Wait + Copy + Send + 'static>(
     rt: R,
     alloc: Global,
+    address: IpAddr,
+    control: Option<Stdin>,
     words: &[String],
 ) -> MioHost<R> {
-    if has_several_workers(alloc, words) {
+    let mut host = if has_several_workers(alloc, words) {
         MioHost::with_closer(rt, alloc)
     } else {
         MioHost::new(rt)
+    };
+    host.set_address(address);
+    if let Some(input) = control {
+        host.set_control(input);
     }
+    host
 }
 
 /// Says on standard error what the status means, unless it is 0, and ends with it. With wrong words
