@@ -71,12 +71,16 @@ fn lines_of_words_call_their_commands(rt: HostRuntime) -> Result<(), Fail> {
 }
 
 /// Words of the program, and what they call: help, the version, or the words that a command sees,
-/// after the address that was taken off.
-static CALLS: [(&str, &str); 8] = [
+/// after the options that were taken off.
+static CALLS: [(&str, &str); 22] = [
     ("--help", "help"),
     ("--version", "version"),
     ("--version --help", "127.0.0.1: --version --help"),
     ("one", "127.0.0.1: one"),
+    ("one --ace7", "127.0.0.1 ace7: one"),
+    ("one --control", "127.0.0.1: one --control"),
+    ("display --ace7", "127.0.0.1 ace7: display"),
+    ("replay --ace7", "127.0.0.1: replay --ace7"),
     ("serve --port 7000", "127.0.0.1: serve --port 7000"),
     ("serve --address ::1 --port 7000", "::1: serve --port 7000"),
     (
@@ -84,6 +88,37 @@ static CALLS: [(&str, &str); 8] = [
         "0.0.0.0: serve --port 7000",
     ),
     ("serve --address 1.2.3 --port 7000", "none"),
+    (
+        "serve --control --port 7000 --ace7",
+        "127.0.0.1 control ace7: serve --port 7000",
+    ),
+    ("serve --control --control", "none"),
+    (
+        "serve --control=yes --port 7000",
+        "127.0.0.1: serve --control=yes --port 7000",
+    ),
+    (
+        "serve --ace7 --address ::1 --control",
+        "::1 control ace7: serve",
+    ),
+    ("serve --address --control", "none"),
+    (
+        "forward --address ::1 --port 7000 --control",
+        "::1: forward --port 7000 --control",
+    ),
+    (
+        "aio --control --ace7 --port 7000",
+        "127.0.0.1 control: aio --ace7 --port 7000",
+    ),
+    (
+        "pool --ace7 --control --address 10.0.0.1",
+        "10.0.0.1 control ace7: pool",
+    ),
+    (
+        "gen 40 7 --address ::1",
+        "127.0.0.1: gen 40 7 --address ::1",
+    ),
+    ("--control serve", "127.0.0.1: --control serve"),
 ];
 
 #[test]
@@ -103,7 +138,9 @@ fn text_of(alloc: Global, called: &Called) -> Result<String, AllocError> {
         Called::Help => String::from_str(alloc, "help"),
         Called::Version => String::from_str(alloc, "version"),
         Called::Command { own, rest } => {
-            let mut text = format!(in alloc; "{}:", own.address)?;
+            let control = if own.control { " control" } else { "" };
+            let ace7 = if own.ace7 { " ace7" } else { "" };
+            let mut text = format!(in alloc; "{}{control}{ace7}:", own.address)?;
             for word in rest {
                 text.push(' ')?;
                 text.push_str(word)?;
