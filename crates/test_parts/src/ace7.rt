@@ -48,7 +48,7 @@ const ROWS: &[Row] = &[
     Row {
         name: "a record of version 2, and one after it",
         sent: b"\x02\0\0\0\0\0\0\x18aaaaaaaaaaaaaaaaaaaaaaaa\0\0\0\0\0\0\0\x18",
-        given: b"\x02\0\0\0\0\0\0\x18aaaaaaaaaaaaaaaaaaaaaaaa\0\0\0\0\0\0\0\x18",
+        given: b"\x02\0\0\0\0\0\0\x18aaaaaaaaaaaaaaaaaaaaaaaa\x02\0\0\0\0\0\0\x18",
     },
     Row {
         name: "big-endian and little-endian, without a message",
