@@ -5,4 +5,7 @@
 mod chains;
 mod grouping;
 
-pub use grouping::{put_by_connection, write_by_connection};
+pub use grouping::{
+    EntryLines, MadeInPlace, put_by_connection, put_given_by_connection, write_by_connection,
+    write_given_by_connection,
+};

@@ -9,3 +9,4 @@ pub mod Leaving
 pub mod Leading
 pub mod Registering
 pub mod Living
+pub mod Many

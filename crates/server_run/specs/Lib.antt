@@ -3,6 +3,7 @@ pub mod Journals
 pub mod Served
 pub mod Opening
 pub mod Finishing
+pub mod Observed
 pub use Rattle.laws_script_taken.specs.laws_script_complete
 pub use Rattle.laws_script_taken
 pub use Rattle.tp_reactor

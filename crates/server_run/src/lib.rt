@@ -10,4 +10,4 @@ mod running;
 
 pub use asked::{Asked, Ground};
 pub use ending::{Ending, Served};
-pub use running::serve;
+pub use running::{serve, serve_observed};

@@ -20,8 +20,8 @@ loop-at-preserved g c =
     c.index-entries-at.result (omega arith) few here
     (c.loop-at.invariant.2 c.index-entries-at.result here) in
     goes-on g.T.TextOut.stands c.args.conn es c.loop-at.at c.behind-at.result
-    c.index-entries-at.result c.args.out.now c.loop-at.out c.put_entry_lines.new.out here
-    c.loop-at-test.true c.loop-at.invariant c.put_entry_lines.ensures next
+    c.index-entries-at.result c.args.out.now c.loop-at.out c.put_lines.new.out here
+    c.loop-at-test.true c.loop-at.invariant c.put_lines.ensures next
 
 pub loop-at-smaller : goal.loop-at-smaller
 loop-at-smaller g c =

@@ -1,6 +1,4 @@
-use Rattle.std.proofs.Common.{[], ◌∷◌}
-use Rattle.server_run.specs.Journals.{first_entry}
 use Rattle.server_run.proofs.running.share.Given as goal
 
-abbrev pub ghost-new : goal.ghost-new
-ghost-new g a = (g.terms, first_entry ∷ [])
+abbrev pub ghost-share_observed : goal.ghost-share_observed
+ghost-share_observed g a = g.terms

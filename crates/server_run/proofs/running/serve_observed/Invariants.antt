@@ -1,0 +1,4 @@
+use Rattle.server_run.proofs.running.serve_observed.Given as goal
+
+abbrev pub ghost-share_observed : goal.ghost-share_observed
+ghost-share_observed g a = g.terms
