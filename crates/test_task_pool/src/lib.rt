@@ -1,5 +1,7 @@
-//! Rows of the pool of a half-synchronous server: its queue by itself.
+//! Rows of the pool of a half-synchronous server: its queue by itself, and writers on threads.
 #![tactic(auto)]
 
+#[cfg(test)]
+mod meeting;
 #[cfg(test)]
 mod queue;

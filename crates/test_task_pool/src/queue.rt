@@ -10,7 +10,7 @@ use std::test::Fail;
 use task_server::{Found, Full, Item, Left, PLACES, Pool, Putter};
 
 // The item of a record of a connection: the first of so many events.
-fn item(alloc: Global, event: u64) -> Result<Item, Fail> {
+pub(crate) fn item(alloc: Global, event: u64) -> Result<Item, Fail> {
     let mut text = Vec::new(alloc);
     text.extend_from_slice(b"hi")?;
     Ok(Item {

@@ -1,0 +1,4 @@
+pub mod Parsed
+pub mod PutItems
+pub mod Begins
+pub mod Leaves

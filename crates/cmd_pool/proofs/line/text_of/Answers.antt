@@ -1,0 +1,6 @@
+use Rattle.std.proofs.Common.{[]}
+use Rattle.cmd_pool.proofs.line.text_of.Goals as goal
+
+pub returns : goal.returns
+returns c = rw (← c.borrowed.ensures) (c.into_bytes.ensures.text _ _
+    (c.put_borrowed_line.ensures _ [] c.new-text.ensures))

@@ -1,0 +1,10 @@
+use Rattle.std.proofs.Common.{map}
+use Rattle.cdr_record.specs.Borrowed.{owned}
+use Rattle.log_lines.specs.Texts.{record_lines}
+use Rattle.sink_buffer.specs.Texts.{Puts}
+use Rattle.cmd_pool.proofs.made.MadeLines.put_records.Given as goal
+
+-- the lines of the records so far
+abbrev pub invariant-loop-entry : goal.invariant-loop-entry
+invariant-loop-entry g l = Puts g.T.TextOut.stands l.fn.out
+    (record_lines l.conn (map owned l.yielded)) l.out

@@ -1,0 +1,9 @@
+pub mod Words
+pub mod PutItems
+pub mod Starting
+pub mod Leaving
+pub mod Statuses
+pub use Rattle.cmd_line
+pub use Rattle.task_server
+pub use Rattle.grouped_lines
+pub use Rattle.server_run
