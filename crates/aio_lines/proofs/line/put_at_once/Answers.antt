@@ -1,0 +1,7 @@
+use Rattle.std.proofs.Common.{[]}
+use Rattle.aio_lines.proofs.line.put_at_once.Goals as goal
+
+pub returns-in-Some : goal.returns-in-Some
+returns-in-Some g c = λ since text h.
+    rw (← c.in-Some.ensures [] _ (c.put_connection_line.ensures [] [] c.new-line.ensures))
+    (c.put.ensures since text h)
