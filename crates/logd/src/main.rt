@@ -4,6 +4,7 @@
 use ace7_input::{Ace7Host, Ace7Source};
 use cmd_forward::{Forwarded, forward_main};
 use cmd_line::Command;
+use cmd_pool::{Pooled, pool_main, read_words};
 use demux_mio::{MioDialer, MioHost};
 use ev_base::{Host, NoMemory, Sink, Source, StdSink, StdSource};
 use logging_server::{Served, fault_line, logd_main};
@@ -82,16 +83,24 @@ where
     H::Net: Drop + Send,
     H::Waker: Drop + Sync,
 {
-    let Served { status, at, .. } = logd_main(
-        rt,
-        alloc,
-        words,
-        &mut host,
-        input,
-        output,
-        DropVolumes,
-    );
-    (status, at)
+    match words.first().map(String::as_str) {
+        Some("pool") => {
+            let Pooled { status, .. } = pool_main(rt, alloc, words, &mut host, output);
+            (status, 0)
+        }
+        _ => {
+            let Served { status, at, .. } = logd_main(
+                rt,
+                alloc,
+                words,
+                &mut host,
+                input,
+                output,
+                DropVolumes,
+            );
+            (status, at)
+        }
+    }
 }
 
 /// The program's own options, and the words that a command sees. If the words ask for something
@@ -140,7 +149,10 @@ fn given_words(rt: &HostRuntime) -> Result<Vec<String>, u8> {
 fn has_several_workers(alloc: Global, words: &[String]) -> bool {
     match Command::of(alloc, words) {
         Ok(Some(Command::Serve { options, .. })) => options.workers > 1,
-        _ => false,
+        _ => match read_words(alloc, words) {
+            Ok(Some(options)) => options.workers > 1,
+            _ => false,
+        },
     }
 }
 
