@@ -241,7 +241,7 @@ adds_reads s es t tried = by s.standing.reads refl tried
         (λ some. some) (λ q. cc) (or-false s.facts.over) refl)))
         c
 
--- the first write completed, behind these bytes
+-- the first write completed, after these bytes
 adds_write : (s : State) (facts : EndFacts) (write : Writing) (rest : List Writing)
     (came : Outcome) (reply : Reply) → write ∷ rest ≡ s.standing.writes
     → facts.bytes ≡ s.facts.bytes → facts.gave ≡ s.facts.gave

@@ -73,7 +73,7 @@ in_order_from first all s h w = record {
   front = take_self s.standing.sent (first_bytes s.standing.writes);
 }
 
--- more writes behind the first change nothing of it
+-- more writes after the first change nothing of it
 front_more : (ws more : List Writing) (sent : ℕ) → sent ≤ length (first_bytes ws)
     → take sent (first_bytes (ws ++ more)) ≡ take sent (first_bytes ws)
 front_more [] more sent within =
@@ -87,7 +87,7 @@ within_more : (ws more : List Writing) (sent : ℕ) → sent ≤ length (first_b
 within_more [] more sent within = omega (arith, within)
 within_more (w ∷ ws) more sent within = within
 
--- a part of a turn that completed no write and gave no bytes, behind which more writes stand
+-- a part of a turn that completed no write and gave no bytes, after which more writes stand
 record Stays (s : State) (es : List Event) (t : State) : Type 0 where
   none_written : written es ≡ []
   none_completed : completed_writes es ≡ []

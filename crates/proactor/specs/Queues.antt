@@ -1,4 +1,4 @@
--- Operations that stand, one behind another.
+-- Operations that stand, one after another.
 use Rattle.std.specs.Prelude.{◌≡◌, Bool, true, false, List, [], ◌∷◌, length, Option, Some, None}
 
 -- the first, which has a place of its own, and the others

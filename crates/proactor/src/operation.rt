@@ -84,7 +84,7 @@ pub struct Ops {
 /// What a completion handler asks for next.
 #[derive(Debug, Drop)]
 pub struct Next {
-    /// Operations, which are queued behind those that stand.
+    /// Operations, which are queued after those that stand.
     pub ops: Ops,
     /// Whether the connection is to be closed.
     pub done: bool,

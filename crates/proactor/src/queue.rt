@@ -1,4 +1,4 @@
-//! Operations of one direction, one behind another.
+//! Operations of one direction, one after another.
 ghost use Rattle.std.specs.Prelude.{◌≡◌, ◌≤◌, ◌++◌, ◌∷◌, [], OnOk, OnErr, MatchOption, length, Some};
 ghost use Rattle.proactor.specs.Queues.{first_of, none_stand};
 
@@ -61,7 +61,7 @@ impl<T: Drop> Queue<T> {
         self.front.as_ref()
     }
 
-    /// Puts one behind the others. After `NoMemory` it is as before.
+    /// Puts one after the others. After `NoMemory` it is as before.
     pub(crate) fn push(&mut self, op: T) -> Result<(), NoMemory>
         ensures ok { OnOk result (self.new ≡ self.old ++ op ∷ []) }
         ensures err { OnErr result (self.new ≡ self.old) }

@@ -1,4 +1,4 @@
-//! What the words behind `aio` say.
+//! What the words after `aio` say.
 use aio_words::{AioWords, aio_words};
 use std::alloc::Global;
 use std::process::Abort;
