@@ -68,13 +68,13 @@ pub fn fill_queue<R: Net<Listener = TcpListener, Stream = TcpStream>>(
     port: u16,
 ) -> io::Result<Vec<TcpStream>> {
     let mut held = Vec::new(alloc);
-    let mut refused = 0;
+    let mut refused = 0u32;
     for _ in 0..TRIES {
         match TcpStream::connect_timeout(rt, &address(port), Duration::from_millis(100)) {
             Ok(stream) => held.push(stream)?,
-            Err(_) => refused += 1,
+            Err(_) => refused = refused.saturating_add(1),
         }
-        if refused == 2 {
+        if refused >= 2 {
             break;
         }
     }
