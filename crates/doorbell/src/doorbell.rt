@@ -2,20 +2,27 @@
 
 use std::hint::spin_loop;
 use std::sync::Wait;
-use std::sync::atomic::{AtomicBool, AtomicU64, Ordering};
+use std::sync::atomic::{AtomicU64, Ordering};
+
+/// In the place of a count: the thread does not sleep.
+const AWAKE: u64 = u64::MAX;
 
 /// A count of changes, which one thread watches. It looks some times, and then sleeps until it is
 /// woken. A change costs no call of the system while the thread is awake.
 ///
 /// The thread reads `count`, looks whether there is something for it, and calls `rest` with that
-/// count where there is not. The others make their change, call `ring`, and call `wake` where the
-/// thread is to go on. It says that it sleeps before it looks at the count for the last time, and
-/// the count has risen before `wake` looks whether it sleeps: so it does not sleep on. No contract
-/// speaks of it.
+/// count if there is not. The others make their change, call `ring`, and call `wake` if the thread
+/// is to go on. No contract speaks of it. That no change is slept through:
+///
+/// - The thread says at which count it sleeps, and the system lets it sleep only at that count.
+/// - A `wake` after a change finds either a thread that is awake and has not looked at the count for
+///   the last time, or one that sleeps at an earlier count, and wakes that one.
+/// - A `wake` that comes late, for a change that the thread has seen before it fell asleep, finds the
+///   count at which the thread sleeps, and leaves it as it is: the next change still finds it asleep.
 #[derive(Drop)]
 pub struct Doorbell {
     count: AtomicU64,
-    asleep: AtomicBool,
+    sleeps_at: AtomicU64,
 }
 
 impl Doorbell {
@@ -23,7 +30,7 @@ impl Doorbell {
     pub fn new() -> Doorbell {
         Doorbell {
             count: AtomicU64::new(0),
-            asleep: AtomicBool::new(false),
+            sleeps_at: AtomicU64::new(AWAKE),
         }
     }
 
@@ -37,16 +44,25 @@ impl Doorbell {
         self.count.fetch_add(1, Ordering::SeqCst);
     }
 
-    /// Wakes the thread where it sleeps.
+    /// Wakes the thread if it sleeps, and something changed since it looked.
     pub fn wake(&self) {
-        if self.is_asleep() && self.asleep.swap(false, Ordering::SeqCst) {
+        let at = self.sleeps_at.load(Ordering::SeqCst);
+        if at != AWAKE && at != self.count() && self.takes_up(at) {
             self.count.wake_one();
         }
     }
 
+    // Whether it is this caller that wakes a thread which sleeps at this count.
+    fn takes_up(&self, at: u64) -> bool {
+        let found = self
+            .sleeps_at
+            .compare_exchange(at, AWAKE, Ordering::SeqCst, Ordering::SeqCst);
+        found.is_ok()
+    }
+
     /// Whether the thread sleeps, and nobody has woken it.
     pub fn is_asleep(&self) -> bool {
-        self.asleep.load(Ordering::SeqCst)
+        self.sleeps_at.load(Ordering::SeqCst) != AWAKE
     }
 
     /// Waits until something changed since the count was this: looks so many times, and then
@@ -58,8 +74,8 @@ impl Doorbell {
             }
             spin_loop();
         }
-        self.asleep.store(true, Ordering::SeqCst);
+        self.sleeps_at.store(count, Ordering::SeqCst);
         self.count.park(rt, (count % (1 << 32)) as u32);
-        self.asleep.store(false, Ordering::SeqCst);
+        self.sleeps_at.store(AWAKE, Ordering::SeqCst);
     }
 }
