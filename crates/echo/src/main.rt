@@ -3,6 +3,7 @@
 
 use demux_mio::MioHost;
 use echo_server::{finish, open, run_pool};
+use help_words::{Asks, asked_of};
 use reactor::Host;
 use std::alloc::{AllocError, Global};
 use std::env;
@@ -19,24 +20,45 @@ const IDLE: u64 = 60_000;
 const WORKERS: usize = 4;
 
 /// The status of words that are no port.
-const USAGE: u8 = 1;
+const WRONG_WORDS: u8 = 1;
 
 /// The status of a server that did not start, or that ended.
 const ENDED: u8 = 2;
 
+/// Which program it is, with its version and the kit that it is proved with.
+const VERSION: &str = "echo 0.1.0, rattle-kit-13f";
+
+/// How the program is called, and what it does.
+const HELP: &str = "\
+echo: a server on 127.0.0.1 that sends each connection back what it sends
+
+usage: echo PORT
+       echo --help | --version";
+
 fn main(rt: HostRuntime) -> ExitCode {
-    let Some(port) = port(&rt) else {
-        return fail(&rt, "usage: echo PORT", USAGE);
+    let Some(words) = given_words(&rt) else {
+        return fail(&rt, "echo: out of memory", ENDED);
     };
-    let why = serve(rt, rt.alloc(), port);
-    fail(&rt, why, ENDED)
+    match asked_of(&words) {
+        Some(Asks::Help) => tell(&rt, HELP),
+        Some(Asks::Version) => tell(&rt, VERSION),
+        None => match port_of(&words) {
+            Some(port) => fail(&rt, serve(rt, rt.alloc(), port), ENDED),
+            None => fail(&rt, "echo: usage\nusage: echo PORT", WRONG_WORDS),
+        },
+    }
 }
 
-/// The port that the one word behind the program's name says.
-fn port(rt: &HostRuntime) -> Option<u16> {
+/// The words after the program's name.
+fn given_words(rt: &HostRuntime) -> Option<Vec<String>> {
     let args = env::args(rt).ok()?;
     let words: Result<Vec<String>, AllocError> = args.skip(1).collect(rt.alloc());
-    match words.ok()?.as_slice() {
+    words.ok()
+}
+
+/// The port that the one word says.
+fn port_of(words: &[String]) -> Option<u16> {
+    match words {
         [word] => word.parse::<u16>().ok(),
         _ => None,
     }
@@ -58,6 +80,14 @@ fn serve<R: Net + Clock + Threads + Wait + Copy + Send + Sync + 'static>(
     let (_ran, core) = run_pool(&rt, alloc, core, waker, WORKERS);
     finish(core);
     "echo: the server ended"
+}
+
+/// Writes a text to standard output, and ends with 0, or with 2 if the write failed.
+fn tell(rt: &HostRuntime, text: &str) -> ExitCode {
+    match println!(rt; "{text}") {
+        Ok(()) => ExitCode::from(0),
+        Err(_) => fail(rt, "echo: write failed", ENDED),
+    }
 }
 
 /// Says why on standard error, and ends with this status.
