@@ -330,9 +330,9 @@ module _ {H M Q W V K E : Type 0} (m : Meaning H M Q W V AioNote E) (tells : E �
       → (until : Option ℕ) → LeavesServed m tells sink o until ran
   leaves_refused end.NetFault before none f rose until =
       leaves m tells sink o until 0 [] core end.NetFault ran f refl (inl refl)
-      (inr (subst (Rose 0) (sym f.attaches) (rose_from before _ none rose), refl)) tt
+      (λ q. q, inr (subst (Rose 0) (sym f.attaches) (rose_from before _ none rose), refl)) tt
   leaves_refused end.NoMemory before none f rose until =
-      leaves m tells sink o until 0 [] core end.NoMemory ran f refl (inl refl) tt tt
+      leaves m tells sink o until 0 [] core end.NoMemory ran f refl (inl refl) (λ q. q) tt
   leaves_refused end.Done before none f rose until = absurd rose
   leaves_refused end.WriteFault before none f rose until = absurd rose
   leaves_refused end.ListenFault before none f rose until = absurd rose
@@ -420,11 +420,12 @@ module _ {H M Q W V E : Type 0} (m : Meaning H M Q W V AioNote E) (o : SinkFacts
         over = subst (λ (n : ℕ). WhereTold (λ calls. IsOverAt n (answers calls)) net.calls)
             e.over_so (marked (subst (λ (n : ℕ). 1 ≤ n) (sym e.over_so)
             (some_waited h e.between e.entries e.wait e.is)));
+        few = e.below;
       })
   why_so loop.Broken net may legal idle e ends none same marked = tt
   why_so loop.NetFault net may legal idle e ends none same marked =
-      inl (subst (Rose 0) (sym same) (rose_from waits _ none ends))
-  why_so loop.NoMemory net may legal idle e ends none same marked = tt
+      (e, inl (subst (Rose 0) (sym same) (rose_from waits _ none ends)))
+  why_so loop.NoMemory net may legal idle e ends none same marked = e
   why_so loop.Stopped net may legal idle e ends none same marked = absurd may
   why_so loop.VolumeFault net may legal idle e ends none same marked = absurd may
 

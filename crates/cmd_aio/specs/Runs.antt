@@ -45,9 +45,10 @@ GoesByTurns means t run = (run ≡ []) ⊎ ((steps : List (List (Entry AioNote))
     × Reaches means t (first_entry ∷ []) steps run)
 
 -- Its last step was a wait, after which there is no upcall to make and none is on its way. If the
--- net tells its calls, that wait was answered Over.
-pub record EndsAtOver {H E : Type 0} (means : Handling H E AioNote) (t : Terms)
-    (net : NetFacts E) (run : List (Entry AioNote)) : Type 0 where
+-- net tells its calls, that wait was answered Over. Fewer handlers were closed or refused than were
+-- asked for.
+pub record EndsAtOver {E : Type 0} (until : Option ℕ) (net : NetFacts E)
+    (run : List (Entry AioNote)) : Type 0 where
   pub before : List (Entry AioNote)
   pub entries : List (Entry AioNote)
   pub wait : IsWait entries
@@ -55,6 +56,7 @@ pub record EndsAtOver {H E : Type 0} (means : Handling H E AioNote) (t : Terms)
   pub none : HasNoPick (past_of run)
   pub idle : NoneOpen run
   pub over : WhereTold (λ calls. IsOverAt (count is_polled (past_of run)) (answers calls)) net.calls
+  pub few : StaysBelow until (first_entry ∷ []) run
 
 -- Its last step was a turn, and then as many handlers were closed or refused as were asked for, and
 -- not before it. The entries of that turn are held.
@@ -71,15 +73,16 @@ pub record EndsByCount {H E : Type 0} (means : Handling H E AioNote) (t : Terms)
   pub enough : wanted ≤ count is_closed (past_of run) + count is_refused (past_of run)
 
 -- Why it ended. With a net fault a wait of the net failed; or its attach of the listener did, and
--- then nothing was done. A failed write is told of the output.
+-- then nothing was done. Before it, as before want of memory, fewer handlers were closed or refused
+-- than were asked for. A failed write is told of the output.
 abbrev pub EndsSo : {H E : Type 0} → Handling H E AioNote → Terms → Option ℕ → NetFacts E → ℕ
     → AioEnd → List (Entry AioNote) → Type 0
 EndsSo means t until net first end.Done run =
-    EndsAtOver means t net run ⊎ EndsByCount means t until first run
-EndsSo means t until net first end.NetFault run =
-    Rose 0 net.failed_waits ⊎ (Rose 0 net.failed_attaches × (run ≡ []))
+    EndsAtOver until net run ⊎ EndsByCount means t until first run
+EndsSo means t until net first end.NetFault run = StaysBelow until (first_entry ∷ []) run
+    × (Rose 0 net.failed_waits ⊎ (Rose 0 net.failed_attaches × (run ≡ [])))
 EndsSo means t until net first end.WriteFault run = Unit {0}
-EndsSo means t until net first end.NoMemory run = Unit {0}
+EndsSo means t until net first end.NoMemory run = StaysBelow until (first_entry ∷ []) run
 EndsSo means t until net first end.ListenFault run = ⊥
 
 -- the journal of a run that ended so, of which the first entries were let go, so many
