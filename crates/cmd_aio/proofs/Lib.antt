@@ -1,0 +1,5 @@
+pub mod Lines
+pub mod Events
+pub mod Connections
+pub mod Unstopped
+pub mod Runs

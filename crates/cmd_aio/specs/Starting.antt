@@ -1,0 +1,50 @@
+-- On which terms a run of the command begins, and how.
+use Rattle.std.specs.Prelude.{[], ◌∷◌, false, Some, None}
+use Rattle.ev_base.specs.Sink.{SinkFacts}
+use Rattle.ev_base.specs.Terms.{Terms, open_terms}
+use Rattle.ev_base.specs.declared.end.PeerEnd.{Ghosts}
+use Rattle.reactor_model.specs.reactor_journal.specs.declared.entry.Entry.{Entry}
+use Rattle.reactor_model.specs.reactor_journal.specs.declared.entry.Entry.TheVariants.{Opened}
+use Rattle.reactor_core.specs.Stands.{Meaning, Stands}
+use Rattle.reactor_core.specs.declared.reactor.Core.{Core}
+use Rattle.reactor_core.specs.declared.registering.RegisterRefused.{RegisterRefused}
+use Rattle.reactor_core.specs.declared.registering.RegisterRefused.TheVariants as register
+use Rattle.proactor.specs.Ends.{mask_by}
+use Rattle.proactor.specs.declared.acceptor.AsynchAcceptor.{AsynchAcceptor}
+use Rattle.proactor.specs.declared.service.AioHandler.{AioHandler}
+use Rattle.proactor.specs.declared.service.AioHandler.TheVariants.{Listen}
+use Rattle.proactor.specs.declared.service.AioNote.{AioNote}
+use Rattle.cmd_aio.specs.declared.ending.AioEnd.{AioEnd}
+use Rattle.cmd_aio.specs.declared.ending.AioEnd.TheVariants as end
+
+-- The terms of a run whose output tells these facts at the start: 1,000 connections and the acceptor
+-- may be live. They leave open what the host lays down, and set no limit to a wait.
+abbrev pub aio_terms : SinkFacts → Terms
+aio_terms o = record (open_terms 1001) { opening = o.text; output_faults = Some o.faults }
+
+-- the registration of the acceptor, with reports to read and no others
+abbrev pub first_entry : Entry AioNote
+first_entry = Opened (record { 0 = 0 }) (mask_by false)
+
+-- a reactor stands for nothing yet, and may take the acceptor
+pub record MayRegister {M Q W V E : Type 0} {G : Ghosts E}
+    (m : Meaning (AioHandler E G) M Q W V AioNote E) (o : SinkFacts)
+    (core : Core (AioHandler E G) M Q W V AioNote E) (acceptor : AsynchAcceptor E G) : Type 0 where
+  pub stands : Stands m (aio_terms o) core 0 []
+  pub fits : m.means.fits (aio_terms o) None (Listen acceptor) []
+
+-- it has the acceptor as its one handler, and did nothing yet
+abbrev pub IsOpened : {H M Q W V E : Type 0} → Meaning H M Q W V AioNote E → SinkFacts
+    → Core H M Q W V AioNote E → Type 0
+IsOpened m o core = Stands m (aio_terms o) core 0 (first_entry ∷ [])
+
+-- a reactor that has no handler and was not stopped refuses one for these reasons alone
+abbrev pub MayRefuse : RegisterRefused → Type 0
+MayRefuse register.NetFailed = Unit {0}
+MayRefuse register.NoMemory = Unit {0}
+MayRefuse register.Stopped = ⊥
+MayRefuse (register.Full live opened) = ⊥
+
+abbrev pub refusal_of : RegisterRefused → AioEnd
+refusal_of register.NetFailed = end.NetFault
+refusal_of _ = end.NoMemory
