@@ -1,5 +1,6 @@
 -- The spelling of a record, word by word.
-use Rattle.std.proofs.Common.{◌≡◌, ◌+◌, ◌∙◌, ℕ, List, [], ◌∷◌, ◌++◌, length, append_assoc, append-nil}
+use Rattle.std.proofs.Common.{◌≡◌, ◌+◌, ◌∙◌, ℕ, List, [], ◌∷◌, ◌++◌, length, append_assoc}
+use Rattle.std.proofs.Common.{append-nil}
 use Rattle.std.proofs.Common.{take, arith}
 use Rattle.std.proofs.lemmas.List.{take-append-le, take_all}
 use Rattle.std.specs.Prelude.{Err, Ok, OnErr, Result}
@@ -36,7 +37,8 @@ all_in_parts : (o a b c d s e f t : List ℕ)
 all_in_parts o a b c d s e f t = simp (append_assoc, append-nil)
 
 -- four words, the seconds, two words and the message
-pub version_2 : (r : LogRecord) (kind pid sec usec : ℕ) (old head seconds behind fields all : List ℕ)
+pub version_2 : (r : LogRecord) (kind pid sec usec : ℕ)
+    (old head seconds behind fields all : List ℕ)
     → kind ≡ cast_unsigned w32 r.kind → pid ≡ cast_unsigned w32 r.pid
     → sec ≡ cast_unsigned w64 r.sec → usec ≡ cast_unsigned w32 r.usec
     → head ≡ old ++ flat_map (big_bytes 4) (33554432 ∷ (24 + length r.text) ∷ kind ∷ pid ∷ [])

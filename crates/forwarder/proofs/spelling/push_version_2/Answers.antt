@@ -24,7 +24,8 @@ returns-clause-ok c =
     c.in_ok-push_words.ensures.ok c.write_u64.ensures c.in_ok-extend_from_slice.ensures.items
     c.in_ok-push_words-2.ensures.ok c.in_ok-extend_from_slice-2.ensures.items
 
-pub returns-in_err-extend_from_slice-2-clause-err : goal.returns-in_err-extend_from_slice-2-clause-err
+pub returns-in_err-extend_from_slice-2-clause-err :
+    goal.returns-in_err-extend_from_slice-2-clause-err
 returns-in_err-extend_from_slice-2-clause-err c = on_err _ _
     (stands_first _ _ _ _ _ _ _ _ c.in_ok-push_words.ensures.ok
     c.in_ok-extend_from_slice.ensures.items c.in_ok-push_words-2.ensures.ok
