@@ -232,7 +232,8 @@ module _ {E S : Type 0} {G : Ghosts E} (tells : E → EndFacts) (keeps : Terms �
       )
 
   waited : HasAsked left.now → HasWaited (tells (peer_of end))
-  waited (inl none) = inl (count_none left.dialled.finishes none.0, left.dialled.last_finish ∙ none.1)
+  waited (inl none) =
+      inl (count_none left.dialled.finishes none.0, left.dialled.last_finish ∙ none.1)
     where
       count_none : {count many : ℕ} → Counts count many → many ≡ 0 → count ≡ 0
       count_none is none = omega (arith, is, none)

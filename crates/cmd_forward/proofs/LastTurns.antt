@@ -27,11 +27,13 @@ use Rattle.reactor_core.specs.reactor_summary.specs.Tells.{Each, Tells, listed}
 use Rattle.reactor_core.specs.reactor_summary.specs.declared.parts.OpenEvent.{OpenEvent}
 use Rattle.reactor_core.specs.reactor_summary.specs.declared.parts.WaitingEvent.{WaitingEvent}
 use Rattle.reactor_core.specs.reactor_summary.proofs.Found.{waiting_found}
-use Rattle.reactor_core.specs.reactor_summary.proofs.Lists.{any_filter-from, any_listed-from, any_listed-some}
+use Rattle.reactor_core.specs.reactor_summary.proofs.Lists.{any_filter-from, any_listed-from}
+use Rattle.reactor_core.specs.reactor_summary.proofs.Lists.{any_listed-some}
 use Rattle.reactor_core.specs.reactor_summary.proofs.Lists.{each_find, some_is}
 use Rattle.reactor_core.specs.reactor_summary.proofs.Opened.{open_opened}
 use Rattle.reactor_core.specs.reactor_summary.proofs.Picks.{able_from}
-use Rattle.reactor_core.specs.reactor_summary.proofs.Reading.{alive_is, open_some, resumed_is, waiting_some}
+use Rattle.reactor_core.specs.reactor_summary.proofs.Reading.{alive_is, open_some, resumed_is}
+use Rattle.reactor_core.specs.reactor_summary.proofs.Reading.{waiting_some}
 use Rattle.reactor_core.specs.reactor_summary.proofs.Told.{told}
 use Rattle.reactor_core.proofs.Dispatch.{had_other, had_returned}
 use Rattle.cmd_forward.proofs.Timeouts.{may_fit}
@@ -254,7 +256,8 @@ module _ {N : Type 0} (most : ℕ) (past : List (Entry N)) (event : ℕ) (note :
   waits_again Close q mine lives = absurd (false≢true q)
   waits_again Again q mine lives =
       let zero_ : st.o.handle.0 ≡ 0 =
-      eqb-true st.o.handle.0 0 (and_parts (st.o.handle.0 == 0) (not (is_timeout st.o.upcall)) mine).0
+      eqb-true st.o.handle.0 0
+      (and_parts (st.o.handle.0 == 0) (not (is_timeout st.o.upcall)) mine).0
       in
       let b = belongs st.o refl in
       let opened : P.was_opened past 0 ≡ true =

@@ -1,5 +1,6 @@
 -- What a run took of its input, and that what its end was given is a front of what is forwarded.
-use Rattle.std.proofs.Common.{ℕ, ◌≡◌, ◌≢◌, ◌^◌, false, List, [], ◌∷◌, ◌++◌, length, map, Option, Some}
+use Rattle.std.proofs.Common.{ℕ, ◌≡◌, ◌≢◌, ◌^◌, false, List, [], ◌∷◌, ◌++◌, length, map, Option}
+use Rattle.std.proofs.Common.{Some}
 use Rattle.std.proofs.Common.{None, refl, sym, ap, subst, ◌∙◌, arith, length-append}
 use Rattle.std.specs.Option.{option_to_list}
 use Rattle.std.specs.Prelude.{option_and_then, slice_get}
@@ -129,7 +130,8 @@ module _ {E S : Type 0} {G : Ghosts E} (tells : E → EndFacts) (keeps : Terms �
       (had : List (Item ForwardNote)). HasServed tells source service end had) (terms_of i) end
       turns why said
 
-  abbrev pub has_run : (end : ForwardEnd E S G) (turns : List (Item (ConnectNote ForwardNote))) (why : Why)
+  abbrev pub has_run : (end : ForwardEnd E S G) (turns : List (Item (ConnectNote ForwardNote)))
+      (why : Why)
       (said : ConnectNote ForwardNote) (n : NetFacts E) → Left end turns why said
       → TookBack (peer_of end) n
       → HasRun tells most_input i (source (input_of (input_end end))) n

@@ -1,6 +1,7 @@
 -- What a run leaves, by how it ended.
 use Rattle.std.proofs.Common.{ℕ, suc, ◌≡◌, ◌≤◌, ◌==◌, ◌&&◌, ◌||◌, inl, inr, arith, Bool, true}
-use Rattle.std.proofs.Common.{false, not, List, [], ◌∷◌, ◌++◌, map, Option, Some, None, refl, sym, ap}
+use Rattle.std.proofs.Common.{false, not, List, [], ◌∷◌, ◌++◌, map, Option, Some, None, refl}
+use Rattle.std.proofs.Common.{sym, ap}
 use Rattle.std.proofs.Common.{subst, ◌∙◌, cond}
 use Rattle.std.proofs.lemmas.Bool.{and_from, and_parts, false≢true, not-true}
 use Rattle.std.proofs.lemmas.List.{append_assoc}
@@ -26,7 +27,8 @@ use Rattle.reactor_model.specs.reactor_journal.specs.declared.entry.Entry.TheVar
 use Rattle.reactor_model.specs.reactor_journal.specs.Past.{count, had, past_of}
 use Rattle.reactor_model.specs.reactor_journal.specs.Past as P
 use Rattle.reactor_model.specs.reactor_journal.specs.Follow.{Legal, is_legal}
-use Rattle.reactor_model.specs.reactor_journal.proofs.Turning.{Legal-front, count-append, count-past}
+use Rattle.reactor_model.specs.reactor_journal.proofs.Turning.{Legal-front, count-append}
+use Rattle.reactor_model.specs.reactor_journal.proofs.Turning.{count-past}
 use Rattle.reactor_model.specs.reactor_journal.proofs.Turning.{past_of-append, past_of-more}
 use Rattle.reactor_core.specs.Calls.{AreCalls}
 use Rattle.reactor_core.specs.Ends.{WhereTold}

@@ -18,7 +18,8 @@ use Rattle.reactor_model.specs.reactor_journal.specs.Past.{past_of, upcall_of, n
 use Rattle.reactor_model.specs.reactor_journal.specs.Past as P
 use Rattle.reactor_model.specs.reactor_journal.specs.Follow as F
 use Rattle.reactor_model.specs.reactor_journal.specs.Follow.{Legal, is_legal}
-use Rattle.reactor_model.specs.reactor_journal.proofs.Turning.{past_of-more, Legal-front, Legal-last}
+use Rattle.reactor_model.specs.reactor_journal.proofs.Turning.{past_of-more, Legal-front}
+use Rattle.reactor_model.specs.reactor_journal.proofs.Turning.{Legal-last}
 use Rattle.reactor_core.specs.reactor_summary.specs.Summary as S
 use Rattle.reactor_core.specs.reactor_summary.specs.Summary.{Summary, summary, step}
 use Rattle.reactor_core.specs.reactor_summary.specs.Rules as R
@@ -152,7 +153,8 @@ module _ (wait : ℕ) (s : Summary) (k : ComesLate wait s) where
       }) s.armed))
       go true = k.armed
       go false = each_with_timer wait _ s.armed
-          (later_deadline wait due.deadline (((s.moment - due.deadline) / due.every + 1) * due.every)
+          (later_deadline wait due.deadline
+          (((s.moment - due.deadline) / due.every + 1) * due.every)
           from) k.armed
 
   started : (o : Option WaitingEvent) (event : ℕ) → S.waiting_event s event ≡ o
@@ -213,7 +215,8 @@ late_step wait most d r s (entry.Due timer) kind fits k = record {
 }
 late_step wait most d r s (entry.Ready handle kind) is fits k = record {
   armed = k.armed;
-  waiting = each_append (WaitsFrom wait s.moment) s.waiting _ k.waiting (ready wait s k handle kind);
+  waiting = each_append (WaitsFrom wait s.moment) s.waiting _ k.waiting
+      (ready wait s k handle kind);
   opens = k.opens;
 }
 late_step wait most d r s (entry.Started event) kind fits k =
@@ -243,7 +246,8 @@ late_step wait most d r s _ kind fits k = absurd (false≢true kind)
 
 -- ---- a history
 
-pub may_fit : {N : Type 0} (most : ℕ) (past : List (Entry N)) (e : Entry N) → is_legal most past ≡ true
+pub may_fit : {N : Type 0} (most : ℕ) (past : List (Entry N)) (e : Entry N)
+    → is_legal most past ≡ true
     → F.may_follow most past e ≡ true
     → R.fits most (F.follows_due past) (F.follows_ready past) (summary past) e ≡ true
 may_fit most past e legal may = (and_parts _ _

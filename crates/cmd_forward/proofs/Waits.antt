@@ -248,13 +248,15 @@ module _ {H E N : Type 0} (means : Handling H E N) (t : Terms) (wait most : ℕ)
       one_more false n a c le = le
 
       by_entry : (e : Entry N) → is_served e ≡ true → list_all is_served es ≡ true
-          → is_legal most (es ++ base wait) ≡ true → P.was_removed (es ++ base wait) 0 ≡ false → Earlier (es ++ base wait)
+          → is_legal most (es ++ base wait) ≡ true → P.was_removed (es ++ base wait) 0 ≡ false
+          → Earlier (es ++ base wait)
           → (calls : List Call) → AreCalls means t (e ∷ (es ++ base wait)) taken calls
           → reports_in calls ≤ count readies (e ∷ (es ++ base wait)) + count tells_write taken
       by_entry (entry.Polled moment) is kinds legal lives earlier calls are =
           by_wait es taken moment kinds legal lives earlier calls are
       by_entry (entry.Ready handle kind) is kinds legal lives earlier calls are =
-          one_more (handle.0 == 0 && is_write kind) (reports_in calls) (count readies (es ++ base wait))
+          one_more (handle.0 == 0 && is_write kind) (reports_in calls)
+          (count readies (es ++ base wait))
           (count tells_write taken)
           (earlier (record { handle = handle; kind = kind } ∷ taken) calls are)
       by_entry (entry.Due timer) is kinds legal lives earlier calls are = earlier taken calls are

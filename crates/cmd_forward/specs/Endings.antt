@@ -14,8 +14,8 @@ use Rattle.reactor_model.specs.reactor_journal.specs.declared.entry.Entry.TheVar
 use Rattle.cmd_forward.specs.declared.status.Status.{Status}
 use Rattle.cmd_forward.specs.declared.status.Status.TheVariants as status
 
--- For what the service ended. If its peer failed, that for which it would have ended is told, unless
--- that was the end of the input.
+-- For what the service ended. If its peer failed, that for which it would have ended is told,
+-- unless that was the end of the input.
 abbrev pub cause_when_failed : Option ForwardEnding → ForwardEnding
 cause_when_failed None = end.PeerFailed
 cause_when_failed (Some end.End) = end.PeerFailed

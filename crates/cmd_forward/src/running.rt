@@ -30,8 +30,8 @@ pub(crate) struct Ran<M, S> {
     pub(crate) input: S,
 }
 
-/// Waits for the connection of an end that a dialler gave with its net, at most `wait` milliseconds,
-/// from 1 to 4,294,967,295, and then sends the records of the source to it.
+/// Waits for the connection of an end that a dialler gave with its net, at most `wait`
+/// milliseconds, from 1 to 4,294,967,295, and then sends the records of the source to it.
 pub(crate) fn forward<R: Wait, E: DialEnd + Drop, M: Net<End = E>, S: Source>(
     rt: &R,
     alloc: Global,

@@ -5,22 +5,20 @@ ghost use Rattle.ev_base.specs.ev_types.specs.declared.upcall.Why.TheVariants.{R
 ghost use Rattle.connector.specs.Connectors.{ConnectorFits, ConnectorGone};
 ghost use Rattle.reactor_model.specs.Turns.{most_milliseconds};
 ghost use Rattle.reactor_core.specs.Stands.{Stands};
-ghost use Rattle.reactor_core.specs.Views.{net_of};
+ghost use Rattle.reactor_core.specs.Views.{net_of, volume_of};
+ghost use Rattle.reactor_model.specs.Volumes.{tells_nothing};
 ghost use Rattle.connector_run.specs.Opening.{CanOpen, CanRegister, LeavesUnopened, MayRefuse};
 ghost use Rattle.connector_run.specs.Opening.{OpenHasCause, refusal_of};
 ghost use Rattle.connector_run.specs.Phases.{first_entries};
 
 use crate::ConnectCore;
-use connector::{Connector, Service};
+use connector::{ConnectNote, Connector, Service};
 use core_loop::close;
 use ev_base::{DialEnd, Mask, Net, Why};
 use reactor_core::{Core, Means, RegisterRefused};
-use reactor_model::{DropVolumes, EventHandler, NoWatch};
+use reactor_model::{DropVolumes, EventHandler, NoWatch, Volumes};
 use std::alloc::Global;
 use timer_queue::SortedTimers;
-
-/// How many entries of its journal a reactor keeps at least before it lets them go.
-const VOLUME: u64 = 65_536;
 
 /// Why there is no run.
 #[derive(Clone, Copy, PartialEq, Eq, Debug)]
@@ -43,7 +41,8 @@ pub struct Unopened<E, M> {
 
 /// A reactor over a new net, with one connector that had no turns. It is registered with the mask
 /// write alone and a timer that comes due once after `wait` milliseconds, from 1 to 4,294,967,295.
-/// Where there is none, the net and the connector's end come back.
+/// It lets its journal go in volumes of as many entries as their keeper says. If there is no
+/// reactor, the net and the connector's end come back.
 pub fn open<E: DialEnd, V: Service<End = E> + Drop, M: Net<End = E>>(
     alloc: Global,
     net: M,
@@ -59,6 +58,7 @@ where
     ensures opened { IfOk result (λ core. (t : Terms) → CanOpen (M.facts net) (M.keeps t net)
         (ConnectorFits E.tells E.keeps V.serves t handler []) t
         → Stands ⟦<ConnectCore<E, V, M> as Means>⟧.m t core 0 (first_entries wait)) }
+    ensures volume { IfOk result (λ core. volume_of core ≡ (tells_nothing {N = V.Note}).size) }
     ensures unopened { IfErr result (λ left. (t : Terms) → CanOpen (M.facts net) (M.keeps t net)
         (ConnectorFits E.tells E.keeps V.serves t handler []) t
         → LeavesUnopened M.facts M.keeps
@@ -67,7 +67,8 @@ where
         (M.facts left.net).failed_attaches) }
 {
     let timers = SortedTimers::new(alloc);
-    match Core::new(alloc, 1, VOLUME, net, timers, NoWatch, DropVolumes) {
+    let volume = Volumes::<ConnectNote<V::Note>>::volume_size(&DropVolumes);
+    match Core::new(alloc, 1, volume, net, timers, NoWatch, DropVolumes) {
         Ok(core) => register(core, handler, wait),
         Err((net, ..)) => {
             let (end, _) = handler.handle_close(Why::Refused);
@@ -94,6 +95,7 @@ where
     ensures opened { IfOk result (λ new. (t : Terms)
         → CanRegister ⟦<ConnectCore<E, V, M> as Means>⟧.m t core handler
         → Stands ⟦<ConnectCore<E, V, M> as Means>⟧.m t new 0 (first_entries wait)) }
+    ensures volume { IfOk result (λ new. volume_of new ≡ volume_of core) }
     ensures unopened { IfErr result (λ left. (t : Terms)
         → CanRegister ⟦<ConnectCore<E, V, M> as Means>⟧.m t core handler
         → LeavesUnopened M.facts M.keeps

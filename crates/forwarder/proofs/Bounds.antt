@@ -159,9 +159,10 @@ few_left t e = verdict_few (length t) (octet t) (payload_length t) (fields_lengt
 pub record ArePieces (records : List LogRecord) : Type 0 where
   pub short : are_short records ≡ true
   pub few : length (sent_all records) ≤ most_held
+  pub many : length records ≤ most_held
 
 pieces_none : ArePieces []
-pieces_none = record { short = refl; few = omega arith }
+pieces_none = record { short = refl; few = omega arith; many = omega arith }
 
 pieces_by : (left piece : List ℕ) (v : First) → first_of left ≡ v
     → ((n : ℕ) → first_of left ≡ One n → ⊥) → length piece ≤ 4096
@@ -170,6 +171,7 @@ pieces_by left piece More e none h =
     let b = bounded (left ++ piece) in record {
       short = b.short;
       few = omega (arith, b.size, length-append left piece, few_left left e, h);
+      many = omega (arith, b.many, length-append left piece, few_left left e, h);
     }
 pieces_by left piece (Bad w) e none h =
     rw (stops_at (left ++ piece) (Bad w) (bad_stays left piece w e) tt).records pieces_none

@@ -1,6 +1,6 @@
 -- What is forwarded of a stream of records (C++NPv2 chapter 7: the client logging daemon).
-use Rattle.std.specs.Prelude.{List, ℕ, length, nat_le, int_le, pos, negsuc, Bool, ◌&&◌}
-use Rattle.std.specs.Prelude.{if◌then◌else◌}
+use Rattle.std.specs.Prelude.{◌≡◌, ◌-◌, ◌^◌, List, ℕ, length, min, nat_le, int_le, pos, negsuc}
+use Rattle.std.specs.Prelude.{Bool, true, ◌&&◌, if◌then◌else◌}
 use Rattle.std.specs.List.{flat_map, list_all}
 use Rattle.cdr_record.specs.declared.record.LogRecord.{LogRecord}
 use Rattle.cdr_record.specs.declared.record.Order.TheVariants.{Big}
@@ -29,3 +29,12 @@ is_short r = nat_le (length r.text) 65536
 
 abbrev pub are_short : List LogRecord → Bool
 are_short records = list_all is_short records
+
+-- how many they are, as a number of 64 bits, which stands still at its end
+abbrev pub count_of : List LogRecord → ℕ
+count_of records = min (length records) (2 ^ 64 - 1)
+
+-- bytes are what is sent of records, if no message is too long, and a number is theirs
+pub record AreSpelled (records : List LogRecord) (bytes : List ℕ) (count : ℕ) : Type 0 where
+  pub spelled : are_short records ≡ true → bytes ≡ sent_all records
+  pub counted : count ≡ count_of records

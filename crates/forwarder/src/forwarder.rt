@@ -170,9 +170,9 @@ impl<E: DialEnd, S: Source> Forwarder<E, S> {
             bytes,
             records,
             stop,
-        } = self.reading.take(piece)?;
+        } = self.reading.take(piece, self.sending.memory())?;
         self.sending.put(bytes)?;
-        self.records = self.records.saturating_add(records as u64);
+        self.records = self.records.saturating_add(records);
         self.stop = stop;
         Ok(())
     }

@@ -1,12 +1,12 @@
 //! What is read, and what is to be sent of it.
-ghost use Rattle.std.specs.Prelude.{◌≡◌, ◌≤◌, length, IfOk};
+ghost use Rattle.std.specs.Prelude.{◌≡◌, ◌≤◌, [], length, IfOk};
 ghost use Rattle.cdr_record.specs.Feeding.{fresh};
 ghost use Rattle.forwarder.specs.Waiting.{most_held};
 ghost use Rattle.forwarder.specs.Readings.{CompletesSo, stop_of, stop_at_end};
 
 use crate::note::ForwardEnding;
-use crate::spelling::spelled_all;
-use cdr_record::{Bad, Decoder, Fed};
+use crate::spelling::SpelledRecords;
+use cdr_record::{Bad, Decoder};
 use ev_base::NoMemory;
 use std::alloc::Global;
 use std::marker::Model;
@@ -15,7 +15,6 @@ use std::marker::Model;
 #[derive(Drop)]
 pub(crate) struct Reading {
     decoder: Decoder,
-    alloc: Global,
 }
 
 impl Model for Reading {
@@ -35,7 +34,7 @@ pub(crate) struct Completed {
     /// The canonical spellings of the records that are whole now, one after another.
     pub(crate) bytes: Vec<u8>,
     /// How many records these are.
-    pub(crate) records: usize,
+    pub(crate) records: u64,
     /// How it ends once these are sent, where a bad record came.
     pub(crate) stop: Option<ForwardEnding>,
 }
@@ -47,22 +46,23 @@ impl Reading {
     {
         Reading {
             decoder: Decoder::new(alloc),
-            alloc,
         }
     }
 
-    /// Takes the next piece, of at most 4,096 bytes. After `NoMemory` nothing is said of the
-    /// decoder.
-    pub(crate) fn take(&mut self, piece: &[u8]) -> Result<Completed, NoMemory>
-        requires { length piece.now ≤ 4096 }
+    /// Takes the next piece, of at most 4,096 bytes. What it completes is spelled into this memory.
+    /// After `NoMemory` nothing is said of the decoder.
+    pub(crate) fn take(&mut self, piece: &[u8], memory: Vec<u8>) -> Result<Completed, NoMemory>
+        requires few { length piece.now ≤ 4096 }
+        requires none { memory.items ≡ [] }
         ensures completes { IfOk result (λ came. CompletesSo self.old piece.now came self.new) }
         ensures few { IfOk result (λ came. length came.bytes.items ≤ most_held) }
     {
-        let Fed { records, bad } = self.decoder.feed(piece)?;
-        let bytes = spelled_all(self.alloc, records.as_slice())?;
+        let mut list = SpelledRecords::new(memory);
+        let bad = self.decoder.feed_to(piece, &mut list)?;
+        let (bytes, records) = list.into_parts();
         Ok(Completed {
             bytes,
-            records: records.as_slice().len(),
+            records,
             stop: stop_of(bad),
         })
     }

@@ -1,5 +1,7 @@
 //! What waits to be sent.
-ghost use Rattle.std.specs.Prelude.{◌≡◌, ◌≤◌, ◌^◌, ◌==◌, [], length, drop, OnOk, OnErr};
+ghost use Rattle.std.specs.Prelude.{◌≡◌, ◌≤◌, ◌^◌, ◌==◌, [], ◌∷◌, length, drop, OnOk, OnErr};
+ghost use Rattle.std.specs.Prelude.{IfOk};
+ghost use Rattle.message_block.specs.Messages.{block_of};
 ghost use Rattle.forwarder.specs.Waiting.{most_held, front_bytes};
 
 use ev_base::NoMemory;
@@ -47,6 +49,22 @@ impl Sending {
         self.at as u64 >= length_of(&self.front) && self.queue.bytes() == 0
     }
 
+    /// Memory without bytes, for what is put next: that of what was sent.
+    pub(crate) fn memory(&mut self) -> Vec<u8>
+        requires none { self.old.waiting ≡ [] }
+        ensures empty { result.items ≡ [] }
+        ensures same { self.new ≡ self.old }
+    {
+        let none = Vec::new(self.alloc);
+        match &mut self.front {
+            Some(message) => {
+                self.at = 0;
+                message.put_alone(Block::from_vec(none))
+            }
+            None => none,
+        }
+    }
+
     /// Puts bytes where nothing waits. After `NoMemory` nothing waits still.
     pub(crate) fn put(&mut self, bytes: Vec<u8>) -> Result<(), NoMemory>
         requires none { self.old.waiting ≡ [] }
@@ -59,10 +77,9 @@ impl Sending {
         if bytes.is_empty() {
             return Ok(());
         }
-        let message = match Message::new(alloc, Block::from_vec(bytes), 0) {
-            Ok(message) => message,
-            Err((_, refused)) => return Err(refused),
-        };
+        let sent = self.front.take();
+        self.at = 0;
+        let message = message_of(alloc, sent, bytes)?;
         match self.queue.enqueue_tail(message) {
             Ok(()) => {}
             Err(_) => return Err(NoMemory),
@@ -112,5 +129,23 @@ fn length_of(message: &Option<Message>) -> u64
     match message {
         Some(message) => message.total_length(),
         None => 0,
+    }
+}
+
+/// A message of these bytes alone: the one that was sent, if there is one.
+fn message_of(alloc: Global, sent: Option<Message>, bytes: Vec<u8>) -> Result<Message, NoMemory>
+    requires { length bytes.items ≤ most_held }
+    ensures { IfOk result (λ message. message.blocks ≡ block_of bytes.items ∷ []) }
+{
+    let block = Block::from_vec(bytes);
+    match sent {
+        Some(mut message) => {
+            let _ = message.put_alone(block);
+            Ok(message)
+        }
+        None => match Message::new(alloc, block, 0) {
+            Ok(message) => Ok(message),
+            Err((_, refused)) => Err(refused),
+        },
     }
 }

@@ -284,6 +284,9 @@ static ROWS: [Row; 16] = [
     },
 ];
 
+/// Records that each come alone: a turn each, so that the run has more than 1,024 entries.
+static MANY: [&[u8]; 600] = [LITTLE; 600];
+
 type Left = Forwarded<MemDialNet, MemSource, MemSink>;
 
 /// The latest moment of a row.
@@ -361,5 +364,21 @@ fn a_dialler_that_fails_is_a_fault_of_the_peer(rt: HostRuntime) -> Result<(), Fa
     assert!(rt; second.status == 13);
     assert!(rt; second.net.is_none());
     assert!(rt; second.output.bytes().is_empty());
+    Ok(())
+}
+
+#[test]
+fn a_run_that_lets_its_journal_go_tells_all_totals(rt: HostRuntime) -> Result<(), Fail> {
+    let alloc = rt.alloc();
+    let finishes = list_of(alloc, &[Finish::Done])?;
+    let end = MemDialEnd::new(alloc, 18_000, finishes, Vec::new(alloc), Vec::new(alloc))?;
+    let mut dialer = MemDialer::new(net_of(alloc, &[0])?, end);
+    let words = words_of(alloc, FORWARD)?;
+    let input = source_of(alloc, &MANY, &[])?;
+    let output = MemSink::new(alloc, 64, None)?;
+    let left = forward_main(&rt, alloc, &words, &mut dialer, input, output);
+    assert!(rt; left.status == 0);
+    assert!(rt; left.output.bytes() == b"records 600\nbytes 18000\n".as_slice());
+    assert!(rt; matches!(held(&left), Some(bytes) if bytes.len() == 18_000));
     Ok(())
 }

@@ -1,4 +1,4 @@
-use Rattle.std.proofs.Common.{subst}
+use Rattle.std.proofs.Common.{subst, ◌∙◌}
 use Rattle.std.proofs.lemmas.Result.{IfErr-weaker, IfOk-weaker}
 use Rattle.connector_run.specs.Opening.{OpenHasCause}
 use Rattle.connector_run.proofs.Beginning.{begins}
@@ -39,3 +39,7 @@ returns-in-Ok-clause-cause g c = IfErr-weaker c.register.result _ _ (λ left hel
     subst (λ net. OpenHasCause left.why (g.M.Net.facts net).failed_attaches
     (g.M.Net.facts left.net).failed_attaches) c.in-Ok.ensures.parts.0 held)
     c.register.ensures.cause
+
+pub returns-in-Ok-clause-volume : goal.returns-in-Ok-clause-volume
+returns-in-Ok-clause-volume g c = IfOk-weaker c.register.result _ _ (λ core held.
+    held ∙ c.in-Ok.ensures.volume ∙ c.volume_size-volume.ensures.size) c.register.ensures.volume
