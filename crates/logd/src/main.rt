@@ -137,7 +137,8 @@ fn given_words(rt: &HostRuntime) -> Result<Vec<String>, Status> {
     words.map_err(|_| Status::NoMemory)
 }
 
-/// Whether the words want a server with several workers.
+/// Whether the words want a server with several workers. The top calls read the words again: the
+/// host has to be made before them, and their contracts speak of the words themselves.
 fn has_several_workers(alloc: Global, words: &[String]) -> bool {
     match Command::of(alloc, words) {
         Ok(Some(Command::Serve { options, .. })) => options.workers > 1,
