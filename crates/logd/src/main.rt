@@ -7,6 +7,7 @@ use cmd_line::Command;
 use cmd_pool::{Pooled, pool_main, read_words};
 use demux_mio::{MioDialer, MioHost};
 use ev_base::{Host, NoMemory, Sink, Source, StdSink, StdSource};
+use exit_status::Status;
 use logging_server::{Served, fault_line, logd_main};
 use program_words::{Called, HELP, Own, USAGE, VERSION, call_of};
 use reactor_model::DropVolumes;
@@ -18,15 +19,6 @@ use std::sync::Wait;
 use std::thread::Threads;
 use std::time::Clock;
 use std::{env, io};
-
-/// The status of words that are none of the program's.
-const WRONG_WORDS: u8 = 1;
-
-/// The status of a failed write.
-const WRITE_FAILED: u8 = 4;
-
-/// The status of want of memory.
-const OUT_OF_MEMORY: u8 = 6;
 
 /// How large the block is that is taken and let go at the start, in bytes.
 const LARGE_BLOCK: usize = 4 << 20;
@@ -108,14 +100,14 @@ where
 fn command_words(rt: &HostRuntime) -> Result<(Own, Vec<String>), ExitCode> {
     let words = match given_words(rt) {
         Ok(words) => words,
-        Err(status) => return Err(end_with(rt, status, 0)),
+        Err(status) => return Err(end_as(rt, status)),
     };
     match call_of(rt.alloc(), words) {
         Ok(Some(Called::Command { own, rest })) => Ok((own, rest)),
         Ok(Some(Called::Help)) => Err(show(rt, HELP)),
         Ok(Some(Called::Version)) => Err(show(rt, VERSION)),
-        Ok(None) => Err(end_with(rt, WRONG_WORDS, 0)),
-        Err(NoMemory) => Err(end_with(rt, OUT_OF_MEMORY, 0)),
+        Ok(None) => Err(end_as(rt, Status::Usage)),
+        Err(NoMemory) => Err(end_as(rt, Status::NoMemory)),
     }
 }
 
@@ -123,7 +115,7 @@ fn command_words(rt: &HostRuntime) -> Result<(Own, Vec<String>), ExitCode> {
 fn show(rt: &HostRuntime, text: &str) -> ExitCode {
     match print!(rt; "{text}") {
         Ok(()) => ExitCode::SUCCESS,
-        Err(_) => end_with(rt, WRITE_FAILED, 0),
+        Err(_) => end_as(rt, Status::WriteFault),
     }
 }
 
@@ -136,16 +128,17 @@ fn keep_freed_memory(rt: &HostRuntime) {
 
 /// The words after the program's name, or the status with which to end where there are none to be
 /// had: a word that is not UTF-8 is a faulty command line.
-fn given_words(rt: &HostRuntime) -> Result<Vec<String>, u8> {
+fn given_words(rt: &HostRuntime) -> Result<Vec<String>, Status> {
     let args = env::args(rt).map_err(|error| match error.kind() {
-        io::ErrorKind::OutOfMemory => OUT_OF_MEMORY,
-        _ => WRONG_WORDS,
+        io::ErrorKind::OutOfMemory => Status::NoMemory,
+        _ => Status::Usage,
     })?;
     let words: Result<Vec<String>, AllocError> = args.skip(1).collect(rt.alloc());
-    words.map_err(|_| OUT_OF_MEMORY)
+    words.map_err(|_| Status::NoMemory)
 }
 
-/// Whether the words want a server with several workers.
+/// Whether the words want a server with several workers. The top calls read the words again: the
+/// host has to be made before them, and their contracts speak of the words themselves.
 fn has_several_workers(alloc: Global, words: &[String]) -> bool {
     match Command::of(alloc, words) {
         Ok(Some(Command::Serve { options, .. })) => options.workers > 1,
@@ -177,12 +170,17 @@ fn host_for<R: Net + Clock + Threads + Wait + Copy + Send + 'static>(
     host
 }
 
-/// Says on standard error what the status means, unless it is 0, and ends with it. With wrong words
-/// it says how the program is called, too.
-fn end_with(rt: &HostRuntime, status: u8, at: u64) -> ExitCode {
-    let _ = eprint!(rt; "{}", fault_line(status, at));
-    if status == WRONG_WORDS {
+/// Says on standard error what a status means, unless all is done, and ends with its code.
+fn end_as(rt: &HostRuntime, status: Status) -> ExitCode {
+    end_with(rt, status.code(), status.number())
+}
+
+/// Says on standard error what a code and its number mean, unless the code is 0, and ends with it.
+/// With wrong words it says how the program is called, too.
+fn end_with(rt: &HostRuntime, code: u8, number: u64) -> ExitCode {
+    let _ = eprint!(rt; "{}", fault_line(code, number));
+    if code == Status::Usage.code() {
         let _ = eprint!(rt; "{USAGE}");
     }
-    ExitCode::from(status)
+    ExitCode::from(code)
 }

@@ -1,6 +1,9 @@
--- The statuses of the commands' endings, and the numbers that go with them (this project's own
--- table).
+-- The statuses of the commands' endings, and the codes and numbers that these have by the table of
+-- all statuses (this project's own).
 use Rattle.std.specs.Prelude.{ℕ}
+use Rattle.exit_status.specs.Statuses.{code_of, number_of}
+use Rattle.exit_status.specs.declared.status.Status.{Status}
+use Rattle.exit_status.specs.declared.status.Status.TheVariants as status
 use Rattle.cmd_display.specs.declared.showing.DisplayEnd.{DisplayEnd}
 use Rattle.cmd_display.specs.declared.showing.DisplayEnd.TheVariants as shown
 use Rattle.cmd_audit.specs.declared.auditing.AuditEnd.{AuditEnd}
@@ -19,62 +22,70 @@ display_limit = 1099511627776
 abbrev pub text_limit : ℕ
 text_limit = 268435456
 
--- the status of each ending of `display`, and the number that goes with it
+-- the status of each ending of `display`; the program ends with its code, and tells its number
+abbrev pub display_status : DisplayEnd → Status
+display_status shown.Done = status.Done
+display_status shown.ReadFault = status.ReadFault
+display_status shown.WriteFault = status.WriteFault
+display_status shown.NoMemory = status.NoMemory
+display_status (shown.BadRecord at) = status.BadRecord at
+display_status shown.TooLong = status.TooLong display_limit
+
 abbrev pub display_code : DisplayEnd → ℕ
-display_code shown.Done = 0
-display_code shown.ReadFault = 3
-display_code shown.WriteFault = 4
-display_code shown.NoMemory = 6
-display_code (shown.BadRecord at) = 8
-display_code shown.TooLong = 11
+display_code end = code_of (display_status end)
 
 abbrev pub display_number : DisplayEnd → ℕ
-display_number (shown.BadRecord at) = at
-display_number shown.TooLong = display_limit
-display_number _ = 0
+display_number end = number_of (display_status end)
 
 -- of `audit`
+abbrev pub audit_status : AuditEnd → Status
+audit_status audited.Legal = status.Done
+audit_status (audited.BadText line) = status.BadText line
+audit_status audited.ReadFault = status.ReadFault
+audit_status audited.WriteFault = status.WriteFault
+audit_status audited.NoMemory = status.NoMemory
+audit_status (audited.Illegal at) = status.Illegal at
+audit_status audited.TooLong = status.TooLong text_limit
+
 abbrev pub audit_code : AuditEnd → ℕ
-audit_code audited.Legal = 0
-audit_code (audited.BadText line) = 2
-audit_code audited.ReadFault = 3
-audit_code audited.WriteFault = 4
-audit_code audited.NoMemory = 6
-audit_code (audited.Illegal at) = 10
-audit_code audited.TooLong = 11
+audit_code end = code_of (audit_status end)
 
 abbrev pub audit_number : AuditEnd → ℕ
-audit_number (audited.BadText line) = line
-audit_number (audited.Illegal at) = at
-audit_number audited.TooLong = text_limit
-audit_number _ = 0
+audit_number end = number_of (audit_status end)
 
 -- of `replay`
+abbrev pub replay_status : ReplayEnd → Status
+replay_status replayed.Done = status.Done
+replay_status (replayed.BadText line) = status.BadText line
+replay_status replayed.ReadFault = status.ReadFault
+replay_status replayed.WriteFault = status.WriteFault
+replay_status replayed.NoMemory = status.NoMemory
+replay_status replayed.TooLong = status.TooLong text_limit
+replay_status replayed.VolumeFault = status.VolumeFault
+
 abbrev pub replay_code : ReplayEnd → ℕ
-replay_code replayed.Done = 0
-replay_code (replayed.BadText line) = 2
-replay_code replayed.ReadFault = 3
-replay_code replayed.WriteFault = 4
-replay_code replayed.NoMemory = 6
-replay_code replayed.TooLong = 11
-replay_code replayed.VolumeFault = 12
+replay_code end = code_of (replay_status end)
 
 abbrev pub replay_number : ReplayEnd → ℕ
-replay_number (replayed.BadText line) = line
-replay_number replayed.TooLong = text_limit
-replay_number _ = 0
+replay_number end = number_of (replay_status end)
 
 -- of `serve` and of `gen`, which have no number
+abbrev pub serve_status : HostEnd → Status
+serve_status served.Done = status.Done
+serve_status served.WriteFault = status.WriteFault
+serve_status served.NetFault = status.NetFault
+serve_status served.NoMemory = status.NoMemory
+serve_status served.ListenFault = status.ListenFault
+serve_status served.VolumeFault = status.VolumeFault
+
 abbrev pub serve_code : HostEnd → ℕ
-serve_code served.Done = 0
-serve_code served.WriteFault = 4
-serve_code served.NetFault = 5
-serve_code served.NoMemory = 6
-serve_code served.ListenFault = 7
-serve_code served.VolumeFault = 12
+serve_code end = code_of (serve_status end)
+
+abbrev pub generate_status : GenerateEnd → Status
+generate_status generated.Done = status.Done
+generate_status generated.WriteFault = status.WriteFault
+generate_status generated.NoMemory = status.NoMemory
+generate_status generated.VolumeFault = status.VolumeFault
 
 abbrev pub generate_code : GenerateEnd → ℕ
-generate_code generated.Done = 0
-generate_code generated.WriteFault = 4
-generate_code generated.NoMemory = 6
-generate_code generated.VolumeFault = 12
+generate_code end = code_of (generate_status end)

@@ -2,6 +2,7 @@
 ghost use Rattle.std.specs.Prelude.{◌≡◌};
 ghost use Rattle.logging_server.specs.FaultLines.{line_status, line_at};
 
+use exit_status::Status;
 use std::fmt;
 
 /// The line of a status that is not 0. Its `Display` prints it with a line feed, and nothing for
@@ -28,23 +29,9 @@ impl fmt::Display for FaultLine {
     ghost output = { λ line. Some (fault_text (line_status line) (line_at line)) };
 
     fn fmt<W: fmt::Write>(&self, f: &mut fmt::Formatter<W>) -> fmt::Result {
-        let at = self.at;
-        match self.status {
-            1 => f.write_str("logd: usage\n"),
-            2 => writeln!(f, "logd: bad line {at}"),
-            3 => f.write_str("logd: read failed\n"),
-            4 => f.write_str("logd: write failed\n"),
-            5 => f.write_str("logd: wait failed\n"),
-            6 => f.write_str("logd: out of memory\n"),
-            7 => f.write_str("logd: listen failed\n"),
-            8 => writeln!(f, "logd: bad record at {at}"),
-            10 => writeln!(f, "logd: illegal entry {at}"),
-            11 => writeln!(f, "logd: input over {at}"),
-            12 => f.write_str("logd: volume failed\n"),
-            13 => f.write_str("logd: peer failed\n"),
-            14 => writeln!(f, "logd: connect timed out at {at}"),
-            15 => f.write_str("logd: unfinished\n"),
-            _ => Ok(()),
+        match Status::of(self.status, self.at) {
+            Some(status) => write!(f, "{status}"),
+            None => Ok(()),
         }
     }
 }

@@ -4,9 +4,7 @@ ghost use Rattle.cmd_line.specs.declared.command.Command.TheVariants.{Generate};
 ghost use Rattle.logging_server.specs.Commands.{HasGenerated, HasReplayed, HasRun, HasServed};
 
 use crate::Served;
-use crate::statuses::{
-    TEXT_LIMIT, code_of_generate, code_of_replay, code_of_serve, number_of_replay,
-};
+use crate::statuses::{Ending, TEXT_LIMIT};
 use cmd_gen::{Generated, Played, Replayed, generate, replay};
 use cmd_line::Options;
 use cmd_one::{Ran, one};
@@ -70,15 +68,16 @@ pub(crate) fn run_replay<
         output,
         volumes,
     } = played;
+    let status = end.status();
     Served {
-        status: code_of_replay(end),
+        status: status.code(),
         journal,
         first,
         input,
         output,
         net: None,
         volumes,
-        at: number_of_replay(end),
+        at: status.number(),
     }
 }
 
@@ -110,7 +109,7 @@ pub(crate) fn run_generated<
         volumes,
     } = generate(rt, alloc, connections, seed, output, volumes);
     Served {
-        status: code_of_generate(end),
+        status: end.status().code(),
         journal,
         first,
         input,
@@ -157,7 +156,7 @@ where
         volumes,
     } = serve_host(rt, alloc, options, port, host, output, volumes);
     Served {
-        status: code_of_serve(end),
+        status: end.status().code(),
         journal,
         first,
         input,

@@ -1,13 +1,14 @@
-//! The status of each command's ending, and the number that goes with it.
+//! The status of each command's ending.
 ghost use Rattle.std.specs.Prelude.{◌≡◌};
-ghost use Rattle.logging_server.specs.Codes.{audit_code, audit_number, display_code};
-ghost use Rattle.logging_server.specs.Codes.{display_number, generate_code, replay_code};
-ghost use Rattle.logging_server.specs.Codes.{replay_number, serve_code};
+ghost use Rattle.exit_status.specs.declared.status.Status.{Status};
+ghost use Rattle.logging_server.specs.Codes.{audit_status, display_status, generate_status};
+ghost use Rattle.logging_server.specs.Codes.{replay_status, serve_status};
 
 use cmd_audit::AuditEnd;
 use cmd_display::DisplayEnd;
 use cmd_gen::{GenerateEnd, ReplayEnd};
 use cmd_serve::HostEnd;
+use exit_status::Status;
 
 /// How many bytes `display` reads at most: 2^40.
 pub(crate) const DISPLAY_LIMIT: u64 = 1_099_511_627_776;
@@ -15,112 +16,88 @@ pub(crate) const DISPLAY_LIMIT: u64 = 1_099_511_627_776;
 /// How many bytes `replay` and `audit` read at most: 2^28.
 pub(crate) const TEXT_LIMIT: u64 = 268_435_456;
 
-/// The status of words that are no command.
-pub(crate) const USAGE: u8 = 1;
+/// The ending of a command.
+pub(crate) trait Ending {
+    ghost meant: { Self → Status };
 
-/// The status of want of memory.
-pub(crate) const OUT_OF_MEMORY: u8 = 6;
+    /// The status with which the program ends.
+    fn status(self) -> Status
+        ensures { result ≡ meant self };
+}
 
-/// The status of a display that ended so.
-pub(crate) fn code_of_display(end: DisplayEnd) -> u8
-    ensures { result ≡ display_code end }
-{
-    match end {
-        DisplayEnd::Done => 0,
-        DisplayEnd::ReadFault => 3,
-        DisplayEnd::WriteFault => 4,
-        DisplayEnd::NoMemory => OUT_OF_MEMORY,
-        DisplayEnd::BadRecord { .. } => 8,
-        DisplayEnd::TooLong => 11,
+impl Ending for DisplayEnd {
+    ghost meant = { display_status };
+
+    fn status(self) -> Status {
+        match self {
+            DisplayEnd::Done => Status::Done,
+            DisplayEnd::ReadFault => Status::ReadFault,
+            DisplayEnd::WriteFault => Status::WriteFault,
+            DisplayEnd::NoMemory => Status::NoMemory,
+            DisplayEnd::BadRecord { at } => Status::BadRecord { at },
+            DisplayEnd::TooLong => Status::TooLong {
+                limit: DISPLAY_LIMIT,
+            },
+        }
     }
 }
 
-/// The offset of a bad record, or the limit where there is too much input.
-pub(crate) fn number_of_display(end: DisplayEnd) -> u64
-    ensures { result ≡ display_number end }
-{
-    match end {
-        DisplayEnd::BadRecord { at } => at,
-        DisplayEnd::TooLong => DISPLAY_LIMIT,
-        _ => 0,
+impl Ending for AuditEnd {
+    ghost meant = { audit_status };
+
+    fn status(self) -> Status {
+        match self {
+            AuditEnd::Legal => Status::Done,
+            AuditEnd::BadText { line } => Status::BadText { line },
+            AuditEnd::ReadFault => Status::ReadFault,
+            AuditEnd::WriteFault => Status::WriteFault,
+            AuditEnd::NoMemory => Status::NoMemory,
+            AuditEnd::Illegal { at } => Status::Illegal { at },
+            AuditEnd::TooLong => Status::TooLong { limit: TEXT_LIMIT },
+        }
     }
 }
 
-/// The status of an audit that ended so.
-pub(crate) fn code_of_audit(end: AuditEnd) -> u8
-    ensures { result ≡ audit_code end }
-{
-    match end {
-        AuditEnd::Legal => 0,
-        AuditEnd::BadText { .. } => 2,
-        AuditEnd::ReadFault => 3,
-        AuditEnd::WriteFault => 4,
-        AuditEnd::NoMemory => OUT_OF_MEMORY,
-        AuditEnd::Illegal { .. } => 10,
-        AuditEnd::TooLong => 11,
+impl Ending for ReplayEnd {
+    ghost meant = { replay_status };
+
+    fn status(self) -> Status {
+        match self {
+            ReplayEnd::Done => Status::Done,
+            ReplayEnd::BadText { line } => Status::BadText { line },
+            ReplayEnd::ReadFault => Status::ReadFault,
+            ReplayEnd::WriteFault => Status::WriteFault,
+            ReplayEnd::NoMemory => Status::NoMemory,
+            ReplayEnd::TooLong => Status::TooLong { limit: TEXT_LIMIT },
+            ReplayEnd::VolumeFault => Status::VolumeFault,
+        }
     }
 }
 
-/// The bad line, the illegal entry, or the limit where there is too much input.
-pub(crate) fn number_of_audit(end: AuditEnd) -> u64
-    ensures { result ≡ audit_number end }
-{
-    match end {
-        AuditEnd::BadText { line } => line,
-        AuditEnd::Illegal { at } => at,
-        AuditEnd::TooLong => TEXT_LIMIT,
-        _ => 0,
+impl Ending for HostEnd {
+    ghost meant = { serve_status };
+
+    fn status(self) -> Status {
+        match self {
+            HostEnd::Done => Status::Done,
+            HostEnd::WriteFault => Status::WriteFault,
+            HostEnd::NetFault => Status::NetFault,
+            HostEnd::NoMemory => Status::NoMemory,
+            HostEnd::ListenFault => Status::ListenFault,
+            HostEnd::VolumeFault => Status::VolumeFault,
+        }
     }
 }
 
-/// The status of a replay that ended so.
-pub(crate) fn code_of_replay(end: ReplayEnd) -> u8
-    ensures { result ≡ replay_code end }
-{
-    match end {
-        ReplayEnd::Done => 0,
-        ReplayEnd::BadText { .. } => 2,
-        ReplayEnd::ReadFault => 3,
-        ReplayEnd::WriteFault => 4,
-        ReplayEnd::NoMemory => OUT_OF_MEMORY,
-        ReplayEnd::TooLong => 11,
-        ReplayEnd::VolumeFault => 12,
-    }
-}
+impl Ending for GenerateEnd {
+    ghost meant = { generate_status };
 
-/// The bad line, or the limit where there is too much input.
-pub(crate) fn number_of_replay(end: ReplayEnd) -> u64
-    ensures { result ≡ replay_number end }
-{
-    match end {
-        ReplayEnd::BadText { line } => line,
-        ReplayEnd::TooLong => TEXT_LIMIT,
-        _ => 0,
-    }
-}
-
-/// The status of a run over a host that ended so.
-pub(crate) fn code_of_serve(end: HostEnd) -> u8
-    ensures { result ≡ serve_code end }
-{
-    match end {
-        HostEnd::Done => 0,
-        HostEnd::WriteFault => 4,
-        HostEnd::NetFault => 5,
-        HostEnd::NoMemory => OUT_OF_MEMORY,
-        HostEnd::ListenFault => 7,
-        HostEnd::VolumeFault => 12,
-    }
-}
-
-/// The status of a generated run that ended so.
-pub(crate) fn code_of_generate(end: GenerateEnd) -> u8
-    ensures { result ≡ generate_code end }
-{
-    match end {
-        GenerateEnd::Done => 0,
-        GenerateEnd::WriteFault => 4,
-        GenerateEnd::NoMemory => OUT_OF_MEMORY,
-        GenerateEnd::VolumeFault => 12,
+    fn status(self) -> Status {
+        match self {
+            GenerateEnd::Done => Status::Done,
+            GenerateEnd::WriteFault => Status::WriteFault,
+            GenerateEnd::NoMemory => Status::NoMemory,
+            GenerateEnd::VolumeFault => Status::VolumeFault,
+        }
     }
 }

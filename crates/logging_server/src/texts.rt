@@ -2,9 +2,7 @@
 ghost use Rattle.logging_server.specs.Commands.{HasAudited, HasDisplayed};
 
 use crate::Served;
-use crate::statuses::{
-    DISPLAY_LIMIT, TEXT_LIMIT, code_of_audit, code_of_display, number_of_audit, number_of_display,
-};
+use crate::statuses::{DISPLAY_LIMIT, Ending, TEXT_LIMIT};
 use cmd_audit::{Audited, audit};
 use cmd_display::{Displayed, display};
 use ev_base::{Sink, Source};
@@ -25,15 +23,16 @@ pub(crate) fn display_records<
     ensures { HasDisplayed S.facts K.facts V.facts input output volumes result }
 {
     let Displayed { end, input, output } = display(rt, alloc, input, output, DISPLAY_LIMIT);
+    let status = end.status();
     Served {
-        status: code_of_display(end),
+        status: status.code(),
         journal: Journal::new(alloc),
         first: 0,
         input,
         output,
         net: None,
         volumes,
-        at: number_of_display(end),
+        at: status.number(),
     }
 }
 
@@ -47,14 +46,15 @@ pub(crate) fn audit_journal<M, S: Source, K: Sink, V: Volumes<ServerNote>>(
     ensures { HasAudited S.facts K.facts V.facts input output volumes result }
 {
     let Audited { end, input, output } = audit(alloc, input, output, TEXT_LIMIT);
+    let status = end.status();
     Served {
-        status: code_of_audit(end),
+        status: status.code(),
         journal: Journal::new(alloc),
         first: 0,
         input,
         output,
         net: None,
         volumes,
-        at: number_of_audit(end),
+        at: status.number(),
     }
 }

@@ -7,11 +7,11 @@ ghost use Rattle.logging_server.specs.Commands.{HasDone, IsServe, IsUntouched};
 
 use crate::Served;
 use crate::runs::{run_generated, run_host, run_one, run_replay};
-use crate::statuses::{OUT_OF_MEMORY, USAGE};
 use crate::texts::{audit_journal, display_records};
 use cmd_line::Command;
 use cmd_serve::HostCore;
 use ev_base::{Host, PeerEnd, Sink, Source};
+use exit_status::Status;
 use log_handler::ServerNote;
 use reactor_core::Means;
 use reactor_model::Volumes;
@@ -68,8 +68,8 @@ where
 {
     match Command::of(alloc, words) {
         Ok(Some(command)) => run(rt, alloc, command, host, input, output, volumes),
-        Ok(None) => Served::untouched(alloc, USAGE, input, output, volumes),
-        Err(_) => Served::untouched(alloc, OUT_OF_MEMORY, input, output, volumes),
+        Ok(None) => Served::untouched(alloc, Status::Usage.code(), input, output, volumes),
+        Err(_) => Served::untouched(alloc, Status::NoMemory.code(), input, output, volumes),
     }
 }
 

@@ -1,4 +1,5 @@
-use Rattle.std.proofs.Common.{refl}
+use Rattle.std.proofs.Common.{◌∙◌, ap, refl}
+use Rattle.exit_status.specs.Statuses.{code_of}
 use Rattle.logging_server.proofs.Lefts.{with-codes}
 use Rattle.logging_server.proofs.runs.run_host.Goals as goal
 
@@ -10,5 +11,5 @@ returns g c = record {
   asked = c.serve_host-end.ensures.asked;
   refused = c.serve_host-end.ensures.refused;
   volumes_fault = c.serve_host-end.ensures.volumes;
-  is = with-codes _ _ _ c.code_of_serve.ensures (refl {a = 0});
+  is = with-codes _ _ _ (c.code.ensures ∙ ap code_of c.status.ensures) (refl {a = 0});
 }

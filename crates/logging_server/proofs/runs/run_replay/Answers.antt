@@ -1,3 +1,5 @@
+use Rattle.std.proofs.Common.{◌∙◌, ap}
+use Rattle.exit_status.specs.Statuses.{code_of, number_of}
 use Rattle.logging_server.proofs.Lefts.{with-codes}
 use Rattle.logging_server.proofs.runs.run_replay.Goals as goal
 
@@ -5,5 +7,6 @@ pub returns : goal.returns
 returns g c = record {
   played = c.replay-input.result.played;
   replays = c.replay-input.ensures;
-  is = with-codes _ _ _ c.code_of_replay.ensures c.number_of_replay.ensures;
+  is = with-codes _ _ _ (c.code.ensures ∙ ap code_of c.status-status.ensures)
+      (c.number.ensures ∙ ap number_of c.status-status.ensures);
 }
