@@ -12,7 +12,7 @@ loop-entry-preserved g c =
     grind (arith, c.in-Some-checked_add.ensures) in (
       ap (λ (n : ℕ). drop n c.args.records.now) more ∙ left.1,
       subst (λ (n : ℕ). PutsBefore c.args.conn c.args.event c.args.records.now n
-      (log_of c.args.self.now) (log_of c.put_record.new.self))
-      (sym c.in-Some-checked_add.ensures.1)
-      (c.put_record.ensures c.args.records.now left.0 _ c.loop-entry.invariant.1),
+          (log_of c.args.self.now) (log_of c.put_record.new.self))
+          (sym c.in-Some-checked_add.ensures.1)
+          (c.put_record.ensures c.args.records.now left.0 _ c.loop-entry.invariant.1),
     )
