@@ -1,5 +1,5 @@
 -- That what is put of records are their items.
-use Rattle.std.proofs.Common.{◌≡◌, ◌≤◌, ◌⊎◌, ℕ, List, [], ◌∷◌, ◌++◌, slice_get, Some, refl, sym, ap, ◌∙◌}
+use Rattle.std.proofs.Common.{◌≡◌, ◌≤◌, ◌⊎◌, ℕ, List, [], ◌∷◌, ◌++◌, slice_get, Some, sym, ap, ◌∙◌}
 use Rattle.std.proofs.Common.{subst, ⊎_elim, append_assoc, drop, zero, suc, ◌+◌, arith}
 use Rattle.std.proofs.lemmas.List.{append-nil}
 use Rattle.cdr_record.specs.declared.record.LogRecord.{LogRecord}
