@@ -1,6 +1,6 @@
 -- How a run of the command begins.
-use Rattle.std.proofs.Common.{◌≡◌, ◌≤◌, ◌+◌, ◌^◌, arith, ℕ, Bool, List, [], length, Option, Some, None}
-use Rattle.std.proofs.Common.{refl, sym, ap, ◌∙◌, subst}
+use Rattle.std.proofs.Common.{◌≡◌, arith, ℕ, Bool, List, [], length, Option, Some, None}
+use Rattle.std.proofs.Common.{refl, sym, subst}
 use Rattle.ev_base.specs.Host.{LeavesHostOpen}
 use Rattle.ev_base.specs.Net.{IsNew}
 use Rattle.ev_base.specs.Terms.{Terms}

@@ -1,5 +1,5 @@
 -- From what a run of the server leaves to what the command does.
-use Rattle.std.proofs.Common.{◌≡◌, ◌≤◌, ◌<◌, ◌^◌, ◌⊎◌, inl, inr, ⊎_elim, arith, ℕ, zero, suc, Bool}
+use Rattle.std.proofs.Common.{◌≡◌, ◌≤◌, ◌^◌, ◌⊎◌, inl, inr, arith, ℕ, zero, suc}
 use Rattle.std.proofs.Common.{List, [], ◌∷◌, ◌++◌, length, drop, Option, Some, None, refl, sym, ap}
 use Rattle.std.proofs.Common.{◌∙◌, subst}
 use Rattle.std.proofs.lemmas.List.{drop_all}
@@ -7,7 +7,7 @@ use Rattle.ev_base.specs.Counts.{Rose}
 use Rattle.ev_base.specs.Net.{HasNone, IsNew, NetFacts}
 use Rattle.ev_base.specs.Sink.{SinkFacts}
 use Rattle.ev_base.specs.Terms.{Terms}
-use Rattle.log_handler.specs.sink_buffer.specs.Written.{TookAll, TookFront}
+use Rattle.log_handler.specs.sink_buffer.specs.Written.{TookAll}
 use Rattle.reactor_core.specs.timer_queue.specs.declared.timer.Timer.{Timer}
 use Rattle.reactor_model.specs.reactor_journal.specs.declared.entry.Entry.{Entry}
 use Rattle.reactor_model.specs.reactor_journal.specs.declared.entry.Entry.TheVariants.{Ended}

@@ -2,3 +2,4 @@ pub mod Parsed
 pub mod PutItems
 pub mod Begins
 pub mod Leaves
+pub mod Lines

@@ -1,5 +1,5 @@
 -- That the parser of the command takes the same words as its line, with the same meaning.
-use Rattle.std.proofs.Common.{◌≡◌, ◌∙◌, Bool, true, false, List, [], ◌∷◌, Option, Some, None, refl}
+use Rattle.std.proofs.Common.{◌≡◌, ◌∙◌, Bool, true, false, List, Option, Some, None, refl}
 use Rattle.std.proofs.Common.{ap, codes}
 use Rattle.clap.specs.Words.{App, Row, Text, first_of}
 use Rattle.clap.specs.Walk.{nothing_held}

@@ -1,4 +1,5 @@
 pub mod Words
+pub mod Lines
 pub mod PutItems
 pub mod Starting
 pub mod Leaving

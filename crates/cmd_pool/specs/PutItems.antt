@@ -1,5 +1,5 @@
 -- What is put of the records that an upcall read.
-use Rattle.std.specs.Prelude.{◌≡◌, ℕ, List, [], ◌∷◌, ◌++◌, slice_get, Some}
+use Rattle.std.specs.Prelude.{◌≡◌, ◌≤◌, ◌+◌, ℕ, List, [], ◌∷◌, ◌++◌, slice_get, Some}
 use Rattle.cdr_record.specs.declared.record.LogRecord.{LogRecord}
 use Rattle.log_handler.specs.declared.note.ServerNote.{ServerNote}
 use Rattle.log_handler.specs.declared.note.ServerNote.TheVariants as note
@@ -19,15 +19,21 @@ pub record IsItemOf (conn event : ℕ) (records : List LogRecord) (item : Item) 
   pub event_is : item.event ≡ event
   pub rec_is : slice_get records item.index ≡ Some item.rec
 
-abbrev pub AreItemsOf : ℕ → ℕ → List LogRecord → List (Numbered Item) → Type 0
-AreItemsOf conn event records [] = Unit {0}
-AreItemsOf conn event records (e ∷ es) =
-    IsItemOf conn event records e.item × AreItemsOf conn event records es
+-- items of these records, whose numbers rise from `least` on and are less than `end`
+abbrev pub AreItemsOf : ℕ → ℕ → List LogRecord → ℕ → ℕ → List (Numbered Item) → Type 0
+AreItemsOf conn event records least end [] = least ≤ end
+AreItemsOf conn event records least end (e ∷ es) = IsItemOf conn event records e.item
+    × (least ≤ e.item.index) × AreItemsOf conn event records (e.item.index + 1) end es
 
--- items of these records were put, in any number, and nothing else
+-- items of the first so many of these records were put, each at most once and in order, and nothing
+-- else
+abbrev pub PutsBefore : ℕ → ℕ → List LogRecord → ℕ → Log Item → Log Item → Type 0
+PutsBefore conn event records end old new = (more : List (Numbered Item))
+    × (new ≡ record old { own = old.own ++ more }) × AreItemsOf conn event records 0 end more
+
+-- items of these records were put, each at most once and in order, and nothing else
 abbrev pub PutsSome : ℕ → ℕ → List LogRecord → Log Item → Log Item → Type 0
-PutsSome conn event records old new = (more : List (Numbered Item))
-    × (new ≡ record old { own = old.own ++ more }) × AreItemsOf conn event records more
+PutsSome conn event records old new = (end : ℕ) × PutsBefore conn event records end old new
 
 -- what is put of an upcall's note: items of its records; of another note, nothing
 abbrev pub PutsOf : ServerNote → ℕ → Log Item → Log Item → Type 0

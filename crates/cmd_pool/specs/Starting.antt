@@ -1,5 +1,5 @@
 -- What a run of the command is asked for, and under which terms it runs.
-use Rattle.std.specs.Prelude.{ℕ, ◌^◌, Some, None}
+use Rattle.std.specs.Prelude.{◌^◌, Some, None}
 use Rattle.ev_base.specs.Terms.{Terms, open_terms}
 use Rattle.server_run.specs.declared.asked.Asked.{Asked}
 use Rattle.cmd_pool.specs.declared.words.PoolOptions.{PoolOptions}

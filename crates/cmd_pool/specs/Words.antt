@@ -1,5 +1,5 @@
 -- Which words call the command, and what they ask for.
-use Rattle.std.specs.Prelude.{ℕ, if◌then◌else◌, List, [], ◌∷◌, Option, Some, None, codes, IfSome}
+use Rattle.std.specs.Prelude.{if◌then◌else◌, List, [], ◌∷◌, Option, Some, None, codes, IfSome}
 use Rattle.std.specs.Str.{bytes_eq}
 use Rattle.cmd_line.specs.Given.{Line, Text, given, text_of}
 use Rattle.cmd_line.specs.Lines.{Texts, has_dashes, port_of}

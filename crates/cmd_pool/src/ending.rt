@@ -4,6 +4,7 @@ ghost use Rattle.grouped_lines.specs.laws_script_runs.specs.Connections.{lines_b
 ghost use Rattle.cmd_pool.specs.Leaving.{WritesKept, end_by, unwritten_end};
 ghost use Rattle.cmd_pool.specs.Statuses.{status_of};
 
+use crate::line::Lines;
 use crate::made::MadeLines;
 use chosen_timers::ChosenTimers;
 use ev_base::Sink;
@@ -83,7 +84,7 @@ impl PoolEnd {
 pub(crate) fn leave<M, K: Sink>(
     alloc: Global,
     served: Served<M, ChosenTimers, NoWatch, DropVolumes>,
-    made: &MadeLines,
+    made: Vec<Lines>,
     output: K,
 ) -> PoolServed<M, K>
     ensures net { result.net ≡ Some served.parts.net }
@@ -101,7 +102,8 @@ pub(crate) fn leave<M, K: Sink>(
         volumes: _,
     } = parts;
     let run = PoolEnd::by(ending);
-    let (end, output) = write_kept(alloc, run, first, journal.as_slice(), made, output);
+    let made = MadeLines::of(alloc, made, journal.as_slice());
+    let (end, output) = write_kept(alloc, run, first, journal.as_slice(), &made, output);
     PoolServed {
         end,
         net: Some(net),

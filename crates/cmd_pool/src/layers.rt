@@ -2,7 +2,7 @@
 ghost use Rattle.std.specs.Prelude.{◌≡◌, ◌<◌, ◌≤◌, ◌+◌, length, IfOk};
 ghost use Rattle.task_server.specs.Calls.{pool_id, put_log, putter_pool, take_log, taker_pool};
 
-use crate::made::MadeLines;
+use crate::line::Lines;
 use crate::making::LineMaker;
 use crate::putter::RecordPutter;
 use ev_base::NoMemory;
@@ -112,12 +112,12 @@ pub(crate) fn gather<R: Threads + Wait>(
     alloc: Global,
     seats: Vec<Seat<LineMaker>>,
     last: Writer<LineMaker>,
-) -> MadeLines {
-    let mut made = MadeLines::none(alloc);
-    made.add_all(last.run(rt).into_lines());
+) -> Vec<Lines> {
+    let mut made = Vec::new(alloc);
+    last.run(rt).move_lines(&mut made);
     for seat in seats {
         if let Some(maker) = seat.finish(rt) {
-            made.add_all(maker.into_lines());
+            maker.move_lines(&mut made);
         }
     }
     made

@@ -8,6 +8,7 @@ mod line;
 mod made;
 mod making;
 mod observing;
+mod places;
 mod putter;
 mod putting;
 mod serving;

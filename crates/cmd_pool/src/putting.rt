@@ -1,11 +1,11 @@
 //! How a worker's records are put.
-ghost use Rattle.std.specs.Prelude.{◌≡◌, ◌⊎◌, IfOk, List, Some, slice_get};
+ghost use Rattle.std.specs.Prelude.{◌≡◌, ◌⊎◌, ◌+◌, IfOk, List, Some, slice_get};
 ghost use Rattle.cdr_record.specs.Borrowed.{owned};
 ghost use Rattle.cdr_record.specs.declared.record.LogRecord.{LogRecord as RecordOf};
 ghost use Rattle.task_server.specs.Calls.{HasPut};
 ghost use Rattle.task_server.specs.declared.item.Item.{Item as ItemOf};
 ghost use Rattle.task_server.specs.declared.rule.Log.{Log};
-ghost use Rattle.cmd_pool.specs.PutItems.{PutsSome, log_of};
+ghost use Rattle.cmd_pool.specs.PutItems.{PutsBefore, PutsSome, log_of};
 
 use crate::putter::RecordPutter;
 use cdr_record::{Bytes, LogRecord, RecordRef};
@@ -15,8 +15,8 @@ use std::sync::Wait;
 use task_server::Item;
 
 impl<R: Wait> RecordPutter<R> {
-    /// Puts copies of the records of an event. A record is left out if there is no memory for its
-    /// copy, or no place in the queue.
+    /// Puts copies of the records of an event, each at most once and in order, and tells the
+    /// writers. A record is left out if there is no memory for its copy, or no place in the queue.
     pub(crate) fn put_records(&mut self, conn: u64, event: u64, records: &LoggedRecords)
         ensures { PutsSome conn event records.now (log_of self.old) (log_of self.new) }
     {
@@ -26,16 +26,19 @@ impl<R: Wait> RecordPutter<R> {
             self.put_record(conn, event, index, entry);
             match index.checked_add(1) {
                 Some(next) => index = next,
-                None => return,
+                None => break,
             }
+        }
+        if records.len() > 0 {
+            self.shared.ring();
         }
     }
 
     /// Puts a copy of a record that has this number among the records of an event.
     fn put_record(&mut self, conn: u64, event: u64, index: u64, entry: RecordRef<'_>)
         ensures { (records : List RecordOf) → slice_get records index ≡ Some (owned entry.entry)
-            → (first : Log ItemOf) → PutsSome conn event records first (log_of self.old)
-            → PutsSome conn event records first (log_of self.new) }
+            → (first : Log ItemOf) → PutsBefore conn event records index first (log_of self.old)
+            → PutsBefore conn event records (index + 1) first (log_of self.new) }
     {
         if let Ok(rec) = copy_of(self.alloc, entry) {
             self.put(Item {

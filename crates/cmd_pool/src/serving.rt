@@ -116,5 +116,5 @@ fn serve_given<
     let served = serve_observed(rt, alloc, asked, ground, waker, &mut root, &mut hired);
     shared.end();
     let made = gather(rt, alloc, seats, last);
-    leave(alloc, served, &made, output)
+    leave(alloc, served, made, output)
 }

@@ -1,5 +1,5 @@
 //! What the workers and the writers of a pool share.
-ghost use Rattle.std.specs.Prelude.{◌≡◌, ◌⊎◌, IfOk, MatchOption};
+ghost use Rattle.std.specs.Prelude.{◌≡◌, true, false, IfOk, MatchOption};
 ghost use Rattle.task_server.specs.Calls.{HasPut, HasTaken, pool_id, put_log, putter_pool};
 ghost use Rattle.task_server.specs.Calls.{take_log, taker_pool};
 
@@ -39,16 +39,15 @@ impl Shared {
         })
     }
 
-    /// Puts an item, and wakes a writer. If the queue is full the item is dropped.
-    pub fn put<R: Wait>(&self, rt: &R, putter: &mut Putter<Item>, item: Item)
+    /// Puts an item, and tells whether it did: if the queue is full the item is dropped. The writers
+    /// are told by `ring`.
+    pub fn put<R: Wait>(&self, rt: &R, putter: &mut Putter<Item>, item: Item) -> bool
         requires { putter_pool putter.old ≡ pool_id self.now.pool }
         ensures pool { putter_pool putter.new ≡ putter_pool putter.old }
-        ensures put { HasPut (put_log putter.old) item (put_log putter.new)
-            ⊎ (put_log putter.new ≡ put_log putter.old) }
+        ensures put { result ≡ true → HasPut (put_log putter.old) item (put_log putter.new) }
+        ensures full { result ≡ false → put_log putter.new ≡ put_log putter.old }
     {
-        if self.pool.put(rt, putter, item).is_ok() {
-            self.ring();
-        }
+        self.pool.put(rt, putter, item).is_ok()
     }
 
     /// Takes the first item, if there is one.
@@ -90,9 +89,9 @@ impl Shared {
         }
     }
 
-    /// Rings all doorbells, so that no writer falls asleep before it has looked again, and wakes one
-    /// that sleeps.
-    fn ring(&self) {
+    /// Tells the writers that items were put: rings all doorbells, so that no writer falls asleep
+    /// before it has looked again, and wakes one that sleeps.
+    pub fn ring(&self) {
         for bell in &self.bells {
             bell.ring();
         }

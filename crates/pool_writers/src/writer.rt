@@ -52,13 +52,15 @@ impl<S: Service> Writer<S> {
             number,
             mut service,
         } = self;
+        // Behind a take that found none the count and the end are read before the next take, so that
+        // no item that was put before them is passed over.
+        let mut looked = None;
         for _ in rt.forever() {
-            let count = shared.count(number);
-            let ended = shared.is_ended();
-            match shared.take(rt, &mut taker) {
-                Some(item) => service.serve(rt, item),
-                None if ended => return service,
-                None => shared.rest(rt, number, count),
+            match (shared.take(rt, &mut taker), looked.take()) {
+                (Some(item), _) => service.serve(rt, item),
+                (None, None) => looked = Some((shared.count(number), shared.is_ended())),
+                (None, Some((_, true))) => return service,
+                (None, Some((count, false))) => shared.rest(rt, number, count),
             }
         }
         unreachable!()

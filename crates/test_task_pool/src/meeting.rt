@@ -75,7 +75,9 @@ fn put_two<R: Wait>(
     ensures { putter_pool putter.new ≡ putter_pool putter.old }
 {
     shared.put(rt, putter, item(alloc, 0)?);
+    shared.ring();
     shared.put(rt, putter, item(alloc, 1)?);
+    shared.ring();
     Ok(())
 }
 

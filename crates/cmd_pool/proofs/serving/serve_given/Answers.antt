@@ -1,6 +1,6 @@
 use denote.Exit.{no}
 use denote.Param.Send.{arg_send, param_send, sendable}
-use Rattle.std.proofs.Common.{rules, refl, ap, ◌∙◌}
+use Rattle.std.proofs.Common.{rules, ap, ◌∙◌}
 use Rattle.chosen_timers.proofs.ChosenTimers.TheSendSync as timers
 use Rattle.server_run.specs.declared.asked.Asked.{Asked}
 use Rattle.cmd_pool.proofs.putter.RecordPutter.TheSendSync as putters

@@ -1,5 +1,5 @@
 use Rattle.std.proofs.Common.{◌∙◌, List, Option, map, string_bytes, subst}
-use Rattle.clap.specs.Words.{App, Text, app_of, found_of, rows_of}
+use Rattle.clap.specs.Words.{App, Text, found_of, rows_of}
 use Rattle.clap.specs.declared.parser.matches.ArgMatches.{ArgMatches}
 use Rattle.cmd_line.specs.Parse.{Parses}
 use Rattle.cmd_line.proofs.Letters.{are_words}

@@ -1,5 +1,5 @@
 use Rattle.std.proofs.Common.{[]}
-use Rattle.cmd_pool.proofs.line.text_of.Goals as goal
+use Rattle.cmd_pool.proofs.making.line_in.Goals as goal
 
 pub returns : goal.returns
 returns c = rw (← c.borrowed.ensures) (c.into_bytes.ensures.text _ _
