@@ -2,22 +2,16 @@
 use Rattle.std.specs.Prelude.{◌≡◌, ◌∷◌, Bool, true, false, List, [], Option, Some, None}
 use Rattle.std.specs.Prelude.{map, codes}
 use Rattle.std.specs.String.{string_bytes}
-use Rattle.std.specs.Str.{bytes_eq}
 use Rattle.std.specs.Net.Addr.{ipv4_octets}
 use Rattle.std.specs.Net.Grammar.{IsIpText}
 use Rattle.std.specs.declared.net.ip_addr.IpAddr.{IpAddr}
 use Rattle.std.specs.declared.net.ip_addr.IpAddr.TheVariants.{V4, V6}
 use Rattle.cmd_line.specs.Given.{Entry, Line, Text, given, has_flag, text_of}
+use Rattle.help_words.specs.Asking.{is_only}
 use Rattle.program_words.specs.Parting.{left_over, taken_off, takes_of}
 use Rattle.program_words.specs.declared.called.Own.{Own}
 use Rattle.program_words.specs.declared.called.Called.{Called}
 use Rattle.program_words.specs.declared.called.Called.TheVariants as called
-
--- the words are this word alone
-abbrev pub is_only : Text → List Text → Bool
-is_only text [] = false
-is_only text (word ∷ []) = bytes_eq word text
-is_only text (word ∷ other ∷ rest) = false
 
 -- ---- the program's own options
 

@@ -5,7 +5,8 @@ ghost use Rattle.clap.specs.Words.{app_of, rule_of};
 ghost use Rattle.cmd_line.specs.Given.{given, has_flag};
 ghost use Rattle.cmd_line.specs.Lines.{has_dashes};
 ghost use Rattle.cmd_line.specs.Parse.{flag, parser_of, text_in};
-ghost use Rattle.program_words.specs.Calling.{Calls, ReadsOwn, Says, SaysNone, is_only, own_line};
+ghost use Rattle.help_words.specs.Asking.{is_only};
+ghost use Rattle.program_words.specs.Calling.{Calls, ReadsOwn, Says, SaysNone, own_line};
 
 use crate::address::read_address;
 use crate::parting::{Parted, part};
@@ -13,6 +14,7 @@ use crate::takes::takes_of;
 use clap::{Arg, ArgAction, ArgMatches, Command};
 use cmd_line::{option, parse_words, text_of};
 use ev_types::NoMemory;
+use help_words::is_only;
 use std::alloc::{AllocError, Global};
 use std::net::IpAddr;
 
@@ -61,16 +63,6 @@ pub fn call_of(alloc: Global, words: Vec<String>) -> Result<Option<Called>, NoMe
         Ok(Some(Called::Version))
     } else {
         take_off(alloc, words)
-    }
-}
-
-// Whether the words are this word alone.
-fn is_only(words: &[String], text: &str) -> bool
-    ensures { result ≡ is_only text.now (map string_bytes words.now) }
-{
-    match words {
-        [word] => word.as_str() == text,
-        _ => false,
     }
 }
 
