@@ -23,7 +23,7 @@ use Rattle.cmd_replay.specs.server_run.specs.declared.ending.Ending.TheVariants 
 use Rattle.log_handler.specs.sink_buffer.specs.Written.{TakesAll, BreaksOff}
 use Rattle.cmd_gen.specs.Asking.{asked_for, terms_for}
 use Rattle.cmd_gen.specs.Generating.{RunsGenerated}
-use Rattle.cmd_gen.specs.Summing.{Writes, full_lines, summary_lines}
+use Rattle.cmd_gen.specs.Summing.{LeavesText, full_lines, summary_lines}
 use Rattle.cmd_gen.specs.declared.ends.Generated.{Generated}
 use Rattle.cmd_gen.specs.declared.ends.GenerateEnd.{GenerateEnd}
 use Rattle.cmd_gen.specs.declared.ends.GenerateEnd.TheVariants as end
@@ -71,7 +71,8 @@ module _ {K V : Type 0} {G : Ghosts ScriptEnd} (facts : V → VolumesFacts Serve
   -- what was written of the summary is written of the lines that are known
   pub writes-full : (ended : GenerateEnd) (o p : SinkFacts)
       → RunsGenerated G facts n seed v left ended
-      → Writes ended o (summary_lines left.journal.entries) p → Writes ended o (full_lines n seed) p
+      → LeavesText ended o (summary_lines left.journal.entries) p
+      → LeavesText ended o (full_lines n seed) p
   writes-full end.Done o p r writes =
       subst (λ (text : List ℕ). TakesAll o text p) (held-full end.Done r r.ends) writes
   writes-full end.WriteFault o p r writes =

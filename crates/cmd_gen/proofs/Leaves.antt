@@ -31,7 +31,7 @@ use Rattle.cmd_replay.specs.server_run.specs.declared.ending.Ending.TheVariants 
 use Rattle.cmd_replay.specs.server_run.specs.declared.ending.Served.{Served}
 use Rattle.cmd_gen.specs.Asking.{asked_for, terms_for}
 use Rattle.cmd_gen.specs.Generating.{Generates, RunsGenerated}
-use Rattle.cmd_gen.specs.Summing.{EndsAs}
+use Rattle.cmd_gen.specs.Summing.{EndsSummary}
 use Rattle.cmd_gen.specs.declared.ends.Generated.{Generated}
 use Rattle.cmd_gen.specs.declared.ends.GenerateEnd.{GenerateEnd}
 use Rattle.cmd_gen.specs.declared.ends.GenerateEnd.TheVariants as end
@@ -90,7 +90,7 @@ module _ {V : Type 0} {G : Ghosts ScriptEnd} (facts : V → VolumesFacts ServerN
       r.run) is r.ends)
 
   pub runs-generated : {K : Type 0} (ended : GenerateEnd) (output : K)
-      → EndsAs ended served.ending served.parts.first
+      → EndsSummary ended served.ending served.parts.first
       → (served.ending ≡ ending.VolumeFault → Rose v.faults (facts served.parts.volumes).faults)
       → RunsGenerated G facts n seed v (record {
         end = ended;
@@ -105,7 +105,8 @@ module _ {V : Type 0} {G : Ghosts ScriptEnd} (facts : V → VolumesFacts ServerN
     is = l.is;
     ran = l.ran;
     ends = ends;
-    rose = λ is. rose (subst (λ (e : GenerateEnd). EndsAs e served.ending served.parts.first) is
+    rose = λ is. rose (subst (λ (e : GenerateEnd). EndsSummary e served.ending served.parts.first)
+        is
         ends);
   }
 

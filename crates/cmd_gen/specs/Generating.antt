@@ -11,13 +11,13 @@ use Rattle.cmd_replay.specs.Leading.{unwatched}
 use Rattle.cmd_replay.specs.Runs.{IsHeld, RanSo}
 use Rattle.cmd_replay.specs.server_run.specs.declared.ending.Ending.{Ending}
 use Rattle.cmd_gen.specs.Asking.{asked_for, terms_for}
-use Rattle.cmd_gen.specs.Summing.{EndsAs}
+use Rattle.cmd_gen.specs.Summing.{EndsSummary}
 use Rattle.cmd_gen.specs.declared.ends.Generated.{Generated}
 use Rattle.cmd_gen.specs.declared.ends.GenerateEnd.{GenerateEnd}
 use Rattle.cmd_gen.specs.declared.ends.GenerateEnd.TheVariants as end
 
 -- nothing was served: there is no journal, and the output and the volumes are as they were
-pub record IsUnserved {K V : Type 0} (output : K) (volumes : V) (left : Generated K V) : Type 0
+pub record IsUngenerated {K V : Type 0} (output : K) (volumes : V) (left : Generated K V) : Type 0
   where
     pub journal : left.journal.entries ≡ []
     pub first : left.first ≡ 0
@@ -36,7 +36,7 @@ pub record RunsGenerated {K V : Type 0} (G : Ghosts ScriptEnd) (facts : V → Vo
       left.journal.entries journal
   pub ran : RanSo G (unwatched G facts) (terms_for n seed v) (asked_for n) (generated n seed) how
       journal
-  pub ends : EndsAs ended how left.first
+  pub ends : EndsSummary ended how left.first
   pub rose : ended ≡ end.VolumeFault → Rose v.faults (facts left.volumes).faults
 
 module _ {K V : Type 0} (G : Ghosts ScriptEnd) (facts : V → VolumesFacts ServerNote) (n seed : ℕ)
@@ -44,6 +44,6 @@ module _ {K V : Type 0} (G : Ghosts ScriptEnd) (facts : V → VolumesFacts Serve
     -- what each ending says: only for want of memory was nothing served
     abbrev pub Generates : K → V → Generated K V → GenerateEnd → Type 0
     Generates output volumes left end.NoMemory =
-        IsUnserved output volumes left ⊎ RunsGenerated G facts n seed (facts volumes) left
+        IsUngenerated output volumes left ⊎ RunsGenerated G facts n seed (facts volumes) left
         end.NoMemory
     Generates output volumes left ended = RunsGenerated G facts n seed (facts volumes) left ended

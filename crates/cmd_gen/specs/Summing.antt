@@ -27,23 +27,24 @@ full_lines n seed = four_lines n (125 * n) (all_bytes (steps_of (generated n see
 
 -- What was written of some lines, by how it ended: all of them, a front of them where a write
 -- failed, and else nothing.
-abbrev pub Writes : GenerateEnd → SinkFacts → List ℕ → SinkFacts → Type 0
-Writes end.Done o text p = TakesAll o text p
-Writes end.WriteFault o text p = BreaksOff o text p
-Writes end.NoMemory o text p = p ≡ o
-Writes end.VolumeFault o text p = p ≡ o
+abbrev pub LeavesText : GenerateEnd → SinkFacts → List ℕ → SinkFacts → Type 0
+LeavesText end.Done o text p = TakesAll o text p
+LeavesText end.WriteFault o text p = BreaksOff o text p
+LeavesText end.NoMemory o text p = p ≡ o
+LeavesText end.VolumeFault o text p = p ≡ o
 
 -- How it ended, by how its run did, which handed so many entries over: a summary is made where
 -- nothing could be reported any more, and of a whole journal alone.
-abbrev pub EndsAs : GenerateEnd → Ending → ℕ → Type 0
-EndsAs end.Done how first = (how ≡ ending.Over) × (first ≡ 0)
-EndsAs end.WriteFault how first = (how ≡ ending.Over) × (first ≡ 0)
-EndsAs end.NoMemory how first = (how ≡ ending.Over → 1 ≤ first) × (how ≡ ending.VolumeFault → ⊥)
-EndsAs end.VolumeFault how first = how ≡ ending.VolumeFault
+abbrev pub EndsSummary : GenerateEnd → Ending → ℕ → Type 0
+EndsSummary end.Done how first = (how ≡ ending.Over) × (first ≡ 0)
+EndsSummary end.WriteFault how first = (how ≡ ending.Over) × (first ≡ 0)
+EndsSummary end.NoMemory how first =
+    (how ≡ ending.Over → 1 ≤ first) × (how ≡ ending.VolumeFault → ⊥)
+EndsSummary end.VolumeFault how first = how ≡ ending.VolumeFault
 
 -- how it ended where a run ended so, which left these entries and handed so many over, and what was
 -- written of their summary
 pub record WritesSummary (how : Ending) (first : ℕ) (o : SinkFacts)
     (entries : List (Entry ServerNote)) (ended : GenerateEnd) (p : SinkFacts) : Type 0 where
-  pub ends : EndsAs ended how first
-  pub writes : Writes ended o (summary_lines entries) p
+  pub ends : EndsSummary ended how first
+  pub writes : LeavesText ended o (summary_lines entries) p

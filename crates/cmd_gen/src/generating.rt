@@ -1,8 +1,8 @@
 //! The command `logd gen`.
 ghost use Rattle.std.specs.Prelude.{◌≡◌, ◌≤◌};
 ghost use Rattle.laws_gen.specs.laws_script_runs.specs.Connections.{HadMemory};
-ghost use Rattle.cmd_gen.specs.Generating.{Generates, IsUnserved};
-ghost use Rattle.cmd_gen.specs.Summing.{Writes, full_lines, summary_lines};
+ghost use Rattle.cmd_gen.specs.Generating.{Generates, IsUngenerated};
+ghost use Rattle.cmd_gen.specs.Summing.{LeavesText, full_lines, summary_lines};
 
 use crate::preparing::{asked_for, prepare};
 use crate::summing::sum_up;
@@ -36,9 +36,9 @@ pub fn generate<R: Threads + Wait + Sync, K: Sink, V: Volumes<ServerNote> + Send
     requires seed { seed ≤ 4294967295 }
     ensures run { Generates ⟦<ScriptEnd as PeerEnd>⟧ V.facts connections seed output volumes result
         result.end }
-    ensures written { Writes result.end (K.facts output) (summary_lines result.journal.entries)
+    ensures written { LeavesText result.end (K.facts output) (summary_lines result.journal.entries)
         (K.facts result.output) }
-    ensures known { HadMemory result.journal.entries → Writes result.end (K.facts output)
+    ensures known { HadMemory result.journal.entries → LeavesText result.end (K.facts output)
         (full_lines connections seed) (K.facts result.output) }
 {
     let (script, timers) = match prepare(alloc, connections, seed) {
@@ -68,7 +68,7 @@ pub fn generate<R: Threads + Wait + Sync, K: Sink, V: Volumes<ServerNote> + Send
 /// What is left where there was no memory before anything was served.
 fn unserved<K, V>(alloc: Global, output: K, volumes: V) -> Generated<K, V>
     ensures end { result.end ≡ GenerateEnd.NoMemory }
-    ensures unserved { IsUnserved output volumes result }
+    ensures unserved { IsUngenerated output volumes result }
 {
     Generated {
         end: GenerateEnd::NoMemory,

@@ -29,7 +29,7 @@ pooled_by served = record {
 }
 
 -- No run was begun: there is no net and no journal, and nothing was written. The host is as before.
-pub record IsIdle {M K : Type 0} (output : K) (faults : ℕ × ℕ) (ports : List ℕ × List ℕ)
+pub record HasNoRun {M K : Type 0} (output : K) (faults : ℕ × ℕ) (ports : List ℕ × List ℕ)
     (pooled : Pooled M K) : Type 0 where
   pub net : pooled.net ≡ None
   pub journal : pooled.journal.entries ≡ []

@@ -1,7 +1,7 @@
 //! The top call of the command.
 ghost use Rattle.std.specs.Prelude.{◌≡◌, ◌⊎◌, [], None, Some, map};
 ghost use Rattle.std.specs.String.{string_bytes};
-ghost use Rattle.cmd_pool.specs.Statuses.{IsIdle, RunsCommand, pooled_by};
+ghost use Rattle.cmd_pool.specs.Statuses.{HasNoRun, RunsCommand, pooled_by};
 ghost use Rattle.cmd_pool.specs.Words.{pool_of};
 ghost use Rattle.cmd_pool.specs.declared.words.PoolOptions.{PoolOptions as OptionsOf};
 
@@ -59,12 +59,12 @@ where
     H::Net: Send,
     H::Waker: Drop + Sync,
     ensures usage { pool_of (map string_bytes words.now) ≡ None
-        → ((result.status ≡ 1) ⊎ (result.status ≡ 6)) × IsIdle output
+        → ((result.status ≡ 1) ⊎ (result.status ≡ 6)) × HasNoRun output
         (H.faults host.old, H.faults host.new) (H.ports host.old, H.ports host.new) result }
     ensures runs { (options : OptionsOf) → pool_of (map string_bytes words.now) ≡ Some options
         → RunsCommand ⟦<PoolCore<H::End, H::Net> as Means>⟧.m K.facts options (K.facts output)
         (H.faults host.old, H.faults host.new) (H.ports host.old, H.ports host.new) result
-        ⊎ ((result.status ≡ 6) × IsIdle output
+        ⊎ ((result.status ≡ 6) × HasNoRun output
         (H.faults host.old, H.faults host.new) (H.ports host.old, H.ports host.new) result) }
 {
     match read_words(alloc, words) {

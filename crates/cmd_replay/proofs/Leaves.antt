@@ -48,7 +48,7 @@ use Rattle.laws_journal_length.specs.laws_one_worker.proofs.Whole.{serial}
 use Rattle.laws_journal_length.specs.Few.{all_bytes, quiet_groups}
 use Rattle.laws_journal_length.proofs.Short.{short}
 use Rattle.server_run.specs.tp_reactor.specs.declared.working.Ran.TheVariants as ran
-use Rattle.server_run.specs.Journals.{IsRun, EndsAtOver, EndsSo, HasNotices, WindsUp, BeginsSo}
+use Rattle.server_run.specs.Journals.{IsRun, EndsAtNetOver, EndsSo, HasNotices, WindsUp, BeginsSo}
 use Rattle.server_run.specs.Journals.{first_entry}
 use Rattle.server_run.specs.Served.{LeavesRun, HasLed, HasNoLead, IsUnmade, MayBeUnmade}
 use Rattle.server_run.specs.Served.{MayLackLead, ending_of, FaultRose}
@@ -218,7 +218,7 @@ module _ {G : Ghosts ScriptEnd} {W V Q : Type 0} (shows : ReactorState Q → Sum
           (ap (λ (l : List (Entry ServerNote)). follows_ready (past_of l)) (sym none) ∙ behind)))
           (λ b. b) begins
 
-      ended-over : EndsAtOver (script_net_facts net) r.run r.closing
+      ended-over : EndsAtNetOver (script_net_facts net) r.run r.closing
           → EndsWithOver G t l.journal net
       ended-over e = record {
         run = r.run;

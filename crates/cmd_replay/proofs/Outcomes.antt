@@ -22,10 +22,10 @@ use Rattle.server_run.specs.declared.ending.Ending.{Ending}
 use Rattle.server_run.specs.declared.ending.Ending.TheVariants as ending
 use Rattle.log_handler.specs.sink_buffer.specs.Written.{TookAll}
 use Rattle.cmd_replay.specs.Leading.{unwatched, with_lines, with_text}
-use Rattle.cmd_replay.specs.Outputs.{Writes, text_in}
-use Rattle.cmd_replay.specs.Replays.{EndsAs, RanIn, RunsScript, terms_in}
+use Rattle.cmd_replay.specs.Outputs.{WritesText, text_in}
+use Rattle.cmd_replay.specs.Replays.{EndsReplay, RanIn, RunsScript, terms_in}
 use Rattle.cmd_replay.specs.Runs.{RanSo}
-use Rattle.cmd_replay.specs.Replaying.{IsUnserved, ReplaysText, ServesText}
+use Rattle.cmd_replay.specs.Replaying.{IsUnplayed, ReplaysText, ServesText}
 use Rattle.cmd_replay.specs.declared.ends.Played.{Played}
 use Rattle.cmd_replay.specs.declared.ends.ReplayEnd.{ReplayEnd}
 use Rattle.cmd_replay.specs.declared.ends.ReplayEnd.TheVariants as end
@@ -35,7 +35,8 @@ took-none : (o : SinkFacts) → TookAll o [] o
 took-none o = record { text = λ start told. told ∙ ap Some (sym (append-nil start)); faults = refl }
 
 wrote-none : (form : Form) (most : ℕ) (o : SinkFacts)
-    → Writes form end.NoMemory o (text_in form most []) o
+    → WritesText form end.NoMemory o
+    (text_in form most []) o
 wrote-none Plain most o = took-none o
 wrote-none Grouped most o = refl
 wrote-none Journal most o = took-none o
@@ -84,7 +85,7 @@ unled-in G sink facts Journal t asked groups = unled (with_text G sink facts) t 
 pub runs-none : {K V : Type 0} {G : Ghosts ScriptEnd} (sink : K → SinkFacts)
     (facts : V → VolumesFacts ServerNote) (form : Form) (asked : Asked) (groups : List ScriptGroup)
     (output : K) (volumes : V) (played : Played K V)
-    → played.end ≡ end.NoMemory → IsUnserved output volumes played
+    → played.end ≡ end.NoMemory → IsUnplayed output volumes played
     → RunsScript G sink facts form asked groups (sink output) (facts volumes) played
 runs-none {K} {V} {G} sink facts form asked groups output volumes played is u =
     let o = sink output in
@@ -104,11 +105,13 @@ runs-none {K} {V} {G} sink facts form asked groups output volumes played is u =
             (λ some. absurd (omega (arith, some)));
       };
       ran = unled-in G sink facts form t asked groups;
-      ends = subst (λ (e : ReplayEnd). EndsAs e ending.NoMemory v.faults
+      ends = subst (λ (e : ReplayEnd). EndsReplay e ending.NoMemory v.faults
           (facts played.volumes).faults) (sym is) not-failed;
       written = subst (λ (e : ReplayEnd).
-          Writes form e o (text_in form (asked.connections + 1) []) (sink played.output)) (sym is)
-          (subst (λ (k : K). Writes form end.NoMemory o (text_in form (asked.connections + 1) [])
+          WritesText form e o (text_in form (asked.connections + 1) []) (sink played.output))
+          (sym is)
+          (subst (λ (k : K). WritesText form end.NoMemory o
+          (text_in form (asked.connections + 1) [])
           (sink k)) (sym u.output_is) (wrote-none form (asked.connections + 1) o));
     }
 
@@ -116,7 +119,7 @@ runs-none {K} {V} {G} sink facts form asked groups output volumes played is u =
 pub served-so : {K V : Type 0} {G : Ghosts ScriptEnd} (sink : K → SinkFacts)
     (facts : V → VolumesFacts ServerNote) (options : Options) (text : List ℕ) (output : K)
     (volumes : V) (played : Played K V) (ended : ReplayEnd) (how : Ending) (before now : ℕ)
-    → EndsAs ended how before now → ServesText G sink facts options text output volumes played
+    → EndsReplay ended how before now → ServesText G sink facts options text output volumes played
     → ReplaysText G sink facts options text output volumes played ended
 served-so sink facts options text output volumes played end.Done how before now ends served = served
 served-so sink facts options text output volumes played end.WriteFault how before now ends served =

@@ -34,9 +34,9 @@ use Rattle.server_run.specs.declared.ending.Ending.{Ending}
 use Rattle.server_run.specs.declared.ending.Ending.TheVariants as ending
 use Rattle.server_run.specs.declared.ending.Served.{Served}
 use Rattle.log_handler.specs.sink_buffer.specs.Written.{TookAll, TookFront}
-use Rattle.cmd_replay.specs.Outputs.{Writes, WritesBehind, text_in}
+use Rattle.cmd_replay.specs.Outputs.{WritesText, WritesBehind, text_in}
 use Rattle.cmd_replay.specs.Playing.{CanPlay, terms_of_content}
-use Rattle.cmd_replay.specs.Replays.{EndsAs, IsOfText, RanIn, RunsScript, WritesHeld, end_by}
+use Rattle.cmd_replay.specs.Replays.{EndsReplay, IsOfText, RanIn, RunsScript, WritesHeld, end_by}
 use Rattle.cmd_replay.specs.Replays.{terms_in}
 use Rattle.cmd_replay.specs.Runs.{FailsNet, ForScript, LeavesScript}
 use Rattle.cmd_replay.specs.declared.ends.Kept.{Kept}
@@ -211,7 +211,7 @@ rose-kept {M} {Q} {W} {V} facts before served kept is rose =
 -- ---- the end
 
 pub ends-as : (broken : Bool) (how : Ending) (before now : ℕ) → (FailsNet how → ⊥)
-    → (how ≡ ending.VolumeFault → Rose before now) → EndsAs (end_by broken how) how before now
+    → (how ≡ ending.VolumeFault → Rose before now) → EndsReplay (end_by broken how) how before now
 ends-as true how before now steady rose = tt
 ends-as false ending.Over before now steady rose = inl refl
 ends-as false ending.Notified before now steady rose = inr refl
@@ -239,8 +239,8 @@ pub runs-script : {K W V Q : Type 0} {G : Ghosts ScriptEnd}
     (l : LeavesScript G m (terms_in form asked groups o v) asked groups served)
     → RanIn G sink m.volumes form (terms_in form asked groups o v) asked groups served.ending
     l.journal
-    → EndsAs how served.ending v.faults (m.volumes served.parts.volumes).faults
-    → Writes form how o (text_in form (asked.connections + 1) l.journal) (sink output)
+    → EndsReplay how served.ending v.faults (m.volumes served.parts.volumes).faults
+    → WritesText form how o (text_in form (asked.connections + 1) l.journal) (sink output)
     → RunsScript G sink m.volumes form asked groups o v (played_of served how output)
 runs-script {K} {W} {V} {Q} {G} m sink form asked groups o v served how output l ran ends
     written = record {
@@ -263,7 +263,7 @@ behind-done : (how : Ending) (first : ℕ) (o : SinkFacts) (entries journal : Li
     (now : ReplayEnd) (p : SinkFacts) (before after : ℕ) → (how ≡ ending.Over)
     ⊎ (how ≡ ending.Notified)
     → entries ≡ drop first journal → WritesHeld end.Done first o (lines_by_connection entries) now p
-    → EndsAs now how before after × WritesBehind now o (lines_by_connection journal) p
+    → EndsReplay now how before after × WritesBehind now o (lines_by_connection journal) p
 behind-done how first o entries journal end.Done p before after ended are w = (
   ended,
   subst (λ (es : List (Entry ServerNote)). TookAll o (lines_by_connection es) p)
@@ -282,11 +282,11 @@ behind-done how first o entries journal end.TooLong p before after ended are w =
 behind-done how first o entries journal end.VolumeFault p before after ended are w = absurd w
 
 behind-fault : (run : ReplayEnd) (how : Ending) (o : SinkFacts) (text : List ℕ) (now : ReplayEnd)
-    (p : SinkFacts) (before after : ℕ) → EndsAs run how before after → WritesBehind run o text o
+    (p : SinkFacts) (before after : ℕ) → EndsReplay run how before after → WritesBehind run o text o
     → now ≡ run → p ≡ o
-    → EndsAs now how before after × WritesBehind now o text p
+    → EndsReplay now how before after × WritesBehind now o text p
 behind-fault run how o text now p before after ends writes is same = (
-  subst (λ (e : ReplayEnd). EndsAs e how before after) (sym is) ends,
+  subst (λ (e : ReplayEnd). EndsReplay e how before after) (sym is) ends,
   subst (λ (q : SinkFacts). WritesBehind now o text q) (sym same)
       (subst (λ (e : ReplayEnd). WritesBehind e o text o) (sym is) writes),
 )
@@ -295,7 +295,7 @@ pub writes-behind : (how : Ending) (first : ℕ) (o : SinkFacts)
     (entries journal : List (Entry ServerNote)) (now : ReplayEnd) (p : SinkFacts) (before after : ℕ)
     → (FailsNet how → ⊥) → (how ≡ ending.VolumeFault → Rose before after)
     → entries ≡ drop first journal → WritesHeld (end_by false how) first o
-    (lines_by_connection entries) now p → EndsAs now how before after
+    (lines_by_connection entries) now p → EndsReplay now how before after
     × WritesBehind now o (lines_by_connection journal) p
 writes-behind ending.Over first o entries journal now p before after steady rose are w =
     behind-done ending.Over first o entries journal now p before after (inl refl) are w

@@ -33,7 +33,7 @@ WritesBehind end.WriteFault o text p = TookFront o text p
 WritesBehind _ o text p = p ≡ o
 
 -- text that is grouped is made of the whole journal, and so is written behind the run
-abbrev pub Writes : Form → ReplayEnd → SinkFacts → List ℕ → SinkFacts → Type 0
-Writes Plain ended o text p = WritesAlong ended o text p
-Writes Grouped ended o text p = WritesBehind ended o text p
-Writes Journal ended o text p = WritesAlong ended o text p
+abbrev pub WritesText : Form → ReplayEnd → SinkFacts → List ℕ → SinkFacts → Type 0
+WritesText Plain ended o text p = WritesAlong ended o text p
+WritesText Grouped ended o text p = WritesBehind ended o text p
+WritesText Journal ended o text p = WritesAlong ended o text p

@@ -17,7 +17,7 @@ use Rattle.cmd_replay.specs.declared.ends.ReplayEnd.{ReplayEnd}
 use Rattle.cmd_replay.specs.declared.ends.ReplayEnd.TheVariants as end
 
 -- nothing was served: there is no journal, and the output and the volumes are as they were
-pub record IsUnserved {K V : Type 0} (output : K) (volumes : V) (played : Played K V) : Type 0 where
+pub record IsUnplayed {K V : Type 0} (output : K) (volumes : V) (played : Played K V) : Type 0 where
   pub journal : played.journal.entries ≡ []
   pub first : played.first ≡ 0
   pub output_is : played.output ≡ output
@@ -37,9 +37,9 @@ module _ {K V : Type 0} (G : Ghosts ScriptEnd) (sink : K → SinkFacts)
   -- served; there was no memory before anything was served; or it was served.
   abbrev pub ReplaysText : List ℕ → K → V → Played K V → ReplayEnd → Type 0
   ReplaysText text output volumes played (end.BadText line) =
-      IsBadAt text line × IsUnserved output volumes played
+      IsBadAt text line × IsUnplayed output volumes played
   ReplaysText text output volumes played end.NoMemory =
-      IsUnserved output volumes played ⊎ ServesText text output volumes played
+      IsUnplayed output volumes played ⊎ ServesText text output volumes played
   ReplaysText text output volumes played end.Done = ServesText text output volumes played
   ReplaysText text output volumes played end.WriteFault = ServesText text output volumes played
   ReplaysText text output volumes played end.VolumeFault = ServesText text output volumes played
@@ -56,10 +56,10 @@ module _ {K V : Type 0} (G : Ghosts ScriptEnd) (sink : K → SinkFacts)
   -- what each ending says
   abbrev pub Replays : ℕ → SourceFacts → K → V → SourceFacts → Played K V → ReplayEnd → Type 0
   Replays limit i output volumes j played end.ReadFault =
-      ReadsUpToFault limit i j × IsUnserved output volumes played
+      ReadsUpToFault limit i j × IsUnplayed output volumes played
   Replays limit i output volumes j played end.TooLong =
-      ReadsTooLong limit i j × IsUnserved output volumes played
+      ReadsTooLong limit i j × IsUnplayed output volumes played
   Replays limit i output volumes j played end.NoMemory =
-      (ReadsSome limit i j × IsUnserved output volumes played)
+      (ReadsSome limit i j × IsUnplayed output volumes played)
       ⊎ ReplaysWhole limit i output volumes j played end.NoMemory
   Replays limit i output volumes j played ended = ReplaysWhole limit i output volumes j played ended

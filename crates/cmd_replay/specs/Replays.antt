@@ -22,7 +22,7 @@ use Rattle.server_run.specs.declared.ending.Ending.{Ending}
 use Rattle.server_run.specs.declared.ending.Ending.TheVariants as ending
 use Rattle.log_handler.specs.sink_buffer.specs.Written.{TookAll, TookFront}
 use Rattle.cmd_replay.specs.Leading.{unwatched, with_lines, with_text}
-use Rattle.cmd_replay.specs.Outputs.{Writes, text_in}
+use Rattle.cmd_replay.specs.Outputs.{WritesText, text_in}
 use Rattle.cmd_replay.specs.Runs.{IsHeld, RanSo}
 use Rattle.cmd_replay.specs.declared.ends.Played.{Played}
 use Rattle.cmd_replay.specs.declared.ends.ReplayEnd.{ReplayEnd}
@@ -70,14 +70,14 @@ pub record IsOfText (script : ScriptContent) (groups : List ScriptGroup) : Type 
 
 -- With which ending of the run a replay may end so. That a volume was not taken is told only where
 -- nothing else ended the run, and want of memory not in its place.
-abbrev pub EndsAs : ReplayEnd → Ending → ℕ → ℕ → Type 0
-EndsAs end.Done how before now = (how ≡ ending.Over) ⊎ (how ≡ ending.Notified)
-EndsAs end.VolumeFault how before now = (how ≡ ending.VolumeFault) × Rose before now
-EndsAs end.WriteFault how before now = Unit {0}
-EndsAs end.NoMemory how before now = how ≡ ending.VolumeFault → ⊥
-EndsAs (end.BadText line) how before now = ⊥
-EndsAs end.ReadFault how before now = ⊥
-EndsAs end.TooLong how before now = ⊥
+abbrev pub EndsReplay : ReplayEnd → Ending → ℕ → ℕ → Type 0
+EndsReplay end.Done how before now = (how ≡ ending.Over) ⊎ (how ≡ ending.Notified)
+EndsReplay end.VolumeFault how before now = (how ≡ ending.VolumeFault) × Rose before now
+EndsReplay end.WriteFault how before now = Unit {0}
+EndsReplay end.NoMemory how before now = how ≡ ending.VolumeFault → ⊥
+EndsReplay (end.BadText line) how before now = ⊥
+EndsReplay end.ReadFault how before now = ⊥
+EndsReplay end.TooLong how before now = ⊥
 
 -- The terms of a run: those of its script, of the volumes, and of the output where it is written to
 -- as the run goes.
@@ -118,6 +118,6 @@ pub record RunsScript {K V : Type 0} (G : Ghosts ScriptEnd) (sink : K → SinkFa
   pub is : IsHeld (terms_in form asked groups o v) asked (facts played.volumes).taken played.first
       played.journal.entries journal
   pub ran : RanIn G sink facts form (terms_in form asked groups o v) asked groups how journal
-  pub ends : EndsAs played.end how v.faults (facts played.volumes).faults
-  pub written : Writes form played.end o (text_in form (asked.connections + 1) journal)
+  pub ends : EndsReplay played.end how v.faults (facts played.volumes).faults
+  pub written : WritesText form played.end o (text_in form (asked.connections + 1) journal)
       (sink played.output)

@@ -3,7 +3,7 @@ ghost use Rattle.std.specs.Prelude.{◌≡◌, List};
 ghost use Rattle.cmd_line.specs.Ranges.{AreInRange};
 ghost use Rattle.script_net.specs.event_script.specs.Script.{ScriptGroup};
 ghost use Rattle.cmd_replay.specs.Replays.{IsOfText, RunsScript, asked_by};
-ghost use Rattle.cmd_replay.specs.Replaying.{IsUnserved, Replays, ReplaysText};
+ghost use Rattle.cmd_replay.specs.Replaying.{IsUnplayed, Replays, ReplaysText};
 
 use crate::forms::{asked_by, run_grouped, run_journal, run_plain};
 use crate::{Played, ReplayEnd, Replayed};
@@ -106,7 +106,7 @@ pub fn run_script<R: Threads + Wait + Sync, K: Sink + Send, V: Volumes<ServerNot
 /// What is left where nothing was served.
 fn unserved<K, V>(alloc: Global, end: ReplayEnd, output: K, volumes: V) -> Played<K, V>
     ensures end { result.end ≡ end }
-    ensures unserved { IsUnserved output volumes result }
+    ensures unserved { IsUnplayed output volumes result }
 {
     Played {
         end,

@@ -25,7 +25,7 @@ use Rattle.cmd_serve.specs.Leading.{LedSo, behind}
 use Rattle.cmd_serve.specs.declared.ending.HostEnd.{HostEnd}
 use Rattle.cmd_serve.specs.declared.ending.HostEnd.TheVariants as end
 use Rattle.cmd_serve.specs.declared.ending.HostServed.{HostServed}
-use Rattle.cmd_serve.specs.Leaving.{LeavesHost, OutputTook, RunsOver, RunsWhereGiven, told_end}
+use Rattle.cmd_serve.specs.Leaving.{LeavesHost, OutputTook, RunsOverNet, RunsWhereGiven, told_end}
 use Rattle.cmd_serve.proofs.Leaves.{grown as grown_from}
 
 abbrev facts_of : ℕ → Option (List ℕ) → SinkFacts
@@ -123,14 +123,14 @@ module _ {H M Q W V E : Type 0} (means : Handling H E ServerNote) (net_facts : M
   -- the run is the same, also if a failed write is told in place of its end
   run_below : (t : Terms) (asked : Asked) (o : SinkFacts) → 1 < asked.workers → (whole : Bool)
       (net : M) (how : HostEnd) (journal : List (Entry ServerNote))
-      → RunsOver (m1 o) t asked o net how journal
-      → RunsOver m2 t asked o net (told_end whole how) journal
+      → RunsOverNet (m1 o) t asked o net how journal
+      → RunsOverNet m2 t asked o net (told_end whole how) journal
   run_below t asked o several whole net how journal r = by-whole whole
     where
       led : LedSo m2 t asked o r.ending journal
       led = ⊎_elim inl (λ so. inr (inr (several, ⊎_elim (λ l. l) (λ l. l.1) so))) r.led
 
-      by-whole : (whole : Bool) → RunsOver m2 t asked o net (told_end whole how) journal
+      by-whole : (whole : Bool) → RunsOverNet m2 t asked o net (told_end whole how) journal
       by-whole true = record {
         broken = r.broken;
         ending = r.ending;

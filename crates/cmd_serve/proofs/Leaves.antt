@@ -31,8 +31,8 @@ use Rattle.server_run.specs.declared.ending.Served.{Served}
 use Rattle.cmd_serve.specs.declared.ending.HostEnd.{HostEnd}
 use Rattle.cmd_serve.specs.declared.ending.HostEnd.TheVariants as end
 use Rattle.cmd_serve.specs.declared.ending.HostServed.{HostServed}
-use Rattle.cmd_serve.specs.Leaving.{IsJournal, IsUntouched, LeavesHost, MayLackNet, NetFailedSo}
-use Rattle.cmd_serve.specs.Leaving.{RunsOver, RunsWhereGiven, OutputTook, end_of, left_by}
+use Rattle.cmd_serve.specs.Leaving.{IsJournal, IsUnserved, LeavesHost, MayLackNet, NetFailedSo}
+use Rattle.cmd_serve.specs.Leaving.{RunsOverNet, RunsWhereGiven, OutputTook, end_of, left_by}
 use Rattle.cmd_serve.specs.Starting.{asked_by, terms_of}
 
 -- ---- the lines
@@ -97,7 +97,7 @@ wrote-nothing o = record {
 }
 
 pub untouched-lines : {M K V : Type 0} (sink : K → SinkFacts) (output : K) (volumes : V)
-    (served : HostServed M K V) → IsUntouched output volumes served
+    (served : HostServed M K V) → IsUnserved output volumes served
     → TookAll (sink output) [] (sink served.output)
 untouched-lines sink output volumes served u =
     subst (λ (k : _). TookAll (sink output) [] (sink k)) (sym u.same_output)
@@ -185,7 +185,7 @@ module _ {H M Q V E K : Type 0} (m : Meaning H M Q (LineSink K) V ServerNote E)
   terms = terms_of options (sink output) (m.volumes volumes)
 
   -- no run was begun
-  untouched-is : (served : HostServed M K V) → IsUntouched output volumes served
+  untouched-is : (served : HostServed M K V) → IsUnserved output volumes served
       → IsJournal terms (m.volumes served.volumes).taken served.first served.journal.entries []
   untouched-is served u = record {
     within = omega (arith, u.none_taken);
@@ -197,12 +197,12 @@ module _ {H M Q V E K : Type 0} (m : Meaning H M Q (LineSink K) V ServerNote E)
         (m.volumes volumes).taken refl));
   }
 
-  untouched-filled : (served : HostServed M K V) → IsUntouched output volumes served
+  untouched-filled : (served : HostServed M K V) → IsUnserved output volumes served
       → (asked : Asked) → FillsVolume asked.volume served.first
   untouched-filled served u asked = λ some. absurd (omega (arith, some, u.none_taken))
 
   untouched-net : (net : M) → IsNew (m.facts net) → m.keeps terms net → (asked : Asked)
-      → RunsOver m terms asked (sink output) net end.NoMemory []
+      → RunsOverNet m terms asked (sink output) net end.NoMemory []
   untouched-net net new keeps asked = record {
     broken = false;
     ending = ending.NoMemory;
@@ -214,7 +214,7 @@ module _ {H M Q V E K : Type 0} (m : Meaning H M Q (LineSink K) V ServerNote E)
     failed = tt;
   }
 
-  module _ (asked : Asked) (served : HostServed M K V) (u : IsUntouched output volumes served)
+  module _ (asked : Asked) (served : HostServed M K V) (u : IsUnserved output volumes served)
     where
       -- there was no memory for the timers
       pub leaves-net : (t : Terms) (net : M) → t ≡ terms → served.end ≡ end.NoMemory
@@ -260,7 +260,7 @@ module _ {H M Q V E K : Type 0} (m : Meaning H M Q (LineSink K) V ServerNote E)
     }
 
     runs-over : IsNew (m.facts net) → HasCauses m net volumes served
-        → RunsOver m terms asked (sink output) served.parts.net
+        → RunsOverNet m terms asked (sink output) served.parts.net
         (end_of (is_broken served.parts.watch) served.ending) l.journal
     runs-over new c = record {
       broken = is_broken served.parts.watch;

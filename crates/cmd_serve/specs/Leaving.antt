@@ -57,7 +57,7 @@ left_by served = record {
 }
 
 -- there is no journal, and the output and the volumes are those that were handed in
-pub record IsUntouched {M K V : Type 0} (output : K) (volumes : V)
+pub record IsUnserved {M K V : Type 0} (output : K) (volumes : V)
     (served : HostServed M K V) : Type 0 where
   pub no_journal : served.journal.entries ≡ []
   pub none_taken : served.first ≡ 0
@@ -95,7 +95,7 @@ NetFailedSo end.VolumeFault net journal = Unit {0}
 -- so; or there was no memory for a reactor, and the journal is empty. So many workers led to it as
 -- were asked for, or none did: of the answers of several the first in order ended the run. The net
 -- stands for the journal: the ends that were retired or turned away are left as it says.
-pub record RunsOver {H M Q W V E : Type 0} (m : Meaning H M Q W V ServerNote E) (t : Terms)
+pub record RunsOverNet {H M Q W V E : Type 0} (m : Meaning H M Q W V ServerNote E) (t : Terms)
     (asked : Asked) (o : SinkFacts) (net : M) (how : HostEnd)
     (journal : List (Entry ServerNote)) : Type 0 where
   pub broken : Bool
@@ -119,7 +119,7 @@ MayLackNet end.VolumeFault = ⊥
 -- the journal by the net that the host gave, if it gave one
 abbrev pub RunsWhereGiven : {H M Q W V E : Type 0} → Meaning H M Q W V ServerNote E → Terms → Asked
     → SinkFacts → Option M → HostEnd → List (Entry ServerNote) → Type 0
-RunsWhereGiven m t asked o (Some net) how journal = RunsOver m t asked o net how journal
+RunsWhereGiven m t asked o (Some net) how journal = RunsOverNet m t asked o net how journal
 RunsWhereGiven m t asked o None how journal = MayLackNet how × (journal ≡ [])
 
 -- What is left of a run over a host, whose output told the facts `o` at the start: one journal,

@@ -1,6 +1,6 @@
 //! How a run over a host ended, and what it leaves.
 ghost use Rattle.std.specs.Prelude.{◌≡◌};
-ghost use Rattle.cmd_serve.specs.Leaving.{IsUntouched, end_of, left_by, told_end};
+ghost use Rattle.cmd_serve.specs.Leaving.{IsUnserved, end_of, left_by, told_end};
 
 use chosen_timers::ChosenTimers;
 use ev_base::Sink;
@@ -103,7 +103,7 @@ pub(crate) fn unserved<M, K, V>(
 ) -> HostServed<M, K, V>
     ensures end { result.end ≡ end }
     ensures net { result.net ≡ net }
-    ensures untouched { IsUntouched output volumes result }
+    ensures untouched { IsUnserved output volumes result }
 {
     HostServed {
         end,

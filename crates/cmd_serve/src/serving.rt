@@ -4,7 +4,7 @@ ghost use Rattle.ev_base.specs.Counts.{Rose};
 ghost use Rattle.ev_base.specs.Host.{GivesListener};
 ghost use Rattle.ev_base.specs.Terms.{Terms};
 ghost use Rattle.cmd_line.specs.Ranges.{AreInRange};
-ghost use Rattle.cmd_serve.specs.Leaving.{IsUntouched, LeavesHost, ListensSo};
+ghost use Rattle.cmd_serve.specs.Leaving.{IsUnserved, LeavesHost, ListensSo};
 ghost use Rattle.cmd_serve.specs.Starting.{asked_by, terms_of};
 
 use crate::ending::{leave, told_end, unserved};
@@ -63,7 +63,7 @@ where
         (asked_by options (V.facts volumes).size) (K.facts output) result }
     ensures listens { ListensSo result.end result.net (H.faults host.old) (H.faults host.new) }
     ensures asked { H.ports host.new ≡ H.ports host.old ++ port ∷ [] }
-    ensures refused { result.net ≡ None → IsUntouched output volumes result }
+    ensures refused { result.net ≡ None → IsUnserved output volumes result }
     ensures volumes { result.end ≡ HostEnd.VolumeFault → Rose (V.facts volumes).faults
         (V.facts result.volumes).faults }
 {

@@ -18,9 +18,9 @@ use Rattle.cmd_line.specs.declared.options.Form.TheVariants.{Journal}
 use Rattle.cmd_line.specs.declared.options.Options.{Options}
 use Rattle.cmd_gen.specs.cmd_replay.specs.acceptor.specs.Servers.{servers}
 use Rattle.cmd_gen.specs.cmd_replay.specs.acceptor.specs.declared.server.ServerHandler.{ServerHandler}
-use Rattle.cmd_gen.specs.cmd_replay.specs.Outputs.{Writes, text_in}
+use Rattle.cmd_gen.specs.cmd_replay.specs.Outputs.{WritesText, text_in}
 use Rattle.cmd_gen.specs.cmd_replay.specs.Replaying.{Replays, ReplaysWhole, ServesText}
-use Rattle.cmd_gen.specs.cmd_replay.specs.Replays.{EndsAs, RunsScript, asked_by, terms_in}
+use Rattle.cmd_gen.specs.cmd_replay.specs.Replays.{EndsReplay, RunsScript, asked_by, terms_in}
 use Rattle.cmd_gen.specs.cmd_replay.specs.Runs.{IsScriptRun}
 use Rattle.cmd_gen.specs.cmd_replay.proofs.All.{run-of}
 use Rattle.cmd_gen.specs.cmd_replay.specs.declared.ends.Played.{Played}
@@ -94,14 +94,14 @@ module _ {K V : Type 0} (G : Ghosts ScriptEnd) (sink : K → SinkFacts)
 
   run : IsScriptRun G terms asked served.groups runs.how runs.journal
   run =
-      let ends = subst (λ (e : ReplayEnd). EndsAs e runs.how (facts volumes).faults
+      let ends = subst (λ (e : ReplayEnd). EndsReplay e runs.how (facts volumes).faults
       (facts played.volumes).faults) r.done runs.ends in
       run-of terms asked served.groups runs.journal runs.how ends runs.ran.ended
 
   -- the text is that of its journal
   wrote : text ≡ text_in Journal (options.most + 1) runs.journal
   wrote =
-      let written = subst (λ (e : ReplayEnd). Writes Journal e (sink output)
+      let written = subst (λ (e : ReplayEnd). WritesText Journal e (sink output)
       (text_in Journal (options.most + 1) runs.journal) (sink played.output)) r.done runs.written in
       append_cancel_left r.start text _
       (same_text _ _ (sym r.grown ∙ written.text r.start r.told))

@@ -24,9 +24,9 @@ use Rattle.cmd_gen.specs.cmd_replay.specs.Replaying.{Replays}
 use Rattle.cmd_gen.specs.cmd_replay.specs.declared.ends.Played.{Played}
 use Rattle.cmd_gen.specs.laws_script_runs.specs.Connections.{HadMemory}
 use Rattle.cmd_gen.specs.Generating.{Generates}
-use Rattle.cmd_gen.specs.Summing.{Writes, full_lines, summary_lines}
+use Rattle.cmd_gen.specs.Summing.{LeavesText, full_lines, summary_lines}
 use Rattle.cmd_gen.specs.declared.ends.Generated.{Generated}
-use Rattle.cmd_serve.specs.Leaving.{IsUntouched as IsUnserved, LeavesHost, ListensSo}
+use Rattle.cmd_serve.specs.Leaving.{IsUnserved as IsUnserved, LeavesHost, ListensSo}
 use Rattle.cmd_serve.specs.Starting.{asked_by, terms_of}
 use Rattle.cmd_serve.specs.declared.ending.HostEnd.TheVariants.{VolumeFault}
 use Rattle.cmd_serve.specs.declared.ending.HostServed.{HostServed}
@@ -114,10 +114,11 @@ module _ {S K V M : Type 0} (source : S → SourceFacts) (sink : K → SinkFacts
       (served : Served K S M V) : Type 0 where
     pub generated : Generated K V
     pub run : Generates G facts connections seed output volumes generated generated.end
-    pub written : Writes generated.end (sink output) (summary_lines generated.journal.entries)
+    pub written : LeavesText generated.end (sink output) (summary_lines generated.journal.entries)
         (sink generated.output)
     pub known : HadMemory generated.journal.entries
-        → Writes generated.end (sink output) (full_lines connections seed) (sink generated.output)
+        → LeavesText generated.end (sink output) (full_lines connections seed)
+        (sink generated.output)
     pub is : served ≡ record {
       status = generate_code generated.end;
       journal = generated.journal;

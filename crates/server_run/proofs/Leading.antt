@@ -54,7 +54,7 @@ use Rattle.tp_reactor.specs.declared.working.Ran.{Ran}
 use Rattle.tp_reactor.specs.declared.working.Ran.TheVariants as ran
 use Rattle.laws_script_taken.specs.laws_script_runs.specs.Runs.{IsIdle, is_notice}
 use Rattle.tp_reactor.specs.reactor_desk.specs.Desks.{FillsVolume}
-use Rattle.server_run.specs.Finishing.{Finishes, IsAtRest, KeepsCounts, NoneOpen, named}
+use Rattle.server_run.specs.Finishing.{Finishes, HasNoneOpen, KeepsCounts, NoneOpen, named}
 use Rattle.server_run.specs.Journals.{EndsSo, first_entry, notice_for}
 use Rattle.server_run.specs.Served.{FaultRose, HasCauses, LeavesRun, ending_of}
 use Rattle.server_run.specs.declared.asked.Asked.{Asked}
@@ -414,7 +414,7 @@ module _ {H M Q W V E : Type 0} (m : Meaning H M Q W V ServerNote E) (t : Terms)
   }
 
   pub closed_at_rest : (v : View (Entry ServerNote) DeskTerms) (s : RingView) → IsClosed m v s core
-      → v.mine ≡ None → IsAtRest m core
+      → v.mine ≡ None → HasNoneOpen m core
   closed_at_rest v s closed idle =
       let none : (e : ℕ) → times e (opens_of v.seen) ≡ 0 =
       λ e. closed.events e ∙ ap (is_event e) idle in (

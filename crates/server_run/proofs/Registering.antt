@@ -34,7 +34,7 @@ use Rattle.tp_reactor.specs.reactor_core.specs.declared.registering.RegisterRefu
     as refused
 use Rattle.server_run.specs.Finishing.{Finishes, KeepsCounts, named}
 use Rattle.server_run.specs.Journals.{first_entry}
-use Rattle.server_run.specs.Opening.{MayRefuse, OpenCounts, SameCounts, refusal_of}
+use Rattle.server_run.specs.Opening.{MayRefuse, OpenCounts, SameCounts, refused_ending}
 use Rattle.server_run.specs.Served.{FaultRose, HasCauses, LeavesRun, MayLackLead}
 use Rattle.server_run.specs.declared.asked.Asked.{Asked}
 use Rattle.server_run.specs.declared.ending.Ending.{Ending}
@@ -121,7 +121,7 @@ module _ {H M Q W V E : Type 0} (m : Meaning H M Q W V ServerNote E) where
       (volumes volumes' : VolumesFacts ServerNote)
       → net.failed_attaches ≡ (m.facts (net_of new)).failed_attaches
       → RegisterGives m t 0 [] mask None old (Err (back, why)) new
-      → FaultRose (refusal_of why) (m.facts (net_of old)) net volumes volumes'
+      → FaultRose (refused_ending why) (m.facts (net_of old)) net volumes volumes'
   rose_refused t mask old back refused.Stopped new net volumes volumes' same gives = tt
   rose_refused t mask old back (refused.Full live opened) new net volumes volumes' same gives = tt
   rose_refused t mask old back refused.NoMemory new net volumes volumes' same gives = tt
@@ -139,14 +139,14 @@ module _ {H M Q W V E : Type 0} (m : Meaning H M Q W V ServerNote E) where
   pub refused_causes : (t : Terms) (mask : Mask) (old : Core H M Q W V ServerNote E) (back : H)
       (why : RegisterRefused) (new : Core H M Q W V ServerNote E) (served : Served M Q W V)
       → RegisterGives m t 0 [] mask None old (Err (back, why)) new
-      → served.ending ≡ named (refusal_of why) (m.is_broken served.parts.watch)
+      → served.ending ≡ named (refused_ending why) (m.is_broken served.parts.watch)
       → KeepsCounts m new served.parts → HasCauses m (net_of old) (volumes_of old) served
   refused_causes t mask old back why new served gives is counts = record {
-    rose = rose_named (refusal_of why) served.ending (m.is_broken served.parts.watch)
+    rose = rose_named (refused_ending why) served.ending (m.is_broken served.parts.watch)
         (m.facts (net_of old)) (m.facts served.parts.net) _ _ is
         (rose_refused t mask old back why new (m.facts served.parts.net)
         (m.volumes (volumes_of old)) (m.volumes served.parts.volumes) counts.attaches gives);
-    told = broken_told (refusal_of why) served.ending (m.is_broken served.parts.watch) is;
+    told = broken_told (refused_ending why) served.ending (m.is_broken served.parts.watch) is;
   }
 
   -- a run that ended for want of memory, whatever it began with
@@ -159,13 +159,13 @@ module _ {H M Q W V E : Type 0} (m : Meaning H M Q W V ServerNote E) where
     told = broken_told ending.NoMemory served.ending (m.is_broken served.parts.watch) is;
   }
 
-  may_lack : (why : RegisterRefused) → MayLackLead (refusal_of why)
+  may_lack : (why : RegisterRefused) → MayLackLead (refused_ending why)
   may_lack refused.Stopped = tt
   may_lack (refused.Full live opened) = tt
   may_lack refused.NoMemory = tt
   may_lack refused.NetFailed = tt
 
-  not_broken : (why : RegisterRefused) → refusal_of why ≡ ending.Broken → ⊥
+  not_broken : (why : RegisterRefused) → refused_ending why ≡ ending.Broken → ⊥
   not_broken refused.Stopped is = cc
   not_broken (refused.Full live opened) is = cc
   not_broken refused.NoMemory is = cc
@@ -173,10 +173,10 @@ module _ {H M Q W V E : Type 0} (m : Meaning H M Q W V ServerNote E) where
 
   pub refused_leaves : (armed : Q → List Timer) (t : Terms) (asked : Asked) (why : RegisterRefused)
       (core : Core H M Q W V ServerNote E) (served : Served M Q W V)
-      → served.ending ≡ named (refusal_of why) (m.is_broken served.parts.watch)
+      → served.ending ≡ named (refused_ending why) (m.is_broken served.parts.watch)
       → Finishes m armed t 0 [] core served.parts → LeavesRun m armed t asked served
   refused_leaves armed t asked why core served is fin =
-      leaves_unled m armed t asked (refusal_of why) served is 0 [] core fin
+      leaves_unled m armed t asked (refused_ending why) served is 0 [] core fin
       (none_handed_over asked.volume) (inl refl)
       (may_lack why) (λ net. refl) (not_broken why)
 

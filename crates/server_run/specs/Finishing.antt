@@ -22,8 +22,9 @@ use Rattle.server_run.specs.declared.ending.Ending.TheVariants as ending
 abbrev pub NoneOpen : {N : Type 0} → List (Entry N) → Type 0
 NoneOpen h = (summary (past_of h)).opens ≡ []
 
-abbrev pub IsAtRest : {H M Q W V N E : Type 0} → Meaning H M Q W V N E → Core H M Q W V N E → Type 0
-IsAtRest m core = StandsWith m (λ t h. NoneOpen h) core
+abbrev pub HasNoneOpen : {H M Q W V N E : Type 0} → Meaning H M Q W V N E → Core H M Q W V N E
+    → Type 0
+HasNoneOpen m core = StandsWith m (λ t h. NoneOpen h) core
 
 -- how a run ended whose reactor was stopped for this cause, where its watch failed, or did not
 abbrev pub named : Ending → Bool → Ending

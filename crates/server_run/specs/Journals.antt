@@ -59,7 +59,7 @@ HasNotices (Some n) journal = list_all is_for_acceptor journal ≡ true
 -- The run ended at a wait that was answered Over: it stands directly behind the entries of its last
 -- wait, with nothing to start and nothing open, and where the net tells its calls, the answer of
 -- that wait was Over. Then the handlers that were alive were removed and closed, in rising order.
-pub record EndsAtOver {N E : Type 0} (net : NetFacts E) (run closing : List (Entry N)) : Type 0
+pub record EndsAtNetOver {N E : Type 0} (net : NetFacts E) (run closing : List (Entry N)) : Type 0
   where
     pub behind : follows_ready (past_of run) ≡ true
     pub idle : IsIdle (past_of run)
@@ -89,7 +89,7 @@ pub record EndsByNotice {N : Type 0} (until : Option ℕ) (run : List (Entry N))
 -- before the end and behind it.
 abbrev pub EndsSo : {N E : Type 0} → Option ℕ → NetFacts E → Ending → List (Entry N)
     → List (Entry N) → Type 0
-EndsSo until net ending.Over run closing = EndsAtOver net run closing
+EndsSo until net ending.Over run closing = EndsAtNetOver net run closing
 EndsSo until net ending.Notified run closing = EndsByNotice until run
 EndsSo until net ending.NotAttached run closing = (run ≡ []) × (closing ≡ [])
 EndsSo until net ending.Broken run closing = Unit {0}

@@ -33,11 +33,11 @@ MayRefuse refused.NoMemory = Unit {0}
 MayRefuse refused.Stopped = ⊥
 MayRefuse (refused.Full live opened) = ⊥
 
-abbrev pub refusal_of : RegisterRefused → Ending
-refusal_of refused.NetFailed = ending.NotAttached
-refusal_of refused.NoMemory = ending.NoMemory
-refusal_of refused.Stopped = ending.NoMemory
-refusal_of (refused.Full live opened) = ending.NoMemory
+abbrev pub refused_ending : RegisterRefused → Ending
+refused_ending refused.NetFailed = ending.NotAttached
+refused_ending refused.NoMemory = ending.NoMemory
+refused_ending refused.Stopped = ending.NoMemory
+refused_ending (refused.Full live opened) = ending.NoMemory
 
 -- the acceptor was registered, or the run has ended
 abbrev pub OpensSo : {H M Q W V E : Type 0} → Meaning H M Q W V ServerNote E → (Q → List Timer)

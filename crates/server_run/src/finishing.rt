@@ -4,7 +4,7 @@ ghost use Rattle.ev_base.specs.Terms.{Terms};
 ghost use Rattle.log_handler.specs.declared.note.ServerNote.{ServerNote};
 ghost use Rattle.log_handler.specs.reactor_journal.specs.declared.entry.Entry.{Entry};
 ghost use Rattle.tp_reactor.specs.reactor_core.specs.Stands.{Stands};
-ghost use Rattle.server_run.specs.Finishing.{Finishes, IsAtRest, KeepsCounts, NoneOpen, named};
+ghost use Rattle.server_run.specs.Finishing.{Finishes, HasNoneOpen, KeepsCounts, NoneOpen, named};
 
 use crate::{Ending, Served};
 use acceptor::ServerHandler;
@@ -23,7 +23,7 @@ pub(crate) fn finish<
     W: Watch<ServerNote>,
     V: Volumes<ServerNote>,
 >(core: ServerCore<E, M, Q, W, V>, ending: Ending) -> Served<M, Q, W, V>
-    requires { IsAtRest ⟦<ServerCore<E, M, Q, W, V> as Means>⟧.m core }
+    requires { HasNoneOpen ⟦<ServerCore<E, M, Q, W, V> as Means>⟧.m core }
     ensures stands { (t : Terms) (first : ℕ) (list : List (Entry ServerNote))
         → Stands ⟦<ServerCore<E, M, Q, W, V> as Means>⟧.m t core first list → NoneOpen list
         → Finishes ⟦<ServerCore<E, M, Q, W, V> as Means>⟧.m Q.timers t first list core

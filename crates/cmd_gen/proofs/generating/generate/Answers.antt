@@ -7,7 +7,7 @@ use Rattle.cmd_replay.specs.Replays.{unseen}
 use Rattle.cmd_replay.proofs.RunsScript.{can-play}
 use Rattle.cmd_replay.specs.server_run.specs.Starting.{IsFine}
 use Rattle.cmd_replay.specs.server_run.specs.declared.asked.Asked.{Asked}
-use Rattle.cmd_gen.specs.Summing.{Writes, summary_lines}
+use Rattle.cmd_gen.specs.Summing.{LeavesText, summary_lines}
 use Rattle.cmd_gen.proofs.Leaves.{fine, generates, leaves-generated, not-noticed, runs-generated}
 use Rattle.cmd_gen.proofs.Known.{writes-full}
 use Rattle.cmd_gen.proofs.generating.generate.Goals as goal
@@ -70,7 +70,7 @@ returns g c =
     let o = g.K.Sink.facts c.args.output in
     let p = g.K.Sink.facts output in
     let written = subst (λ (entries : List (Entry ServerNote)).
-    Writes ended o (summary_lines entries) p) c.as_slice.ensures sums.writes in
+    LeavesText ended o (summary_lines entries) p) c.as_slice.ensures sums.writes in
     record {
       run = generates g.V.Volumes.facts n seed c.args.output c.args.volumes _ ended runs;
       written = written;

@@ -5,9 +5,9 @@ use Rattle.log_handler.proofs.line_sink.LineSink.TheSendSync as sends
 use Rattle.log_handler.specs.LineSink as lines
 use Rattle.cmd_line.specs.declared.options.Form.TheVariants.{Plain}
 use Rattle.cmd_replay.specs.Leading.{with_lines}
-use Rattle.cmd_replay.specs.Outputs.{Writes, text_in}
+use Rattle.cmd_replay.specs.Outputs.{WritesText, text_in}
 use Rattle.cmd_replay.specs.Playing.{terms_of_content}
-use Rattle.cmd_replay.specs.Replays.{EndsAs, end_by}
+use Rattle.cmd_replay.specs.Replays.{EndsReplay, end_by}
 use Rattle.cmd_replay.specs.declared.ends.ReplayEnd.{ReplayEnd}
 use Rattle.cmd_replay.proofs.RunsScript.{can-play, ends-as, leaves-kept, leaves-so, number_is}
 use Rattle.cmd_replay.proofs.RunsScript.{put_back, rose-kept, runs-script, steady-kept}
@@ -67,11 +67,11 @@ returns g c = λ groups text.
     (by-lines g.K.Sink.facts _ o served.parts.watch l.journal refl refl l.watch) in
     runs-script (with_lines _ g.K.Sink.facts g.V.Volumes.facts) g.K.Sink.facts Plain
     c.args.asked groups o v served c.end_by-end.result c.into_output.result l l.ran
-    (subst (λ (e : ReplayEnd). EndsAs e served.ending v.faults
+    (subst (λ (e : ReplayEnd). EndsReplay e served.ending v.faults
     (g.V.Volumes.facts served.parts.volumes).faults) (sym is) ends)
-    (subst (λ k. Writes Plain c.end_by-end.result o
+    (subst (λ k. WritesText Plain c.end_by-end.result o
     (text_in Plain (c.args.asked.connections + 1) l.journal) (g.K.Sink.facts k))
     (sym c.into_output.ensures)
-    (subst (λ (e : ReplayEnd). Writes Plain e o
+    (subst (λ (e : ReplayEnd). WritesText Plain e o
     (text_in Plain (c.args.asked.connections + 1) l.journal)
     (g.K.Sink.facts (lines.sink_of served.parts.watch))) (sym is) written))
