@@ -2,6 +2,7 @@
 #![tactic(auto)]
 
 use ace7_input::{Ace7Host, Ace7Source};
+use cmd_aio::{AioServed, aio_main};
 use cmd_forward::{Forwarded, forward_main};
 use cmd_line::Command;
 use cmd_pool::{Pooled, pool_main, read_words};
@@ -76,6 +77,10 @@ where
     H::Waker: Drop + Sync,
 {
     match words.first().map(String::as_str) {
+        Some("aio") => {
+            let AioServed { status, .. } = aio_main(rt, alloc, words, &mut host, output);
+            (status, 0)
+        }
         Some("pool") => {
             let Pooled { status, .. } = pool_main(rt, alloc, words, &mut host, output);
             (status, 0)

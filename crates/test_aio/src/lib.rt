@@ -1,7 +1,9 @@
-//! Rows of asynchronous operations over scripts of network events, called without a reactor, and of
-//! the words and lines of an echo service made of them.
+//! Rows of asynchronous operations over scripts of network events: called without a reactor, and as
+//! the command that is an echo service made of them.
 #![tactic(auto)]
 
+#[cfg(test)]
+mod command;
 #[cfg(test)]
 mod echoing;
 #[cfg(test)]
