@@ -3,7 +3,7 @@ ghost use Rattle.std.specs.Prelude.{◌≡◌};
 
 use crate::net::WAKER;
 use crate::shared::Shared;
-use crate::socket::Socket;
+use crate::socket::{Socket, without_delay};
 use crate::{MioEnd, MioNet};
 use ev_base::{DialRefused, Dialer};
 use mio::net::TcpStream;
@@ -60,7 +60,7 @@ impl<R: Sockets + Clock + Copy> MioDialer<R> {
         let waker = Waker::new(poll.registry(), WAKER)?;
         let shared = Shared::new(poll.registry().try_clone()?, waker);
         let address = SocketAddr::from((self.address, port));
-        let stream = TcpStream::connect(&self.rt, address)?;
+        let stream = without_delay(TcpStream::connect(&self.rt, address)?);
         let start = Instant::now(&self.rt)?;
         Ok(Begun {
             poll,

@@ -241,7 +241,7 @@ impl Socket {
         match accept_again(listener) {
             Ok(stream) => {
                 self.go_on(Kind::Read);
-                Accepted::One(stream)
+                Accepted::One(without_delay(stream))
             }
             Err(error) if error.kind() == ErrorKind::WouldBlock => Accepted::None,
             Err(_) => {
@@ -259,6 +259,13 @@ impl Socket {
             place.shared.note_failed_accept();
         }
     }
+}
+
+/// Lets what is written to a connection go out at once (TCP_NODELAY). One that refuses it stays as
+/// it is.
+pub(crate) fn without_delay(stream: TcpStream) -> TcpStream {
+    let _ = stream.set_nodelay(true);
+    stream
 }
 
 /// Reads once. Where the reader knows its bytes, it gives the next of them.
