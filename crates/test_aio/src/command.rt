@@ -259,7 +259,9 @@ fn an_end_holds_what_was_written_back(rt: HostRuntime) -> Result<(), Fail> {
     let mut host = ScriptHost::new(Some(script), false);
     let served = run(&rt, rt.alloc(), "aio --port 7000", &mut host, None)?;
     let held = match &served.net {
-        Some(net) => net.retired(Handle(1)).is_some_and(|end| end.held() == b"hi".as_slice()),
+        Some(net) => net
+            .retired(Handle(1))
+            .is_some_and(|end| end.held() == b"hi".as_slice()),
         None => false,
     };
     assert!(rt; held);
