@@ -24,7 +24,7 @@ use Rattle.reactor_model.specs.reactor_journal.specs.declared.entry.Entry.{Entry
 use Rattle.reactor_model.specs.reactor_journal.specs.declared.entry.Entry.TheVariants as entry
 use Rattle.reactor_model.specs.reactor_journal.proofs.Turning.{count-append, count-past}
 use Rattle.reactor_core.specs.Acting.{StopAppends}
-use Rattle.reactor_core.specs.Beginning.{CanBegin, IsShutDown}
+use Rattle.reactor_core.specs.Beginning.{CanBegin, IsOver}
 use Rattle.reactor_core.specs.Calls.{AreCalls}
 use Rattle.reactor_core.specs.Ends.{WhereTold}
 use Rattle.reactor_core.specs.Marks.{IsOverAt, answers, is_polled}
@@ -226,7 +226,7 @@ all_closed past (suc n) q =
     (option_to_list (live_handle past n)) q))
 
 pub whole_of_over : {N : Type 0} (most : ℕ) (journal : List (Entry N)) → Legal journal most
-    → IsShutDown (sum journal) → IsWhole most journal
+    → IsOver (sum journal) → IsWhole most journal
 whole_of_over most journal legal over =
     let tells = told most (past_of journal) legal in
     record {
