@@ -24,7 +24,7 @@ use Rattle.reactor_model.specs.reactor_journal.specs.declared.entry.Entry.{Entry
 use Rattle.reactor_model.specs.reactor_journal.specs.declared.entry.Entry.TheVariants as entry
 use Rattle.reactor_model.specs.reactor_journal.proofs.Turning.{count-append, count-past}
 use Rattle.reactor_core.specs.Acting.{StopAppends}
-use Rattle.reactor_core.specs.Beginning.{CanBegin, IsOver}
+use Rattle.reactor_core.specs.Beginning.{CanBegin, IsShutDown}
 use Rattle.reactor_core.specs.Calls.{AreCalls}
 use Rattle.reactor_core.specs.Ends.{WhereTold}
 use Rattle.reactor_core.specs.Marks.{IsOverAt, answers, is_polled}
@@ -50,7 +50,8 @@ use Rattle.proactor.specs.declared.service.AioNote.{AioNote}
 use Rattle.cmd_aio.specs.Finishing.{Finishes, MayEnd, TookLines, end_by, named}
 use Rattle.cmd_aio.specs.Leaving.{LeavesServed, OutputTook, RunsWhereGiven}
 use Rattle.cmd_aio.specs.Runs.{EndsRun, EndsSo, GoesByTurns, IsWhole}
-use Rattle.cmd_aio.specs.Starting.{IsOpened, MayRefuse, aio_terms, first_entry, refusal_of}
+use Rattle.cmd_aio.specs.Starting.{IsOpened, aio_terms, first_entry, aio_refusal}
+use Rattle.reactor_core.specs.Refusals.{MayRefuseFirst}
 use Rattle.cmd_aio.specs.declared.ending.AioEnd.{AioEnd}
 use Rattle.cmd_aio.specs.declared.ending.AioEnd.TheVariants as end
 use Rattle.cmd_aio.specs.declared.ending.Ran.{Ran}
@@ -119,8 +120,8 @@ module _ {H M Q W V E : Type 0} (m : Meaning H M Q W V AioNote E) (o : SinkFacts
 
   pub refused_for : (old new : Core H M Q W V AioNote E) (back : H) (refused : RegisterRefused)
       → RegisterGives m (aio_terms o) 0 [] (mask_by false) None old (Err (back, refused)) new
-      → MayRefuse refused × Stands m (aio_terms o) new 0 []
-      × RefusedSo (refusal_of refused) (m.facts (net_of old)).failed_attaches
+      → MayRefuseFirst refused × Stands m (aio_terms o) new 0 []
+      × RefusedSo (aio_refusal refused) (m.facts (net_of old)).failed_attaches
       (m.facts (net_of new)).failed_attaches
   refused_for old new back register.Stopped g = absurd (false≢true g.0)
   refused_for old new back (register.Full live now) g =
@@ -226,7 +227,7 @@ all_closed past (suc n) q =
     (option_to_list (live_handle past n)) q))
 
 pub whole_of_over : {N : Type 0} (most : ℕ) (journal : List (Entry N)) → Legal journal most
-    → IsOver (sum journal) → IsWhole most journal
+    → IsShutDown (sum journal) → IsWhole most journal
 whole_of_over most journal legal over =
     let tells = told most (past_of journal) legal in
     record {

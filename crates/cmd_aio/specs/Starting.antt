@@ -38,13 +38,6 @@ abbrev pub IsOpened : {H M Q W V E : Type 0} → Meaning H M Q W V AioNote E →
     → Core H M Q W V AioNote E → Type 0
 IsOpened m o core = Stands m (aio_terms o) core 0 (first_entry ∷ [])
 
--- a reactor that has no handler and was not stopped refuses one for these reasons alone
-abbrev pub MayRefuse : RegisterRefused → Type 0
-MayRefuse register.NetFailed = Unit {0}
-MayRefuse register.NoMemory = Unit {0}
-MayRefuse register.Stopped = ⊥
-MayRefuse (register.Full live opened) = ⊥
-
-abbrev pub refusal_of : RegisterRefused → AioEnd
-refusal_of register.NetFailed = end.NetFault
-refusal_of _ = end.NoMemory
+abbrev pub aio_refusal : RegisterRefused → AioEnd
+aio_refusal register.NetFailed = end.NetFault
+aio_refusal _ = end.NoMemory

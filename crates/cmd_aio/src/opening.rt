@@ -5,7 +5,8 @@ ghost use Rattle.ev_base.specs.Host.{GivesListener};
 ghost use Rattle.ev_base.specs.Sink.{SinkFacts};
 ghost use Rattle.reactor_core.specs.Views.{net_of};
 ghost use Rattle.cmd_aio.specs.Leaving.{LeavesServed};
-ghost use Rattle.cmd_aio.specs.Starting.{IsOpened, MayRefuse, MayRegister, aio_terms, refusal_of};
+ghost use Rattle.cmd_aio.specs.Starting.{IsOpened, MayRegister, aio_terms, aio_refusal};
+ghost use Rattle.reactor_core.specs.Refusals.{MayRefuseFirst};
 
 use crate::ending::{AioEnd, Ran, finish, unmade};
 use aio_lines::ConnectionLines;
@@ -83,8 +84,8 @@ fn register<E: PeerEnd + Drop, M: Net<End = E>, K: Sink>(
 
 /// How a run ends whose acceptor was refused by a reactor that has no handler and was not stopped.
 fn refusal(refused: RegisterRefused) -> AioEnd
-    requires { MayRefuse refused }
-    ensures { result ≡ refusal_of refused }
+    requires { MayRefuseFirst refused }
+    ensures { result ≡ aio_refusal refused }
 {
     match refused {
         RegisterRefused::NetFailed => AioEnd::NetFault,

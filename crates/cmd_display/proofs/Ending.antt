@@ -6,7 +6,7 @@ use Rattle.message_block.specs.Messages.{MessageState}
 use Rattle.module_stream.specs.Progress.{Gives, Begins}
 use Rattle.module_stream.specs.Active.{Runs}
 use Rattle.cmd_display.specs.declared.pipeline.Pipeline.{Pipeline}
-use Rattle.cmd_display.specs.Pipelines.{Writes, WritesLast, HasEnded, ArePut}
+use Rattle.cmd_display.specs.Pipelines.{Prints, WritesLast, HasEnded, ArePut}
 use Rattle.cmd_display.proofs.Lists.{begins-all, begins-through}
 
 -- all messages were put, and what came out of the first task was all
@@ -66,7 +66,7 @@ pub ended-ok : {F G K : Type 0} (gives : F → Gives) (gives' : G → Gives) (fa
     (pipeline : Pipeline F G K) (sink : SinkBuffer K)
     → ((front texts : List MessageState) → Runs gives first front texts pipeline.first
     → texts ++ more ≡ first front)
-    → ((fed : List MessageState) → Writes gives' facts second o fed pipeline.second
+    → ((fed : List MessageState) → Prints gives' facts second o fed pipeline.second
     → WritesLast facts second o fed more all w sink)
     → ArePut gives gives' facts first second o put all pipeline
     → HasEnded facts first second o put w sink
@@ -84,7 +84,7 @@ pub ended-err : {F G K : Type 0} (gives : F → Gives) (gives' : G → Gives) (f
     (pipeline : Pipeline F G K) (sink : SinkBuffer K)
     → ((front texts : List MessageState) → Runs gives first front texts pipeline.first
     → Begins (texts ++ more) (first front))
-    → ((fed : List MessageState) → Writes gives' facts second o fed pipeline.second
+    → ((fed : List MessageState) → Prints gives' facts second o fed pipeline.second
     → WritesLast facts second o fed more all w sink)
     → ArePut gives gives' facts first second o put all pipeline
     → HasEnded facts first second o put false sink

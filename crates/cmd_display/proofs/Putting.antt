@@ -12,7 +12,7 @@ use Rattle.cmd_display.specs.declared.pipeline.Pipeline.{Pipeline}
 use Rattle.cmd_display.specs.declared.window.Window.{Window}
 use Rattle.cmd_display.specs.declared.showing.Cut.{Cut}
 use Rattle.cmd_display.specs.declared.showing.Cut.TheVariants as cut
-use Rattle.cmd_display.specs.Pipelines.{Writes, Shows, ShowsFront}
+use Rattle.cmd_display.specs.Pipelines.{Prints, Shows, ShowsFront}
 use Rattle.cmd_display.specs.Windows.{rest_of}
 use Rattle.cmd_display.specs.Shown.{HasCut, Cuts, Stops}
 use Rattle.cmd_display.proofs.Lists.{begins-all, begins-behind}
@@ -22,7 +22,7 @@ use Rattle.cmd_display.proofs.Lists.{begins-all, begins-behind}
 pub shows-on : {F G K T E : Type 0} (gives : F → Gives) (gives' : G → Gives) (facts : K → SinkFacts)
     (first second : Gives) (o : SinkFacts) (put texts : List MessageState) (task : ActiveTask F)
     (next : Second G K) (r : Result T E)
-    → Runs gives first put texts task → OnOk r (Writes gives' facts second o texts next)
+    → Runs gives first put texts task → OnOk r (Prints gives' facts second o texts next)
     → OnOk r (Shows gives gives' facts first second o put
     (record { first = task; second = next }))
 shows-on gives gives' facts first second o put texts task next (Ok x) runs writes =
@@ -34,7 +34,7 @@ pub front-on : {F G K T E : Type 0} (gives : F → Gives) (gives' : G → Gives)
     (task : ActiveTask F) (next : Second G K) (r : Result T E)
     → Runs gives first put (texts ++ more) task
     → OnErr r ((front : List MessageState) × Begins front more
-    × Writes gives' facts second o (texts ++ front) next)
+    × Prints gives' facts second o (texts ++ front) next)
     → OnErr r (ShowsFront gives gives' facts first second o put
     (record { first = task; second = next }))
 front-on gives gives' facts first second o put texts more task next (Ok x) runs writes = tt

@@ -16,7 +16,7 @@ text_of messages = flat_map bytes_of messages
 
 -- These messages were put into the second task, which gave `second` when it began. The bytes of all
 -- that came out were put into the sink since it told the facts o.
-pub record Writes {G K : Type 0} (gives : G → Gives) (facts : K → SinkFacts) (second : Gives)
+pub record Prints {G K : Type 0} (gives : G → Gives) (facts : K → SinkFacts) (second : Gives)
     (o : SinkFacts) (fed : List MessageState) (task : Second G K) : Type 0 where
   pub lines : List MessageState
   pub runs : Runs gives second fed lines task.task
@@ -28,7 +28,7 @@ pub record Shows {F G K : Type 0} (gives : F → Gives) (gives' : G → Gives) (
     (pipeline : Pipeline F G K) : Type 0 where
   pub texts : List MessageState
   pub runs : Runs gives first put texts pipeline.first
-  pub writes : Writes gives' facts second o texts pipeline.second
+  pub writes : Prints gives' facts second o texts pipeline.second
 
 -- A front of these messages was put into the first task, and a front of what came out of it into
 -- the second: there was no memory for the next.
@@ -41,7 +41,7 @@ pub record ShowsFront {F G K : Type 0} (gives : F → Gives) (gives' : G → Giv
   pub fed : List MessageState
   pub runs : Runs gives first front texts pipeline.first
   pub follows : Begins fed texts
-  pub writes : Writes gives' facts second o fed pipeline.second
+  pub writes : Prints gives' facts second o fed pipeline.second
 
 -- Where these messages follow what was put into the second task, a front of both was put; else what
 -- was put before. Where it was whole all were put.
@@ -51,7 +51,7 @@ pub record PutsLast {G K : Type 0} (gives : G → Gives) (facts : K → SinkFact
   pub put : List MessageState
   pub follows : Begins put (fed ++ messages)
   pub stays : follow ≡ false → put ≡ fed
-  pub writes : Writes gives facts second o put task
+  pub writes : Prints gives facts second o put task
   pub all : whole ≡ true → (follow ≡ true) × (put ≡ fed ++ messages)
 
 -- The second task has ended. Where these messages follow what was put before, a front of both was

@@ -77,7 +77,7 @@ pub record IsShowing {S F G K : Type 0} (sources : S → SourceFacts) (gives : F
 
 -- What reading the records of an input leaves. The bytes of these records were cut, and their
 -- messages were put.
-pub record Leaves {S F G K : Type 0} (sources : S → SourceFacts) (gives : F → Gives)
+pub record ReadLeaves {S F G K : Type 0} (sources : S → SourceFacts) (gives : F → Gives)
     (gives' : G → Gives) (sinks : K → SinkFacts) (i : SourceFacts) (first second : Gives)
     (o : SinkFacts)
     (stop : Stop) (whole : Bool) (window : Window S) (pipeline : Pipeline F G K) : Type 0 where
@@ -109,6 +109,6 @@ Cuts sources gives gives' sinks i first second o cut.More window pipeline =
     IsShowing sources gives gives' sinks i first second o window pipeline
     × (first_of (rest_of window) ≡ front.More)
 Cuts sources gives gives' sinks i first second o cut.Bad window pipeline =
-    Leaves sources gives gives' sinks i first second o stop.Bad true window pipeline
+    ReadLeaves sources gives gives' sinks i first second o stop.Bad true window pipeline
 Cuts sources gives gives' sinks i first second o cut.NoMemory window pipeline =
-    Leaves sources gives gives' sinks i first second o stop.NoMemory false window pipeline
+    ReadLeaves sources gives gives' sinks i first second o stop.NoMemory false window pipeline

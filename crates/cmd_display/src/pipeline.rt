@@ -4,7 +4,7 @@ ghost use Rattle.ev_base.specs.Sink.{SinkFacts};
 ghost use Rattle.sink_buffer.specs.Gathers.{Gathers, is_broken};
 ghost use Rattle.message_block.specs.Messages.{MessageState};
 ghost use Rattle.module_stream.specs.Progress.{Gives, Begins};
-ghost use Rattle.cmd_display.specs.Pipelines.{Writes, Shows, ShowsFront, ArePut, HasEnded};
+ghost use Rattle.cmd_display.specs.Pipelines.{Prints, Shows, ShowsFront, ArePut, HasEnded};
 ghost use Rattle.cmd_display.specs.Pipelines.{StaysBroken};
 
 use crate::second::Second;
@@ -99,7 +99,7 @@ impl<F: Task + Send + 'static, G: Task + Send + 'static, K: Sink> Pipeline<F, G,
         self.second.spares.list()
     }
 
-    /// Writes what the sink gathered.
+    /// Prints what the sink gathered.
     pub(crate) fn flush(&mut self)
         ensures shows { (first second : Gives) (o : SinkFacts) (put : List MessageState)
             → Shows F.gives G.gives K.facts first second o put self.old

@@ -5,7 +5,7 @@ ghost use Rattle.ev_base.specs.Sink.{SinkFacts};
 ghost use Rattle.sink_buffer.specs.Gathers.{Gathers, held_of, is_broken};
 ghost use Rattle.message_block.specs.Messages.{MessageState, bytes_of};
 ghost use Rattle.module_stream.specs.Progress.{Gives, Begins};
-ghost use Rattle.cmd_display.specs.Pipelines.{text_of, Writes, PutsLast, WritesLast, StaysBroken};
+ghost use Rattle.cmd_display.specs.Pipelines.{text_of, Prints, PutsLast, WritesLast, StaysBroken};
 
 use crate::spares::Spares;
 use ev_base::{NoMemory, Sink};
@@ -26,11 +26,11 @@ impl<G: Task + Send + 'static, K: Sink> Second<G, K> {
     /// Puts a message into the task. `NoMemory` leaves all as it was, and the message is lost.
     pub(crate) fn put<R: Wait>(&mut self, rt: &R, message: Message) -> Result<(), NoMemory>
         ensures put { (second : Gives) (o : SinkFacts) (fed : List MessageState)
-            → Writes G.gives K.facts second o fed self.old
-            → OnOk result (Writes G.gives K.facts second o (fed ++ message ∷ []) self.new) }
+            → Prints G.gives K.facts second o fed self.old
+            → OnOk result (Prints G.gives K.facts second o (fed ++ message ∷ []) self.new) }
         ensures same { (second : Gives) (o : SinkFacts) (fed : List MessageState)
-            → Writes G.gives K.facts second o fed self.old
-            → OnErr result (Writes G.gives K.facts second o fed self.new) }
+            → Prints G.gives K.facts second o fed self.old
+            → OnErr result (Prints G.gives K.facts second o fed self.new) }
         ensures broken { StaysBroken self.old.lines self.new.lines }
     {
         match self.task.put(rt, message) {
@@ -45,12 +45,12 @@ impl<G: Task + Send + 'static, K: Sink> Second<G, K> {
     /// Puts messages into the task, up to the first for which there is no memory.
     pub(crate) fn put_all<R: Wait>(&mut self, rt: &R, messages: Messages) -> Result<(), NoMemory>
         ensures put { (second : Gives) (o : SinkFacts) (fed : List MessageState)
-            → Writes G.gives K.facts second o fed self.old
-            → OnOk result (Writes G.gives K.facts second o (fed ++ messages) self.new) }
+            → Prints G.gives K.facts second o fed self.old
+            → OnOk result (Prints G.gives K.facts second o (fed ++ messages) self.new) }
         ensures front { (second : Gives) (o : SinkFacts) (fed : List MessageState)
-            → Writes G.gives K.facts second o fed self.old
+            → Prints G.gives K.facts second o fed self.old
             → OnErr result ((front : List MessageState) × Begins front messages
-            × Writes G.gives K.facts second o (fed ++ front) self.new) }
+            × Prints G.gives K.facts second o (fed ++ front) self.new) }
         ensures broken { StaysBroken self.old.lines self.new.lines }
     {
         match messages.as_slice().len() {
@@ -64,12 +64,12 @@ impl<G: Task + Send + 'static, K: Sink> Second<G, K> {
     fn put_some<R: Wait>(&mut self, rt: &R, messages: Messages) -> Result<(), NoMemory>
         requires { length messages ≤ 256 }
         ensures put { (second : Gives) (o : SinkFacts) (fed : List MessageState)
-            → Writes G.gives K.facts second o fed self.old
-            → OnOk result (Writes G.gives K.facts second o (fed ++ messages) self.new) }
+            → Prints G.gives K.facts second o fed self.old
+            → OnOk result (Prints G.gives K.facts second o (fed ++ messages) self.new) }
         ensures front { (second : Gives) (o : SinkFacts) (fed : List MessageState)
-            → Writes G.gives K.facts second o fed self.old
+            → Prints G.gives K.facts second o fed self.old
             → OnErr result ((front : List MessageState) × Begins front messages
-            × Writes G.gives K.facts second o (fed ++ front) self.new) }
+            × Prints G.gives K.facts second o (fed ++ front) self.new) }
         ensures broken { StaysBroken self.old.lines self.new.lines }
     {
         match self.task.put_all(rt, messages) {
@@ -84,12 +84,12 @@ impl<G: Task + Send + 'static, K: Sink> Second<G, K> {
     /// Puts messages into the task one by one, up to the first for which there is no memory.
     fn put_each<R: Wait>(&mut self, rt: &R, messages: Messages) -> Result<(), NoMemory>
         ensures put { (second : Gives) (o : SinkFacts) (fed : List MessageState)
-            → Writes G.gives K.facts second o fed self.old
-            → OnOk result (Writes G.gives K.facts second o (fed ++ messages) self.new) }
+            → Prints G.gives K.facts second o fed self.old
+            → OnOk result (Prints G.gives K.facts second o (fed ++ messages) self.new) }
         ensures front { (second : Gives) (o : SinkFacts) (fed : List MessageState)
-            → Writes G.gives K.facts second o fed self.old
+            → Prints G.gives K.facts second o fed self.old
             → OnErr result ((front : List MessageState) × Begins front messages
-            × Writes G.gives K.facts second o (fed ++ front) self.new) }
+            × Prints G.gives K.facts second o (fed ++ front) self.new) }
         ensures broken { StaysBroken self.old.lines self.new.lines }
     {
         for message in messages.into_vec() {
@@ -104,7 +104,7 @@ impl<G: Task + Send + 'static, K: Sink> Second<G, K> {
     /// Puts the last messages, where they may follow what was put, and tells whether all were put.
     fn put_last<R: Wait>(&mut self, rt: &R, messages: Messages, follow: bool) -> bool
         ensures puts { (second : Gives) (o : SinkFacts) (fed : List MessageState)
-            → Writes G.gives K.facts second o fed self.old
+            → Prints G.gives K.facts second o fed self.old
             → PutsLast G.gives K.facts second o fed messages follow result self.new }
         ensures broken { StaysBroken self.old.lines self.new.lines }
     {
@@ -127,7 +127,7 @@ impl<G: Task + Send + 'static, K: Sink> Second<G, K> {
         follow: bool,
     ) -> (SinkBuffer<K>, bool)
         ensures ends { (second : Gives) (o : SinkFacts) (fed : List MessageState)
-            → Writes G.gives K.facts second o fed self
+            → Prints G.gives K.facts second o fed self
             → WritesLast K.facts second o fed messages follow result.1 result.0 }
         ensures broken { StaysBroken self.lines result.0 }
     {

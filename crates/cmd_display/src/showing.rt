@@ -11,7 +11,7 @@ ghost use Rattle.cmd_display.specs.Displays.{Displays};
 ghost use Rattle.cmd_display.specs.Windows.{rest_of, Windows, Fills, Grows};
 ghost use Rattle.cmd_display.specs.Endings.{ending_of, format_gives, separate_gives};
 ghost use Rattle.cmd_display.specs.Shown as S;
-ghost use Rattle.cmd_display.specs.Shown.{IsShowing, HasCut, Leaves, Cuts, Stops};
+ghost use Rattle.cmd_display.specs.Shown.{IsShowing, HasCut, ReadLeaves, Cuts, Stops};
 ghost use Rattle.cmd_display.specs.Pipelines.{Shows};
 ghost use Rattle.message_block.specs.Messages.{MessageState};
 ghost use Rattle.cdr_record.specs.Grammar.{first_of};
@@ -177,7 +177,7 @@ fn show<R: Wait, S: Source, F: Task + Send + 'static, G: Task + Send + 'static, 
 ) -> (Stop, bool)
     ensures leaves { (i : SourceFacts) (first second : Gives) (o : SinkFacts)
         → IsShowing S.facts F.gives G.gives K.facts i first second o window.old pipeline.old
-        → Leaves S.facts F.gives G.gives K.facts i first second o result.0 result.1 window.new
+        → ReadLeaves S.facts F.gives G.gives K.facts i first second o result.0 result.1 window.new
         pipeline.new }
     ensures limit { limit_of window.new.input ≡ limit_of window.old.input }
     ensures broken { result.0 ≡ Stop.Broken → is_broken pipeline.new.second.lines ≡ true }

@@ -19,7 +19,7 @@ use Rattle.reactor_model.specs.reactor_journal.specs.Past as P
 use Rattle.reactor_model.specs.reactor_journal.specs.Follow as F
 use Rattle.reactor_model.specs.reactor_journal.specs.Follow.{is_legal}
 use Rattle.reactor_core.specs.Calls.{AreCalls, CallsBy, IsCallOf, is_taken, makes_call}
-use Rattle.reactor_core.specs.Calls.{taken_before}
+use Rattle.reactor_model.specs.Entries.{taken_before}
 use Rattle.reactor_core.specs.reactor_summary.specs.Summary as S
 use Rattle.reactor_core.specs.reactor_summary.specs.Summary.{Summary, summary}
 use Rattle.reactor_core.specs.reactor_summary.proofs.Reading.{wanted_is}

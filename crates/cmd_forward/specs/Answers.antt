@@ -1,5 +1,5 @@
 -- What a call of `forward_main` answers, and what it leaves.
-use Rattle.std.specs.Prelude.{◌≡◌, ◌^◌, ◌⊎◌, ℕ, List, Some, None}
+use Rattle.std.specs.Prelude.{◌≡◌, ◌^◌, ◌⊎◌, ◌++◌, ℕ, List, [], ◌∷◌, Some, None}
 use Rattle.ev_base.specs.Counts.{Rose}
 use Rattle.ev_base.specs.End.{EndFacts}
 use Rattle.ev_base.specs.Net.{NetFacts}
@@ -28,6 +28,17 @@ pub record IsUnbegun {M S K : Type 0} (source : S) (sink : K) (left : Forwarded 
     pub net : left.net ≡ None
     pub input : left.input ≡ source
     pub output : left.output ≡ sink
+
+-- No port was dialled: there is no net, and the words call no command, or memory was wanting.
+pub record IsUndialled {M S K : Type 0} (words : List Text) (left : Forwarded M S K) : Type 0 where
+  pub net : left.net ≡ None
+  pub why : (forward_of words ≡ None) ⊎ (left.status ≡ code_of NoMemory)
+
+-- The ports that the dialler was asked for: that of the words, once, or none more.
+abbrev pub DialsPort : {M S K : Type 0} → List Text → List ℕ → List ℕ → Forwarded M S K → Type 0
+DialsPort words before now left = ((now ≡ before) × IsUndialled words left)
+    ⊎ ((options : ForwardOptions) × (forward_of words ≡ Some options)
+    × (now ≡ before ++ options.port ∷ []))
 
 -- The words call the command, and a connection was begun to their port, so no count of the dialler
 -- rose. Of what they say and of the net, P holds.

@@ -16,7 +16,7 @@ use Rattle.forwarder.specs.Feeding.{feed}
 use Rattle.forwarder.specs.Forwarded.{IsWritten}
 use Rattle.forwarder.specs.one_net.specs.bounded_input.specs.Input.{TakesInput}
 use Rattle.reactor_model.specs.reactor_journal.specs.Past.{count}
-use Rattle.reactor_core.specs.Calls.{IsAnsweredAt}
+use Rattle.reactor_model.specs.Entries.{IsAnsweredAt}
 use Rattle.reactor_core.specs.Ends.{WhereTold}
 
 -- ---- the end of the run

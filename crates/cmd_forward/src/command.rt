@@ -1,9 +1,9 @@
 //! The command.
-ghost use Rattle.std.specs.Prelude.{◌≡◌, Some, map};
+ghost use Rattle.std.specs.Prelude.{◌≡◌, ◌++◌, ◌∷◌, [], Some, map};
 ghost use Rattle.std.specs.String.{string_bytes};
 ghost use Rattle.cmd_line.specs.Given.{Text};
 ghost use Rattle.std.specs.Prelude.{List};
-ghost use Rattle.cmd_forward.specs.Answers.{HasAnswered, IsUnbegun};
+ghost use Rattle.cmd_forward.specs.Answers.{DialsPort, HasAnswered, IsUnbegun};
 ghost use Rattle.cmd_forward.specs.Telling.{HasNumbers, IsTold};
 ghost use Rattle.cmd_forward.specs.Words.{AreInRange, forward_of};
 
@@ -49,8 +49,11 @@ pub fn forward_main<R: Wait, D: Dialer, S: Source, K: Sink>(
 ) -> Forwarded<D::Net, S, K>
 where
     D::End: Drop,
-    ensures { HasAnswered D.End.tells D.Net.facts S.facts K.facts (map string_bytes words.now)
-        (D.faults dialer.old) (D.faults dialer.new) input output result }
+    ensures answers { HasAnswered D.End.tells D.Net.facts S.facts K.facts
+        (map string_bytes words.now) (D.faults dialer.old) (D.faults dialer.new) input output
+        result }
+    ensures dials { DialsPort (map string_bytes words.now) (D.ports dialer.old)
+        (D.ports dialer.new) result }
 {
     match ForwardOptions::of(alloc, words) {
         Ok(Some(options)) => dial(rt, alloc, options, dialer, input, output),
@@ -71,9 +74,10 @@ fn dial<R: Wait, D: Dialer, S: Source, K: Sink>(
 where
     D::End: Drop,
     requires { AreInRange options }
-    ensures { (words : List Text) → forward_of words ≡ Some options
+    ensures answers { (words : List Text) → forward_of words ≡ Some options
         → HasAnswered D.End.tells D.Net.facts S.facts K.facts words
         (D.faults dialer.old) (D.faults dialer.new) input output result }
+    ensures dials { D.ports dialer.new ≡ D.ports dialer.old ++ options.port ∷ [] }
 {
     match dialer.dial(alloc, options.port) {
         Ok((net, end)) => tell(forward(rt, alloc, net, end, input, options.wait), output),

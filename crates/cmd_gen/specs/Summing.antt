@@ -5,7 +5,7 @@ use Rattle.ev_base.specs.Sink.{SinkFacts}
 use Rattle.reactor_model.specs.reactor_journal.specs.declared.entry.Entry.{Entry}
 use Rattle.log_handler.specs.declared.note.ServerNote.{ServerNote}
 use Rattle.script_net.specs.event_script.specs.Script.{steps_of}
-use Rattle.script_generator.specs.Laws.{all_bytes}
+use Rattle.script_generator.specs.Laws.{bytes_of_connections}
 use Rattle.script_generator.specs.Scripts.{generated}
 use Rattle.run_summary.specs.Summaries.{told, connections_in, records_in, bytes_in, lines_in}
 use Rattle.run_summary.specs.Summaries.{four_lines}
@@ -23,7 +23,8 @@ summary_lines journal = four_lines (told (connections_in journal)) (told (record
 -- those of a run that took all that the script of n connections and a seed has: its connections,
 -- 125 records of each, its bytes, and a line for each record and for the closing of each connection
 abbrev pub full_lines : ℕ → ℕ → List ℕ
-full_lines n seed = four_lines n (125 * n) (all_bytes (steps_of (generated n seed))) (126 * n)
+full_lines n seed =
+    four_lines n (125 * n) (bytes_of_connections (steps_of (generated n seed))) (126 * n)
 
 -- What was written of some lines, by how it ended: all of them, a front of them where a write
 -- failed, and else nothing.

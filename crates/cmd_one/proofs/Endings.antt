@@ -40,7 +40,7 @@ use Rattle.one_run.specs.declared.serving.Halt.{Halt}
 use Rattle.one_run.specs.declared.serving.Halt.TheVariants as halt
 use Rattle.cmd_one.specs.Outcome.{lines_of, IsClosedWith, ComesTo, IsMalformed, EndsAsRead}
 use Rattle.one_run.specs.bounded_input.specs.Input.{IsReadToEnd, TakesInput}
-use Rattle.cmd_one.specs.Journals.{IsTold, IsTakenAndHeld, IsOver, WroteUntilLast, BreaksLate}
+use Rattle.cmd_one.specs.Journals.{IsTold, IsTakenAndHeld, IsWholeRun, WroteUntilLast, BreaksLate}
 use Rattle.cmd_one.specs.Journals.{HasWritten, StandsFor, SomeJournal}
 use Rattle.cmd_one.specs.Statuses.{DecodesLeft, HasLines, IsDone, IsReadFault, IsNoMemory}
 use Rattle.cmd_one.specs.Statuses.{IsTooLong, IsVolumeFault, HasStatus, code_of}
@@ -553,9 +553,9 @@ no_lines journal (inl none) = ap journal_lines none
 no_lines journal (inr ended) = ap journal_lines ended
 
 over_at_once : (journal : List (Entry ServerNote)) → (journal ≡ []) ⊎ (journal ≡ Ended ∷ [])
-    → (journal ≡ []) ⊎ IsOver journal
+    → (journal ≡ []) ⊎ IsWholeRun journal
 over_at_once journal (inl none) = inl none
-over_at_once journal (inr ended) = inr (subst IsOver (sym ended) end_is_over)
+over_at_once journal (inr ended) = inr (subst IsWholeRun (sym ended) end_is_over)
 
 none_returned : (journal : List (Entry ServerNote)) → (journal ≡ []) ⊎ (journal ≡ Ended ∷ [])
     → (text : List ℕ) → WroteUntilLast journal text

@@ -22,7 +22,7 @@ use Rattle.reactor_core.specs.Stands.{HasTaken}
 use Rattle.reactor_model.specs.Volumes.{VolumesFacts}
 use Rattle.log_handler.specs.declared.note.ServerNote.{ServerNote}
 use Rattle.one_run.specs.Phases.{IsFinished}
-use Rattle.cmd_one.specs.Journals.{IsTold, IsTakenAndHeld, AreHandedOver, IsOver}
+use Rattle.cmd_one.specs.Journals.{IsTold, IsTakenAndHeld, AreHandedOver, IsWholeRun}
 
 -- what is told of the journal is the whole history
 pub told_is : (t : Terms) (v w : VolumesFacts ServerNote) (F first : ℕ)
@@ -91,7 +91,7 @@ was_closed_by false live q = absurd (no_list live q)
     no_list live q = cc
 
 -- the journal of a run that is finished is over
-pub finished_is_over : (h : List (Entry ServerNote)) → Legal h 1 → IsFinished h → IsOver h
+pub finished_is_over : (h : List (Entry ServerNote)) → Legal h 1 → IsFinished h → IsWholeRun h
 finished_is_over h legal f = record {
   legal = legal;
   stopped = sym tells.ended ∙ ap (λ (s : Summary). s.ended) f.sums;
@@ -116,6 +116,6 @@ finished_is_over h legal f = record {
         ∙ ap (λ (b : Bool). b && true) closed
 
 -- the end alone is over
-pub end_is_over : IsOver (Ended ∷ [])
+pub end_is_over : IsWholeRun (Ended ∷ [])
 unfolding may_follow some_wait
 end_is_over = record { legal = refl; stopped = refl; closed = refl }

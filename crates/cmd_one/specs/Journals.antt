@@ -41,7 +41,7 @@ AreHandedOver None after first = Unit {0}
 
 -- The journal is legal for one live handler, the reactor was stopped, and every handle that was
 -- opened was closed.
-pub record IsOver (journal : List (Entry ServerNote)) : Type 0 where
+pub record IsWholeRun (journal : List (Entry ServerNote)) : Type 0 where
   pub legal : Legal journal 1
   pub stopped : ended (past_of journal) ≡ true
   pub closed : all_below (opened (past_of journal)) (was_closed (past_of journal)) ≡ true
@@ -100,7 +100,7 @@ HasWritten true o journal p = BreaksLate o journal p
 -- front of them where a write failed.
 pub record StandsFor (limit : ℕ) (i : SourceFacts) (o : SinkFacts) (j : SourceFacts) (p : SinkFacts)
     (code : ℕ) (journal : List (Entry ServerNote)) : Type 0 where
-  pub over : (journal ≡ []) ⊎ IsOver journal
+  pub over : (journal ≡ []) ⊎ IsWholeRun journal
   pub some : code ≡ 0 → journal ≢ []
   pub run : OpensNothing i j code journal ⊎ ServesConnection limit i j code journal
   pub written : HasWritten false o journal p ⊎ HasWritten true o journal p

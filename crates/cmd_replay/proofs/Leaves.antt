@@ -38,7 +38,8 @@ use Rattle.script_net.specs.NetContent.{NetContent, script_net_facts, script_net
 use Rattle.script_net.specs.ScriptEnd.{script_end_facts, ScriptEndKeeps}
 use Rattle.script_net.specs.declared.end.ScriptEnd.{ScriptEnd}
 use Rattle.grouped_lines.specs.laws_script_runs.specs.Runs as runs
-use Rattle.laws_script_served.specs.Served.{ServesScript, FollowsScript, EndsWithOver}
+use Rattle.reactor_model.specs.Entries.{is_notice}
+use Rattle.laws_script_served.specs.Served.{ServesScript, FollowsScript, IsServedToOver}
 use Rattle.laws_script_served.proofs.Following.{follows-script, ends-over, runs-over}
 use Rattle.laws_script_served.proofs.Scripts.{text-steps}
 use Rattle.server_run.specs.laws_script_taken.specs.Laws.{RunsSomehow}
@@ -219,7 +220,7 @@ module _ {G : Ghosts ScriptEnd} {W V Q : Type 0} (shows : ReactorState Q → Sum
           (λ b. b) begins
 
       ended-over : EndsAtNetOver (script_net_facts net) r.run r.closing
-          → EndsWithOver G t l.journal net
+          → IsServedToOver G t l.journal net
       ended-over e = record {
         run = r.run;
         closing = r.closing;
@@ -244,7 +245,7 @@ module _ {G : Ghosts ScriptEnd} {W V Q : Type 0} (shows : ReactorState Q → Sum
       ends-so ending.NoMemory is e = tt
       ends-so ending.VolumeFault is e = tt
 
-      no-notice : asked.until ≡ None → list_any runs.is_notice l.journal ≡ false
+      no-notice : asked.until ≡ None → list_any is_notice l.journal ≡ false
       no-notice none = subst (λ (until : Option ℕ). HasNotices until l.journal) none r.notices
 
       runs-somehow : RunsSomehow {H = ServerHandler ScriptEnd G}

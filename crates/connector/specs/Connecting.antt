@@ -65,12 +65,13 @@ pub record AsksOnce {N : Type 0} (before : Progress N) (item : Item (ConnectNote
 
 -- one turn while it waits: at output it asks whether the connection is made, a timeout ends it, and
 -- every other upcall is answered Keep
-abbrev pub Waits : {N : Type 0} → Upcall → Progress N → Item (ConnectNote N) → Progress N → Type 0
-Waits Output before item after = AsksOnce before item after
-Waits (Timeout timer) before item after = IsTurn Close (note.TimedOut item.moment) before item after
-Waits Input before item after = IsTurn Keep note.Waiting before item after
-Waits Except before item after = IsTurn Keep note.Waiting before item after
-Waits (Notice kind) before item after = IsTurn Keep note.Waiting before item after
+abbrev pub Awaits : {N : Type 0} → Upcall → Progress N → Item (ConnectNote N) → Progress N → Type 0
+Awaits Output before item after = AsksOnce before item after
+Awaits (Timeout timer) before item after =
+    IsTurn Close (note.TimedOut item.moment) before item after
+Awaits Input before item after = IsTurn Keep note.Waiting before item after
+Awaits Except before item after = IsTurn Keep note.Waiting before item after
+Awaits (Notice kind) before item after = IsTurn Keep note.Waiting before item after
 
 -- ---- once it is connected
 
@@ -104,7 +105,7 @@ Serves (Notice kind) before item after = ServesOnce before item after
 abbrev pub TurnsBy : {N : Type 0} → Bool → Upcall → Progress N → Item (ConnectNote N) → Progress N
     → Type 0
 TurnsBy true up before item after = Serves up before item after
-TurnsBy false up before item after = Waits up before item after
+TurnsBy false up before item after = Awaits up before item after
 
 -- one turn, by whether it is connected and by the upcall
 abbrev pub Turns : {N : Type 0} → Progress N → Item (ConnectNote N) → Progress N → Type 0

@@ -22,7 +22,8 @@ use Rattle.reactor_core.specs.declared.registering.RegisterRefused.TheVariants a
 use Rattle.core_loop.specs.Idle.{IsIdle}
 use Rattle.core_loop.specs.Leading.{LeavesFrom}
 use Rattle.core_loop.proofs.Keeping.{sum}
-use Rattle.connector_run.specs.Opening.{AreOfOne, MayRefuse, OpenHasCause, refusal_of}
+use Rattle.connector_run.specs.Opening.{AreOfOne, OpenHasCause, connect_refusal}
+use Rattle.reactor_core.specs.Refusals.{MayRefuseFirst}
 use Rattle.connector_run.specs.Phases.{first_entries, one_handle, write_alone}
 use Rattle.connector_run.specs.declared.opening.OpenRefused.{OpenRefused}
 use Rattle.connector_run.proofs.Leaving.{stops_shut, told_as}
@@ -66,8 +67,8 @@ module _ {H M Q' W V N E : Type 0} (m : Meaning H M Q' W V N E) (t : Terms)
   pub refused_for : (wait : ℕ) (old new : Core H M Q' W V N E) (back : H)
       (refused : RegisterRefused)
       → RegisterGives m t 0 [] write_alone (Some (wait, 0)) old (Err (back, refused)) new
-      → MayRefuse refused × GivesBack m t 0 [] back new
-      × OpenHasCause (refusal_of refused) (m.facts old.net).failed_attaches
+      → MayRefuseFirst refused × GivesBack m t 0 [] back new
+      × OpenHasCause (connect_refusal refused) (m.facts old.net).failed_attaches
       (m.facts new.net).failed_attaches
   refused_for wait old new back register.Stopped g = absurd (false≢true g.0)
   refused_for wait old new back (register.Full live now) g =

@@ -32,16 +32,9 @@ pub record CanRegister {H M Q W V N E : Type 0} (m : Meaning H M Q W V N E) (t :
   pub stands : Stands m t core 0 []
   pub fits : m.means.fits t None handler []
 
--- a reactor that has no handler and was not stopped refuses one for these reasons alone
-abbrev pub MayRefuse : RegisterRefused → Type 0
-MayRefuse register.NetFailed = Unit {0}
-MayRefuse register.NoMemory = Unit {0}
-MayRefuse register.Stopped = ⊥
-MayRefuse (register.Full live opened) = ⊥
-
-abbrev pub refusal_of : RegisterRefused → OpenRefused
-refusal_of register.NetFailed = NotAttached
-refusal_of _ = NoMemory
+abbrev pub connect_refusal : RegisterRefused → OpenRefused
+connect_refusal register.NetFailed = NotAttached
+connect_refusal _ = NoMemory
 
 -- the net's count of failed attaches rose where the end was not attached
 abbrev pub OpenHasCause : OpenRefused → ℕ → ℕ → Type 0

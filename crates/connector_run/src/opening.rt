@@ -7,8 +7,9 @@ ghost use Rattle.reactor_model.specs.Turns.{most_milliseconds};
 ghost use Rattle.reactor_core.specs.Stands.{Stands};
 ghost use Rattle.reactor_core.specs.Views.{net_of, volume_of};
 ghost use Rattle.reactor_model.specs.Volumes.{tells_nothing};
-ghost use Rattle.connector_run.specs.Opening.{CanOpen, CanRegister, LeavesUnopened, MayRefuse};
-ghost use Rattle.connector_run.specs.Opening.{OpenHasCause, refusal_of};
+ghost use Rattle.connector_run.specs.Opening.{CanOpen, CanRegister, LeavesUnopened};
+ghost use Rattle.reactor_core.specs.Refusals.{MayRefuseFirst};
+ghost use Rattle.connector_run.specs.Opening.{OpenHasCause, connect_refusal};
 ghost use Rattle.connector_run.specs.Phases.{first_entries};
 
 use crate::ConnectCore;
@@ -119,8 +120,8 @@ where
 
 /// Why a reactor that has no handler and was not stopped did not take one.
 fn refusal(refused: RegisterRefused) -> OpenRefused
-    requires { MayRefuse refused }
-    ensures { result ≡ refusal_of refused }
+    requires { MayRefuseFirst refused }
+    ensures { result ≡ connect_refusal refused }
 {
     match refused {
         RegisterRefused::NetFailed => OpenRefused::NotAttached,

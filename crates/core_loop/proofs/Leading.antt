@@ -18,7 +18,7 @@ use Rattle.ev_base.specs.declared.net.Report.{Report}
 use Rattle.reactor_model.specs.reactor_journal.specs.Past.{past_of, count}
 use Rattle.reactor_core.specs.reactor_summary.specs.Summary.{Summary, step}
 use Rattle.reactor_core.specs.Acting.{Settles, StopAppends}
-use Rattle.reactor_core.specs.Beginning.{IsOver, PartsStand}
+use Rattle.reactor_core.specs.Beginning.{IsShutDown, PartsStand}
 use Rattle.reactor_core.specs.HandingOver.{HandsDue, HandsOver, is_due}
 use Rattle.reactor_core.specs.Marks.{is_polled}
 use Rattle.reactor_core.specs.Polling.{FitsLimit, Polls, due_of, ready_of}
@@ -412,7 +412,7 @@ module _ {H M Q' W V N E : Type 0} (m : Meaning H M Q' W V N E) (t : Terms) wher
   -- ---- the end
 
   is_over : (core : Core H M Q' W V N E) (F : ℕ) (h : List (Entry N)) → Stands m t core F h
-      → NoneOpen h → (sum h).ended ≡ true → IsOver (sum h)
+      → NoneOpen h → (sum h).ended ≡ true → IsShutDown (sum h)
   is_over core F h stands none ended =
       record {
         ended = ended;
@@ -426,7 +426,7 @@ module _ {H M Q' W V N E : Type 0} (m : Meaning H M Q' W V N E) (t : Terms) wher
     pub entries : List (Entry N)
     pub stops : StopAppends (sum h) (sum h).ended entries
     pub stands : Stands m t core F (h ++ entries)
-    pub over : IsOver (sum (h ++ entries))
+    pub over : IsShutDown (sum (h ++ entries))
 
   stopped_so : (F : ℕ) (h : List (Entry N)) (new : Core H M Q' W V N E) (b : Bool) → NoneOpen h
       → (sum h).ended ≡ b → StopsOnce m t F h new b → Stopped F h new
@@ -437,7 +437,7 @@ module _ {H M Q' W V N E : Type 0} (m : Meaning H M Q' W V N E) (t : Terms) wher
         entries = [];
         stops = subst (λ (b : Bool). StopAppends {N = N} (sum h) b []) (sym q) nil;
         stands = subst (λ g. Stands m t new F g) (sym same) st;
-        over = subst (λ g. IsOver (sum g)) (sym same) (is_over new F h st none q);
+        over = subst (λ g. IsShutDown (sum g)) (sym same) (is_over new F h st none q);
       }
   stopped_so F h new false none q st =
       let g : List (Entry N) = h ++ Ended ∷ [] in
@@ -451,7 +451,7 @@ module _ {H M Q' W V N E : Type 0} (m : Meaning H M Q' W V N E) (t : Terms) wher
         stops = subst (λ (b : Bool). StopAppends {N = N} (sum h) b (Ended ∷ st.entries)) (sym q)
             (st.entries, st.removals, refl);
         stands = subst (λ k. Stands m t new F k) all st.stands;
-        over = subst (λ k. IsOver (sum k)) all (is_over new F (g ++ st.entries) st.stands open_
+        over = subst (λ k. IsShutDown (sum k)) all (is_over new F (g ++ st.entries) st.stands open_
             (k.ended (ap (λ (s : Summary). s.ended) e)));
       }
 

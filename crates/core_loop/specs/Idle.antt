@@ -8,7 +8,7 @@ use Rattle.reactor_model.specs.reactor_journal.specs.declared.entry.Entry.{Entry
 use Rattle.reactor_model.specs.reactor_journal.specs.Past.{past_of, count}
 use Rattle.reactor_core.specs.reactor_summary.specs.Summary.{summary}
 use Rattle.reactor_core.specs.Stands.{From, Meaning, Stands, StandsWith}
-use Rattle.reactor_core.specs.Beginning.{IsOver, PartsStand}
+use Rattle.reactor_core.specs.Beginning.{IsShutDown, PartsStand}
 use Rattle.reactor_core.specs.Marks.{is_polled}
 use Rattle.reactor_core.specs.Views.{net_of, over_of, volumes_of, watch_of}
 use Rattle.reactor_core.specs.declared.reactor.Parts.{Parts}
@@ -83,7 +83,7 @@ IsOutOrIdle m core done = IsOutOrIdleOn m None core done
 -- it stands for a history that is over
 abbrev pub WasStopped : {H M Q W V N E : Type 0} → Meaning H M Q W V N E → Core H M Q W V N E
     → Type 0
-WasStopped m core = StandsWith m (λ t h. IsOver (summary (past_of h))) core
+WasStopped m core = StandsWith m (λ t h. IsShutDown (summary (past_of h))) core
 
 -- it stands idle, and in its history so many handlers were closed or refused; the reactor was
 -- stopped; its last wait was answered Over; or that is so, and there is no upcall to make
@@ -151,5 +151,5 @@ pub record LeavesParts {H M Q W V N E : Type 0} (m : Meaning H M Q W V N E) (arm
   pub terms : Terms
   pub first : ℕ
   pub history : List (Entry N)
-  pub over : IsOver (summary (past_of history))
+  pub over : IsShutDown (summary (past_of history))
   pub stand : PartsStand m armed terms first history parts

@@ -14,7 +14,7 @@ use Rattle.reactor_model.specs.reactor_journal.specs.declared.entry.Entry.TheVar
 use Rattle.reactor_model.specs.reactor_journal.specs.Past.{past_of, count, is_pick}
 use Rattle.reactor_core.specs.reactor_summary.specs.Summary.{summary, is_alive}
 use Rattle.reactor_core.specs.Acting.{ActAppends, StopAppends}
-use Rattle.reactor_core.specs.Beginning.{IsOver, PartsStand}
+use Rattle.reactor_core.specs.Beginning.{IsShutDown, PartsStand}
 use Rattle.reactor_core.specs.Marks.{is_polled}
 use Rattle.reactor_core.specs.Polling.{FitsLimit, due_of, ready_of}
 use Rattle.reactor_core.specs.Postings.{posting}
@@ -220,5 +220,5 @@ pub record LeavesFrom {H M Q W V N E : Type 0} (m : Meaning H M Q W V N E) (arme
     (t : Terms) (F : ℕ) (before : List (Entry N)) (parts : Parts N M Q W V) : Type 0 where
   pub entries : List (Entry N)
   pub stops : StopAppends (summary (past_of before)) (summary (past_of before)).ended entries
-  pub over : IsOver (summary (past_of (before ++ entries)))
+  pub over : IsShutDown (summary (past_of (before ++ entries)))
   pub stand : PartsStand m armed t F (before ++ entries) parts

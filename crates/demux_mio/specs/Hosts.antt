@@ -17,9 +17,14 @@ mio_host_ports host = host.ports
 abbrev pub mio_host_keeps : {R : Type 0} → Terms → MioHost R → Type 0
 mio_host_keeps t host = NoOffers t
 
--- how often a dial failed, and what a dialler keeps: that of its nets and ends
+-- how often a dial failed
 abbrev pub mio_dialer_faults : {R : Type 0} → MioDialer R → ℕ
 mio_dialer_faults dialer = dialer.faults
 
+-- the ports that it was asked for, the first first
+abbrev pub mio_dialer_ports : {R : Type 0} → MioDialer R → List ℕ
+mio_dialer_ports dialer = dialer.ports
+
+-- it keeps what its nets and ends keep
 abbrev pub mio_dialer_keeps : {R : Type 0} → Terms → MioDialer R → Type 0
 mio_dialer_keeps t dialer = NoOffers t

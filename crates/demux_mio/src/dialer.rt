@@ -1,11 +1,11 @@
 //! What makes connections and their nets.
-ghost use Rattle.std.specs.Prelude.{◌≡◌};
+ghost use Rattle.std.specs.Prelude.{◌≡◌, []};
 
 use crate::net::WAKER;
 use crate::shared::Shared;
 use crate::socket::{Socket, without_delay};
 use crate::{MioEnd, MioNet};
-use ev_base::{DialRefused, Dialer};
+use ev_base::{DialRefused, Dialer, PortLog};
 use mio::net::TcpStream;
 use mio::{Poll, Waker};
 use std::alloc::Global;
@@ -21,6 +21,7 @@ pub struct MioDialer<R> {
     rt: R,
     address: IpAddr,
     faults: u64,
+    ports: PortLog,
 }
 
 /// What the system gave for a connection.
@@ -33,16 +34,18 @@ struct Begun {
 }
 
 impl<R: Sockets + Clock + Copy> MioDialer<R> {
-    ghost use Rattle.demux_mio.specs.Hosts.{mio_dialer_faults};
+    ghost use Rattle.demux_mio.specs.Hosts.{mio_dialer_faults, mio_dialer_ports};
 
     /// A dialler that made no call.
     pub fn new(rt: R) -> MioDialer<R>
-        ensures { mio_dialer_faults result ≡ 0 }
+        ensures faults { mio_dialer_faults result ≡ 0 }
+        ensures ports { mio_dialer_ports result ≡ [] }
     {
         MioDialer {
             rt,
             address: IpAddr::V4(Ipv4Addr::LOCALHOST),
             faults: 0,
+            ports: PortLog::none(),
         }
     }
 
@@ -50,6 +53,7 @@ impl<R: Sockets + Clock + Copy> MioDialer<R> {
     /// connection is asked for.
     pub fn set_address(&mut self, address: IpAddr)
         ensures faults { mio_dialer_faults self.new ≡ mio_dialer_faults self.old }
+        ensures ports { mio_dialer_ports self.new ≡ mio_dialer_ports self.old }
     {
         self.address = address;
     }
@@ -72,7 +76,7 @@ impl<R: Sockets + Clock + Copy> MioDialer<R> {
 }
 
 impl<R: Sockets + Clock + Copy> Dialer for MioDialer<R> {
-    ghost use Rattle.demux_mio.specs.Hosts.{mio_dialer_faults, mio_dialer_keeps};
+    ghost use Rattle.demux_mio.specs.Hosts.{mio_dialer_faults, mio_dialer_keeps, mio_dialer_ports};
 
     type End = MioEnd;
 
@@ -80,9 +84,12 @@ impl<R: Sockets + Clock + Copy> Dialer for MioDialer<R> {
 
     ghost faults = { mio_dialer_faults };
 
+    ghost ports = { mio_dialer_ports };
+
     ghost keeps = { mio_dialer_keeps };
 
     fn dial(&mut self, alloc: Global, port: u16) -> Result<(MioNet<R>, MioEnd), DialRefused> {
+        self.ports.add(port);
         let Ok(begun) = self.begin(port) else {
             self.faults = self.faults.saturating_add(1);
             return Err(DialRefused::Failed);

@@ -1,10 +1,10 @@
 //! The dialler in memory.
-ghost use Rattle.std.specs.Prelude.{◌≡◌, true, Some, None, option_map, IfNone};
+ghost use Rattle.std.specs.Prelude.{◌≡◌, ◌++◌, ◌∷◌, [], true, Some, None, option_map, IfNone};
 ghost use Rattle.dial_memory.specs.DialEnds.{mem_dial_end_facts, is_new_end};
 ghost use Rattle.dial_memory.specs.DialNets.{mem_dial_net_facts, is_new_net};
 
 use super::{MemDialEnd, MemDialNet};
-use ev_base::{DialRefused, Dialer};
+use ev_base::{DialRefused, Dialer, PortLog};
 use std::alloc::Global;
 
 /// A net and an end that made no call.
@@ -21,10 +21,11 @@ pub(crate) struct DialParts {
 pub struct MemDialer {
     parts: Option<DialParts>,
     faults: u64,
+    ports: PortLog,
 }
 
 impl MemDialer {
-    ghost use Rattle.dial_memory.specs.Diallers.{parts_of, mem_dialer_faults};
+    ghost use Rattle.dial_memory.specs.Diallers.{parts_of, mem_dialer_faults, mem_dialer_ports};
 
     /// A dialler of these parts, which are as they were made.
     pub fn new(net: MemDialNet, end: MemDialEnd) -> MemDialer
@@ -32,10 +33,12 @@ impl MemDialer {
         requires end { is_new_end end ≡ true }
         ensures parts { parts_of result ≡ Some (net, end) }
         ensures faults { mem_dialer_faults result ≡ 0 }
+        ensures ports { mem_dialer_ports result ≡ [] }
     {
         MemDialer {
             parts: Some(DialParts { net, end }),
             faults: 0,
+            ports: PortLog::none(),
         }
     }
 }
@@ -44,6 +47,7 @@ impl Dialer for MemDialer {
     ghost use Rattle.ev_base.specs.Terms.{Terms};
     ghost use Rattle.ev_base.specs.Dialer.{Dials};
     ghost use Rattle.dial_memory.specs.Diallers.{parts_of, mem_dialer_faults, mem_dialer_keeps};
+    ghost use Rattle.dial_memory.specs.Diallers.{mem_dialer_ports};
     ghost use Rattle.dial_memory.specs.DialEnds.{mem_dial_end_keeps};
     ghost use Rattle.dial_memory.specs.DialNets.{mem_dial_net_keeps};
 
@@ -53,17 +57,21 @@ impl Dialer for MemDialer {
 
     ghost faults = { mem_dialer_faults };
 
+    ghost ports = { mem_dialer_ports };
+
     ghost keeps = { mem_dialer_keeps };
 
     fn dial(&mut self, alloc: Global, port: u16) -> Result<(MemDialNet, MemDialEnd), DialRefused>
         ensures dials { Dials mem_dial_net_facts mem_dial_end_facts mem_dial_net_keeps
             mem_dial_end_keeps (λ t. mem_dialer_keeps t self.old) (mem_dialer_faults self.old)
             result (mem_dialer_faults self.new) }
+        ensures asked { mem_dialer_ports self.new ≡ mem_dialer_ports self.old ++ port ∷ [] }
         ensures gives { parts_of self.old ≡ None → result ≡ Err DialRefused.Failed }
         ensures first { (parts : MemDialNet × MemDialEnd) → parts_of self.old ≡ Some parts
             → result ≡ Ok parts }
         ensures spent { parts_of self.new ≡ None }
     {
+        self.ports.add(port);
         match self.parts.take() {
             Some(DialParts { net, end }) => Ok((net, end)),
             None => {

@@ -37,7 +37,8 @@ use Rattle.reactor.specs.tp_reactor.specs.Led.{over_mark, volumes_mark, waits_ma
 use Rattle.reactor.specs.tp_reactor.specs.Pool.{HasClosed, RanTells, known_postings}
 use Rattle.reactor.specs.notify_ring.specs.Passes.{root_poster}
 use Rattle.reactor.specs.notify_ring.specs.Words.{drainer_view}
-use Rattle.reactor.specs.reactor_desk.specs.Notices.{AreRecorded, is_notice}
+use Rattle.reactor.specs.reactor_desk.specs.Notices.{AreRecorded}
+use Rattle.reactor.specs.reactor_model.specs.Entries.{is_notice}
 use Rattle.reactor.specs.tp_reactor.proofs.Merged.{none_drained}
 use Rattle.reactor.specs.tp_reactor.specs.declared.working.Ran.{Ran}
 use Rattle.reactor.specs.tp_reactor.specs.declared.working.Ran.TheVariants as ran
@@ -55,9 +56,10 @@ use Rattle.reactor.specs.reactor_core.specs.declared.registering.RegisterRefused
 use Rattle.reactor.specs.core_loop.specs.Idle.{IsIdle}
 use Rattle.echo_server.specs.Echo.{EndedSo, WentBack}
 use Rattle.echo_server.specs.Handlers.{HandlerGone, handlers, read_alone}
-use Rattle.echo_server.specs.Runs.{AreEchoed, HasCause, IsOpened, IsServed, IsUnposted, MayRefuse}
+use Rattle.echo_server.specs.Runs.{AreEchoed, HasCause, IsOpened, IsServed, IsUnposted}
+use Rattle.reactor.specs.reactor_core.specs.Refusals.{MayRefuseFirst}
 use Rattle.echo_server.specs.Runs.{PoolEnds}
-use Rattle.echo_server.specs.Runs.{first_entry, most_handlers, refusal_of, run_terms}
+use Rattle.echo_server.specs.Runs.{first_entry, most_handlers, echo_refusal, run_terms}
 use Rattle.echo_server.specs.declared.note.EchoNote.{EchoNote}
 use Rattle.echo_server.specs.declared.opening.OpenRefused.{OpenRefused}
 use Rattle.echo_server.specs.declared.note.Ending.{Ending}
@@ -167,8 +169,8 @@ module _ {H M Q W V N E : Type 0} (m : Meaning H M Q W V N E) where
   -- the handler came back
   pub refused_for : (idle : ℕ) (old new : Core H M Q W V N E) (back : H) (refused : RegisterRefused)
       → RegisterGives m (run_terms idle) 0 [] read_alone None old (Err (back, refused)) new →
-      MayRefuse refused × Stands m (run_terms idle) new 0 []
-      × HasCause (refusal_of refused) (m.facts old.net).failed_attaches
+      MayRefuseFirst refused × Stands m (run_terms idle) new 0 []
+      × HasCause (echo_refusal refused) (m.facts old.net).failed_attaches
       (m.facts new.net).failed_attaches
   refused_for idle old new back register.Stopped g = absurd (false≢true g.0)
   refused_for idle old new back (register.Full live now) g =

@@ -18,7 +18,7 @@ use Rattle.reactor.specs.core_loop.specs.Idle.{HasEnded, WasOver}
 use Rattle.reactor.specs.tp_reactor.specs.declared.working.Ran.{Ran}
 use Rattle.reactor.specs.tp_reactor.specs.declared.working.Ran.TheVariants as ran
 use Rattle.echo_server.specs.Echo.{WentBack}
-use Rattle.reactor.specs.reactor_desk.specs.Notices.{is_notice}
+use Rattle.reactor.specs.reactor_model.specs.Entries.{is_notice}
 use Rattle.echo_server.specs.Handlers.{idle_of, read_alone}
 use Rattle.echo_server.specs.declared.note.EchoNote.{EchoNote}
 use Rattle.echo_server.specs.declared.acceptor.EchoAcceptor.{EchoAcceptor}
@@ -53,16 +53,9 @@ abbrev pub IsOpened : {H M Q W V N E : Type 0} → Meaning H M Q W V N E → ℕ
     → Type 0
 IsOpened m idle core = Stands m (run_terms idle) core 0 (first_entry ∷ [])
 
--- a reactor that has no handler and was not stopped refuses one for these reasons alone
-abbrev pub MayRefuse : RegisterRefused → Type 0
-MayRefuse register.NetFailed = Unit {0}
-MayRefuse register.NoMemory = Unit {0}
-MayRefuse register.Stopped = ⊥
-MayRefuse (register.Full live opened) = ⊥
-
-abbrev pub refusal_of : RegisterRefused → OpenRefused
-refusal_of register.NetFailed = NotAttached
-refusal_of _ = NoMemory
+abbrev pub echo_refusal : RegisterRefused → OpenRefused
+echo_refusal register.NetFailed = NotAttached
+echo_refusal _ = NoMemory
 
 -- what stands behind a refusal, by the count of failed attaches of the net before and now
 abbrev pub HasCause : OpenRefused → ℕ → ℕ → Type 0

@@ -5,8 +5,9 @@ ghost use Rattle.reactor.specs.reactor_model.specs.Turns.{most_milliseconds};
 ghost use Rattle.reactor.specs.reactor_core.specs.Views.{net_of};
 ghost use Rattle.reactor.specs.core_loop.specs.Idle.{IsIdle, LeavesParts};
 ghost use Rattle.echo_server.specs.Handlers.{idle_of};
-ghost use Rattle.echo_server.specs.Runs.{AreEchoed, HasCause, IsOpened, MayRefuse, MayRegister};
-ghost use Rattle.echo_server.specs.Runs.{refusal_of, run_terms};
+ghost use Rattle.echo_server.specs.Runs.{AreEchoed, HasCause, IsOpened, MayRegister};
+ghost use Rattle.reactor.specs.reactor_core.specs.Refusals.{MayRefuseFirst};
+ghost use Rattle.echo_server.specs.Runs.{echo_refusal, run_terms};
 
 use crate::{EchoAcceptor, EchoHandler, EchoNote};
 use reactor::{
@@ -86,8 +87,8 @@ fn register<E: PeerEnd + Drop, M: Net<End = E>>(
 
 /// Why a reactor that has no handler and was not stopped did not take one.
 fn refusal(refused: RegisterRefused) -> OpenRefused
-    requires { MayRefuse refused }
-    ensures { result ≡ refusal_of refused }
+    requires { MayRefuseFirst refused }
+    ensures { result ≡ echo_refusal refused }
 {
     match refused {
         RegisterRefused::NetFailed => OpenRefused::NotAttached,

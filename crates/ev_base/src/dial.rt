@@ -1,5 +1,5 @@
 //! Ends whose connection is being made, and what makes them.
-ghost use Rattle.std.specs.Prelude.{◌≡◌, ℕ, false};
+ghost use Rattle.std.specs.Prelude.{◌≡◌, ◌++◌, ◌∷◌, [], ℕ, List, false};
 ghost use Rattle.ev_base.specs.Terms.{Terms, KeepsOn};
 ghost use Rattle.ev_base.specs.End.{EndFinishes};
 ghost use Rattle.ev_base.specs.Dialer.{Dials, LeavesDialOpen};
@@ -49,14 +49,18 @@ pub trait Dialer {
     /// How often a `dial` failed.
     ghost faults: { Self → ℕ };
 
+    /// The ports that it was asked for, the first first.
+    ghost ports: { Self → List ℕ };
+
     /// What it keeps under the terms that a run starts with.
     ghost keeps: { Terms → Self → Type 0 };
 
     /// Begins a connection to a port, which need not be made yet. The net is new, and the end is no
     /// listener and has made no call.
     fn dial(&mut self, alloc: Global, port: u16) -> Result<(Self::Net, Self::End), DialRefused>
-        ensures { Dials Self.Net.facts Self.End.tells Self.Net.keeps Self.End.keeps
-            (λ t. keeps t self.old) (faults self.old) result (faults self.new) };
+        ensures dials { Dials Self.Net.facts Self.End.tells Self.Net.keeps Self.End.keeps
+            (λ t. keeps t self.old) (faults self.old) result (faults self.new) }
+        ensures asked { ports self.new ≡ ports self.old ++ port ∷ [] };
 
     /// It keeps terms that say nothing of it.
     ghost keeps_open: { (t : Terms) (dialer : Self) → LeavesDialOpen t → keeps t dialer };

@@ -1,4 +1,4 @@
-//! The ports on which a host was asked to listen, which contracts alone see.
+//! The ports that a host or a dialler was asked for, which contracts alone see.
 ghost use Rattle.std.specs.Prelude.{◌≡◌, ◌++◌, ◌∷◌, []};
 
 use ghost_log::{Entry, GhostLog};
@@ -24,8 +24,8 @@ impl Entry<u16, PortSeen> for Port {
     ghost entry = { λ port. port };
 }
 
-/// The ports on which a host was asked to listen, the first first. It takes no memory and no time:
-/// nothing of it is there in a run.
+/// The ports that a host or a dialler was asked for, the first first. It takes no memory and no
+/// time: nothing of it is there in a run.
 #[derive(Drop)]
 pub struct PortLog {
     asked: GhostLog<PortSeen>,

@@ -29,7 +29,7 @@ use Rattle.forwarder.specs.Feeding.{sent_as, sent_all, feed}
 use Rattle.forwarder.specs.Readings.{stop_of, stop_at_end}
 use Rattle.forwarder.specs.Forwarding.{State, more, none_wait, may_read}
 use Rattle.forwarder.specs.Forwarding.{TakesRead, ReadsOnce, Reads, may_write}
-use Rattle.forwarder.specs.Forwarding.{TakesWrite, WritesOnce, Writes}
+use Rattle.forwarder.specs.Forwarding.{TakesWrite, WritesOnce, WritesIf}
 use Rattle.forwarder.specs.Forwarded.{IsWritten, HasStopped, IfSo}
 use Rattle.forwarder.specs.Forwarded.{GoesOnFrom, UnlessWanting, HasForwarded}
 use Rattle.forwarder.specs.declared.note.ForwardEnding.{ForwardEnding}
@@ -450,10 +450,10 @@ may_write_goes true (Some how) is = cc
 may_write_goes false (Some how) is = cc
 
 pub writes_on : (r : State) (took : Bool) (w : State) → HasForwarded r
-    → Writes (may_write r) r took w → LeavesWrite r took w
+    → WritesIf (may_write r) r took w → LeavesWrite r took w
 writes_on r took w h writes = by (may_write r) refl writes
   where
-    by : (b : Bool) → may_write r ≡ b → Writes b r took w → LeavesWrite r took w
+    by : (b : Bool) → may_write r ≡ b → WritesIf b r took w → LeavesWrite r took w
     by true is once = writes_once r took w (may_write_goes (none_wait r) r.ended is) h once
     by false is same = record {
       forwarded = subst HasForwarded (sym same.1) h;

@@ -7,7 +7,7 @@ use Rattle.ev_base.specs.declared.end.Sent.TheVariants as sent
 use Rattle.cdr_record.specs.Decoding.{DecoderState}
 use Rattle.forwarder.specs.Feeding.{sent_all}
 use Rattle.forwarder.specs.Readings.{CompletesSo}
-use Rattle.forwarder.specs.Forwarding.{State, TakesPiece, Writes, may_write, more, none_wait}
+use Rattle.forwarder.specs.Forwarding.{State, TakesPiece, WritesIf, may_write, more, none_wait}
 use Rattle.forwarder.specs.declared.note.ForwardEnding.{ForwardEnding}
 use Rattle.forwarder.specs.declared.reading.Completed.{Completed}
 
@@ -21,9 +21,9 @@ may_both false (Some how) is none = cc
 pub wrote_some : (s : State) (f : EndFacts) (n bytes : ℕ) (piece left : List ℕ)
     → none_wait s ≡ false → is_some s.ended ≡ false → piece ≡ s.waiting
     → EndWrites s.facts piece (sent.Bytes n) f → left ≡ drop n piece → bytes ≡ more s.bytes n
-    → Writes (may_write s) s true (record s { facts = f; waiting = left; bytes = bytes })
+    → WritesIf (may_write s) s true (record s { facts = f; waiting = left; bytes = bytes })
 wrote_some s f n bytes piece left some open_ all writes passed counts =
-    subst (λ (b : Bool). Writes b s true (record s { facts = f; waiting = left; bytes = bytes }))
+    subst (λ (b : Bool). WritesIf b s true (record s { facts = f; waiting = left; bytes = bytes }))
     (sym (may_both (none_wait s) s.ended some open_)) (record {
       came = sent.Bytes n;
       facts = f;

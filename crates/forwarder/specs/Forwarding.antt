@@ -124,9 +124,9 @@ pub record WritesOnce (before : State) (took : Bool) (after : State) : Type 0 wh
   pub writes : EndWrites before.facts before.waiting came facts
   pub takes : TakesWrite came (record before { facts = facts }) took after
 
-abbrev pub Writes : Bool → State → Bool → State → Type 0
-Writes true before took after = WritesOnce before took after
-Writes false before took after = (took ≡ false) × (after ≡ before)
+abbrev pub WritesIf : Bool → State → Bool → State → Type 0
+WritesIf true before took after = WritesOnce before took after
+WritesIf false before took after = (took ≡ false) × (after ≡ before)
 
 -- ---- one turn
 
@@ -152,7 +152,7 @@ pub record Forwards (before : State) (answer : Answer) (after : State) : Type 0 
   pub reads : Reads (may_read before) before gave read
   pub took : Bool
   pub written : State
-  pub writes : Writes (may_write read) read took written
+  pub writes : WritesIf (may_write read) read took written
   pub leaves : after ≡ concluded written
   pub answers : answer ≡ answer_of (concluded written).ended (gave || took)
 

@@ -6,9 +6,9 @@ use Rattle.std.specs.List.{list_all}
 use Rattle.message_block.specs.Messages.{MessageState, QueueState, bytes_of, held_bytes}
 
 -- the bytes of messages, in order
-abbrev pub all_bytes : List MessageState → List ℕ
-all_bytes [] = []
-all_bytes (message ∷ messages) = bytes_of message ++ all_bytes messages
+abbrev pub message_bytes : List MessageState → List ℕ
+message_bytes [] = []
+message_bytes (message ∷ messages) = bytes_of message ++ message_bytes messages
 
 -- the bytes of the message that is being sent
 abbrev pub front_bytes : Option MessageState → List ℕ
@@ -20,7 +20,7 @@ abbrev pub front_rest : Option MessageState → ℕ → List ℕ
 front_rest front at = drop at (front_bytes front)
 
 abbrev pub waiting_by : Option MessageState → ℕ → QueueState → List ℕ
-waiting_by front at queue = front_rest front at ++ all_bytes queue.messages
+waiting_by front at queue = front_rest front at ++ message_bytes queue.messages
 
 -- How many bytes a queue holds at most: one less than its high mark, and the longest spelling of a
 -- record.

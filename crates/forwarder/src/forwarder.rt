@@ -52,7 +52,7 @@ impl<E, S> Drop for Forwarder<E, S> {
 
 impl<E: DialEnd, S: Source> Forwarder<E, S> {
     ghost use Rattle.ev_base.specs.End.{IsFresh};
-    ghost use Rattle.forwarder.specs.Forwarding.{Serves, Forwards, Reads, Writes, TakesPiece};
+    ghost use Rattle.forwarder.specs.Forwarding.{Serves, Forwards, Reads, WritesIf, TakesPiece};
     ghost use Rattle.forwarder.specs.Forwarding.{LacksMemory, may_read, may_write, note_of};
     ghost use Rattle.forwarder.specs.Forwarding.{concluded, answer_of};
     ghost use Rattle.forwarder.specs.Forwarded.{HasTurned};
@@ -177,9 +177,9 @@ impl<E: DialEnd, S: Source> Forwarder<E, S> {
         Ok(())
     }
 
-    /// Writes what waits, if something does and it goes on. Tells whether bytes were taken.
+    /// WritesIf what waits, if something does and it goes on. Tells whether bytes were taken.
     fn write_on(&mut self, end: &mut ForwardEnd<E, S>) -> bool
-        ensures writes { Writes (may_write (state_of E.tells S.facts self.old end.old))
+        ensures writes { WritesIf (may_write (state_of E.tells S.facts self.old end.old))
             (state_of E.tells S.facts self.old end.old) result
             (state_of E.tells S.facts self.new end.new) }
         ensures kept { KeepsOn (ForwardKeeps E.tells E.keeps S.facts) end.old end.new }

@@ -51,10 +51,11 @@ use Rattle.laws_script_complete.specs.event_script.specs.Script.{opened as conne
 use Rattle.laws_script_complete.specs.event_script.specs.Stories.{bytes_of}
 use Rattle.laws_script_complete.specs.laws_script_turns.specs.Laws.{pauses_had}
 use Rattle.laws_script_complete.specs.laws_script_turns.specs.Laws.{steps_on}
-use Rattle.laws_script_complete.specs.laws_script_runs.specs.Connections.{AreLeft, Leaves}
+use Rattle.laws_script_complete.specs.laws_script_runs.specs.Connections.{AreLeft, SaysLast}
 use Rattle.laws_script_complete.specs.laws_script_runs.specs.Connections.{TalksThrough, HadMemory}
 use Rattle.laws_script_complete.specs.laws_script_runs.specs.Connections.{entry_lacks, accepted}
-use Rattle.laws_script_complete.specs.laws_script_runs.specs.Runs.{is_refusal, is_fault}
+use Rattle.laws_script_complete.specs.laws_script_runs.specs.Runs.{is_refusal}
+use Rattle.laws_script_complete.specs.reactor_model.specs.Entries.{is_fault}
 use Rattle.laws_script_complete.specs.laws_script_runs.specs.Steps.{EachStep}
 use Rattle.laws_script_complete.specs.laws_script_runs.specs.Laws.{RunsOver}
 use Rattle.laws_script_complete.specs.laws_script_runs.proofs.Glue as glue
@@ -80,7 +81,8 @@ use Rattle.run_summary.proofs.Counting.{lines_are}
 use Rattle.run_summary.proofs.Feeds.{record_lines_feeds, closing_line_feeds}
 use Rattle.script_generator.specs.Records.{letter_count}
 use Rattle.script_generator.specs.Scripts.{last_round, generated}
-use Rattle.script_generator.specs.Laws.{rounds, connection_records, all_bytes, bytes_of_records}
+use Rattle.script_generator.specs.Laws.{rounds, connection_records, bytes_of_connections}
+use Rattle.script_generator.specs.Laws.{bytes_of_records}
 use Rattle.script_generator.specs.Laws.{BringsRecords}
 use Rattle.script_generator.proofs.Whole.{last_round_is}
 use Rattle.script_generator.proofs.Connections.{has_steps, brings_records, bytes_are}
@@ -283,7 +285,7 @@ module _ {H E : Type 0} (means : Handling H E ServerNote) (t : Terms) (n seed : 
       legal_past = is_legal-front t.most (later ++ Closed handle said ∷ []) past
           (sym (ap (is_legal t.most) joined) ∙ legal)
 
-      leaves : Leaves steps None (origin_of past handle.0) (had past handle.0)
+      leaves : SaysLast steps None (origin_of past handle.0) (had past handle.0)
           (reason_of past handle.0) said
       leaves = (turns.left_front t.most steps None all legal begun left closed later
           (Closed handle said ∷ past) (subst (AreLeft steps None) is left)).0
@@ -291,7 +293,7 @@ module _ {H E : Type 0} (means : Handling H E ServerNote) (t : Terms) (n seed : 
       by_number : (x : ℕ) → handle.0 ≡ x → ClosesAs x said
       by_number zero mine =
           (subst (λ (o : Option (Origin ServerNote)).
-          Leaves steps None o (had past handle.0) (reason_of past handle.0) said)
+          SaysLast steps None o (had past handle.0) (reason_of past handle.0) said)
           (ap (origin_of past) mine ∙ origin_first t.most past legal_past begun_past)
           leaves).notes
       by_number (suc c) mine = let talks =
@@ -450,11 +452,11 @@ module _ {H E : Type 0} (means : Handling H E ServerNote) (t : Terms) (n seed : 
         each,
       )
 
-  bytes : bytes_in journal ≡ all_bytes steps
+  bytes : bytes_in journal ≡ bytes_of_connections steps
   bytes =
       let each = same_below (λ c. sum_by (of_item took_of) (had all (suc c)))
       (λ c. length (bytes_of c steps)) n (λ c lt. (reads c lt).bytes) in
-      let whole_sum : below n (λ c. length (bytes_of c steps)) ≡ all_bytes steps =
+      let whole_sum : below n (λ c. length (bytes_of c steps)) ≡ bytes_of_connections steps =
       ap (λ (k : ℕ). below k (λ c. length (bytes_of c steps))) (sym come) in
       omega (
         arith,
@@ -492,7 +494,7 @@ module _ {H E : Type 0} (means : Handling H E ServerNote) (t : Terms) (n seed : 
 
   pub sums_up : (summary : Summary) → Summarizes summary journal → SumsUp n seed summary
   sums_up summary s =
-      let small : all_bytes steps ≤ 8500000 =
+      let small : bytes_of_connections steps ≤ 8500000 =
       omega (arith, bytes_are n seed least many, bytes_within n seed many) in
       record {
         connections = omega (arith, s.connections, connections);

@@ -14,9 +14,10 @@ use Rattle.laws_script_complete.specs.laws_script_turns.specs.Grouped.{each_belo
 use Rattle.laws_script_complete.specs.laws_script_turns.specs.Grouped.{grouped}
 use Rattle.laws_script_complete.specs.laws_script_runs.specs.Connections.{HadMemory}
 use Rattle.laws_script_complete.specs.laws_script_runs.specs.Laws.{RunsOver}
-use Rattle.laws_script_complete.specs.laws_script_runs.specs.Runs.{is_refusal, is_fault}
+use Rattle.laws_script_complete.specs.laws_script_runs.specs.Runs.{is_refusal}
+use Rattle.laws_script_complete.specs.reactor_model.specs.Entries.{is_fault}
 use Rattle.script_generator.specs.Scripts.{generated}
-use Rattle.script_generator.specs.Laws.{all_bytes, connection_records}
+use Rattle.script_generator.specs.Laws.{bytes_of_connections, connection_records}
 use Rattle.run_summary.specs.declared.summary.Summary.{Summary}
 use Rattle.run_summary.specs.Summaries.{line_feeds, Summarizes}
 
@@ -24,7 +25,7 @@ use Rattle.run_summary.specs.Summaries.{line_feeds, Summarizes}
 pub record SumsUp (n seed : ℕ) (summary : Summary) : Type 0 where
   pub connections : summary.connections ≡ n
   pub records : summary.records ≡ 125 * n
-  pub bytes : summary.bytes ≡ all_bytes (steps_of (generated n seed))
+  pub bytes : summary.bytes ≡ bytes_of_connections (steps_of (generated n seed))
   pub lines : summary.lines ≡ 126 * n
 
 -- A run over a generated script without an idle time, in which no handler was refused and none

@@ -40,7 +40,7 @@ use Rattle.laws_one_worker.specs.reactor_core.specs.Settling.{IsClosing}
 use Rattle.laws_one_worker.specs.ev_types.specs.declared.upcall.Handle.{Handle}
 use Rattle.laws_one_worker.specs.log_handler.specs.declared.note.ServerNote.{ServerNote}
 use Rattle.laws_one_worker.specs.log_handler.specs.declared.note.ServerNote.TheVariants as note
-use Rattle.laws_one_worker.specs.laws_script_told.specs.Told.{first_deadline}
+use Rattle.laws_one_worker.specs.laws_script_told.specs.Told.{first_deadline_in}
 use Rattle.laws_one_worker.specs.laws_script_runs.specs.Steps.{EachStep}
 use Rattle.laws_one_worker.specs.laws_script_serial.specs.Serial.{IsSettledAtOnce, InstallsOnly}
 use Rattle.laws_one_worker.specs.laws_script_serial.proofs.Quiet.{StartsLast, open_is_last}
@@ -133,7 +133,7 @@ untimed groups most (e ∷ past) legal none =
     let before = (and_parts (may_follow most past e) (is_legal most past) legal).1 in
     let rest = (or_parts (is_timer_set e) (list_any is_timer_set past) none).1 in (
       ap (λ (timers : List (ℕ × ℕ)). option_map (λ (deadline : ℕ). deadline - now past)
-          (first_deadline timers)) (no_timers most past before rest).armed_is,
+          (first_deadline_in timers)) (no_timers most past before rest).armed_is,
       untimed groups most past before rest,
     )
 

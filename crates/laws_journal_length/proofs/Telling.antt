@@ -33,8 +33,8 @@ use Rattle.laws_one_worker.specs.reactor_journal.specs.Follow.{follows_ready}
 use Rattle.laws_one_worker.specs.reactor_journal.proofs.Basics.{may_fits}
 use Rattle.laws_one_worker.specs.event_script.specs.Script.{ScriptGroup, groups_told}
 use Rattle.laws_one_worker.specs.log_handler.specs.declared.note.ServerNote.{ServerNote}
-use Rattle.laws_one_worker.specs.laws_script_told.specs.Told.{told, time_left, told_after}
-use Rattle.laws_one_worker.specs.laws_script_told.specs.Told.{end_offered, is_taken, last_wait}
+use Rattle.laws_one_worker.specs.laws_script_told.specs.Told.{told, time_left_in, told_after}
+use Rattle.laws_one_worker.specs.laws_script_told.specs.Told.{end_offered, is_taken_in, last_wait}
 use Rattle.laws_one_worker.specs.laws_script_told.specs.Told.{is_over, FollowsBefore}
 use Rattle.laws_one_worker.specs.laws_script_runs.specs.Steps.{EachStep}
 use Rattle.laws_one_worker.specs.laws_script_serial.specs.Serial.{is_over_here}
@@ -183,10 +183,10 @@ module _ (groups : List ScriptGroup) where
 
   -- no timer was armed before it
   abbrev pub Untimed : List (Entry ServerNote) → Entry ServerNote → Type 0
-  Untimed past e = time_left past ≡ None
+  Untimed past e = time_left_in past ≡ None
 
-  takes_told : (past : List (Entry ServerNote)) → time_left past ≡ None
-      → Takes (told all past) (waited (time_left past) (told all past))
+  takes_told : (past : List (Entry ServerNote)) → time_left_in past ≡ None
+      → Takes (told all past) (waited (time_left_in past) (told all past))
   takes_told past none = subst (λ (o : Option ℕ). Takes (told all past) (waited o (told all past)))
       (sym none) (takes (told all past))
 
@@ -211,10 +211,10 @@ module _ (groups : List ScriptGroup) where
       steps_told most past [] (and_parts (may_follow most past (Polled moment))
       (is_legal most past) legal).1 timed.1 (inl refl) f.1 in
       let t = (takes_told past timed.0).steps in
-      let few : length taken ≤ length (waited (time_left past) (told all past)).reports =
+      let few : length taken ≤ length (waited (time_left_in past) (told all past)).reports =
       subst (λ (rs : List Report). length rs
-      ≤ length (waited (time_left past) (told all past)).reports) (sym f.0.are_taken)
-      (fewer (is_taken past) _) in
+      ≤ length (waited (time_left_in past) (told all past)).reports) (sym f.0.are_taken)
+      (fewer (is_taken_in past) _) in
       omega (arith, before, t, few)
   steps_told most (Ready handle kind ∷ past) taken legal timed ok f =
       let parts = and_parts (may_follow most past (Ready handle kind)) (is_legal most past) legal in
@@ -260,7 +260,7 @@ module _ (groups : List ScriptGroup) where
       (λ (f : follows_ready past ≡ false). f) (cases_Bool (follows_ready past))
 
   -- one more wait
-  polled : (past : List (Entry ServerNote)) (moment : ℕ) → time_left past ≡ None
+  polled : (past : List (Entry ServerNote)) (moment : ℕ) → time_left_in past ≡ None
       → is_over_here groups past ≡ false
       → count is_polled past + weight_of (told all past)
       ≤ weight_of (at_start all) + count is_started past + is_last past
@@ -270,14 +270,14 @@ module _ (groups : List ScriptGroup) where
       let t = takes_told past none in
       let before : is_last past ≡ 0 = is_none (is_over_here groups past) not_over in
       ⊎_elim
-      (λ (o : is_over (Some (waited (time_left past) (told all past)).answer) ≡ true).
+      (λ (o : is_over (Some (waited (time_left_in past) (told all past)).answer) ≡ true).
       let now : is_last (Polled moment ∷ past) ≡ 1 = ap (λ (b : Bool). cond b 1 0) o in
       let more = t.never_more in
       omega (arith, h, before, now, more))
-      (λ (o : is_over (Some (waited (time_left past) (told all past)).answer) ≡ false).
+      (λ (o : is_over (Some (waited (time_left_in past) (told all past)).answer) ≡ false).
       let more = t.some o in
       omega (arith, h, before, more)) (cases_Bool
-      (is_over (Some (waited (time_left past) (told all past)).answer)))
+      (is_over (Some (waited (time_left_in past) (told all past)).answer)))
 
   polled_more : (past : List (Entry ServerNote)) (moment : ℕ)
       → count is_polled past + 1 + weight_of (told all (Polled moment ∷ past))

@@ -55,7 +55,7 @@ use Rattle.laws_script_taken.specs.laws_by_turns.specs.ByTurns.{GoesByTurn}
 use Rattle.laws_script_taken.specs.laws_by_turns.specs.ByTurns.{IsRegisteredHere}
 use Rattle.laws_script_taken.specs.laws_script_told.specs.Told.{Follows}
 use Rattle.laws_script_taken.specs.laws_script_told.specs.Told.{FollowsBefore}
-use Rattle.laws_script_taken.specs.laws_script_runs.specs.Runs.{is_notice}
+use Rattle.laws_script_taken.specs.reactor_model.specs.Entries.{is_notice}
 use Rattle.laws_script_taken.specs.Laws.{RunsSomehow}
 use Rattle.laws_script_taken.proofs.Places.{holds_at, any_round, cuts, Cuts, same_cut, first_cut}
 use Rattle.laws_script_taken.proofs.Places.{second_cut}

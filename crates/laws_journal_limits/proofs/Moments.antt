@@ -27,10 +27,9 @@ use Rattle.laws_script_taken.specs.event_script.specs.Script.{groups_told}
 use Rattle.laws_script_taken.specs.event_script.specs.Grammar.{last_moment}
 use Rattle.laws_script_taken.specs.laws_script_told.specs.Told.{told}
 use Rattle.laws_script_taken.specs.laws_script_told.specs.Told.{told_after}
-use Rattle.laws_script_taken.specs.laws_script_told.specs.Told.{time_left}
-use Rattle.laws_script_taken.specs.laws_script_told.specs.Told.{IsAnsweredAt}
+use Rattle.laws_script_taken.specs.laws_script_told.specs.Told.{time_left_in}
+use Rattle.laws_script_taken.specs.reactor_model.specs.Entries.{IsAnsweredAt, taken_before}
 use Rattle.laws_script_taken.specs.laws_script_told.specs.Told.{FollowsBefore}
-use Rattle.laws_script_taken.specs.laws_script_told.specs.Told.{taken_before}
 
 -- the script is no further than its last moment
 abbrev IsEarly : Group → Type 0
@@ -102,7 +101,7 @@ module _ (groups : List ScriptGroup) (early : AllByRecursion (λ g. g.moment ≤
         by : (e : Entry ServerNote) → Early (told (groups_told groups) past)
             → Early (told_after past e (told (groups_told groups) past))
         by (Opened handle mask) h = record { now = h.now; later = h.later }
-        by (Polled moment) h = (waited_early (time_left past) _ h).next
+        by (Polled moment) h = (waited_early (time_left_in past) _ h).next
         by (Masked handle mask) h = record { now = h.now; later = h.later }
         by (Refused live fault note) h = record { now = h.now; later = h.later }
         by (Closed handle note) h = record { now = h.now; later = h.later }
@@ -113,7 +112,7 @@ module _ (groups : List ScriptGroup) (early : AllByRecursion (λ g. g.moment ≤
         → FollowsBefore (groups_told groups) (later ++ Polled moment ∷ past) taken
         → moment ≤ last_moment
     polled_early [] past moment taken h =
-        (waited_early (time_left past) (told (groups_told groups) past) (told_early past)).said
+        (waited_early (time_left_in past) (told (groups_told groups) past) (told_early past)).said
         moment
         h.0.moment_is
     polled_early (e ∷ later) past moment taken h =

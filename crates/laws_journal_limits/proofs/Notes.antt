@@ -32,7 +32,7 @@ use Rattle.laws_script_taken.specs.reactor_journal.specs.Event.{Item, Origin}
 use Rattle.laws_script_taken.specs.reactor_journal.specs.Past.{past_of}
 use Rattle.laws_script_taken.specs.reactor_journal.proofs.Turning.{past_split}
 use Rattle.laws_script_taken.specs.laws_script_runs.specs.Connections.{is_entry_of, is_note_of}
-use Rattle.laws_script_taken.specs.laws_script_runs.specs.Connections.{IsLeft, Leaves}
+use Rattle.laws_script_taken.specs.laws_script_runs.specs.Connections.{IsLeft, SaysLast}
 use Rattle.laws_script_taken.specs.laws_script_runs.specs.Connections.{LeavesOffered}
 use Rattle.laws_script_taken.specs.laws_script_runs.specs.Steps.{EachStep}
 use Rattle.laws_script_taken.specs.laws_script_complete.specs.Complete.{took_for}
@@ -280,7 +280,7 @@ module _ {H E : Type 0} (means : Handling H E ServerNote) (t : Terms) (idle : Op
           same_word q = cc
 
       pub left_within : (origin : Option (Origin ServerNote)) (had : List (Item ServerNote))
-          (reason : Why) → Leaves steps idle origin had reason said → NoteIsWithin said
+          (reason : Why) → SaysLast steps idle origin had reason said → NoteIsWithin said
       left_within None had reason leaves = subst NoteIsWithin (sym leaves.notes) tt
       left_within (Some o) had reason leaves = by o.note leaves
         where

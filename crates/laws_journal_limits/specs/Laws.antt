@@ -15,7 +15,7 @@ use Rattle.laws_script_taken.specs.event_script.specs.Stories.{bytes_of}
 use Rattle.laws_script_taken.specs.event_script.specs.Grammar.{last_moment}
 use Rattle.laws_script_taken.specs.event_script.specs.Grammar.{IsScriptText}
 use Rattle.laws_script_taken.specs.laws_script_told.specs.Told.{Follows}
-use Rattle.laws_script_taken.specs.laws_script_runs.specs.Runs.{is_notice}
+use Rattle.laws_script_taken.specs.reactor_model.specs.Entries.{is_notice}
 use Rattle.laws_script_taken.specs.Laws.{RunsSomehow}
 use Rattle.journal_reader.specs.journal_text.specs.Texts.{journal_text}
 use Rattle.journal_reader.specs.Journals.{IsJournalText}

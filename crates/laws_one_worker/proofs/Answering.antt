@@ -27,7 +27,7 @@ use Rattle.tp_reactor.specs.reactor_desk.specs.Leading.{WaitedFor}
 use Rattle.tp_reactor.specs.reactor_desk.specs.declared.terms.DeskTerms.{DeskTerms}
 use Rattle.tp_reactor.specs.reactor_desk.specs.declared.desk.Desk.{Desk}
 use Rattle.laws_script_calls.specs.log_handler.specs.declared.note.ServerNote.{ServerNote}
-use Rattle.laws_script_calls.specs.laws_script_told.specs.Told.{told, time_left}
+use Rattle.laws_script_calls.specs.laws_script_told.specs.Told.{told, time_left_in}
 use Rattle.laws_script_calls.specs.Laws.{NamesAsServer}
 use Rattle.laws_script_calls.proofs.Following.{plays_on, same_time}
 use Rattle.laws_one_worker.specs.Alone.{TellsPlaying, PlaysScript}
@@ -50,10 +50,10 @@ module _ {H M Q W V E : Type 0} (m : Meaning H M Q W V ServerNote E) (q : DeskTe
     (plays : PlaysScript m q.run groups) where
   -- calls that are told play the groups, and are those of the past
   by_calls : (past : List (Entry ServerNote)) (asked : Option ℕ) (answer : Waited) (reports : _)
-      (calls new : Option (List Call)) → is_legal q.run.most past ≡ true → asked ≡ time_left past
+      (calls new : Option (List Call)) → is_legal q.run.most past ≡ true → asked ≡ time_left_in past
       → TellsPlaying groups calls → WhereTold (λ calls. AreCalls m.means q.run past [] calls) calls
       → new ≡ with_one calls (WaitsCall asked answer reports) → TellsPlaying groups new
-      → answer ≡ (waited (time_left past) (told groups past)).answer
+      → answer ≡ (waited (time_left_in past) (told groups past)).answer
   by_calls past asked answer reports None new legal time before are is after = absurd before
   by_calls past asked answer reports (Some calls) new legal time before are is after =
       let here : IsAnswer asked answer reports (played groups calls) =
@@ -62,7 +62,7 @@ module _ {H M Q W V E : Type 0} (m : Meaning H M Q W V ServerNote E) (q : DeskTe
       (plays_on m.means q.run offers groups q.run.most limit offers_are names past [] calls
       legal are before).same in
       here.answers ∙ ap (λ (o : Option ℕ). (waited o (played groups calls)).answer) time
-      ∙ ap (λ (p : Playing). (waited (time_left past) p).answer) same
+      ∙ ap (λ (p : Playing). (waited (time_left_in past) p).answer) same
 
   -- the wait of a lead
   pub answer_is : (first : ℕ) (h entries : List (Entry ServerNote))
@@ -70,7 +70,7 @@ module _ {H M Q W V E : Type 0} (m : Meaning H M Q W V ServerNote E) (q : DeskTe
       → DeskStands m q first found h → m.keeps q.run (net_of (core_of new))
       → Reserves (m.facts (net_of (core_of found))) before
       → (w : WaitedFor None h before entries (m.facts (net_of (core_of new))) P)
-      → w.waits.answer ≡ (waited (time_left (past_of h)) (told groups (past_of h))).answer
+      → w.waits.answer ≡ (waited (time_left_in (past_of h)) (told groups (past_of h))).answer
   answer_is first h entries found new before P stood keeps reserves w =
       by_calls (past_of h) (C.time_left (summary (past_of h))) w.waits.answer w.now.reports
       (m.facts (net_of (core_of found))).calls (m.facts (net_of (core_of new))).calls

@@ -43,7 +43,8 @@ use Rattle.laws_script_calls.specs.event_script.specs.Script.{ScriptGroup, group
 use Rattle.laws_script_calls.specs.log_handler.specs.declared.note.ServerNote.{ServerNote}
 use Rattle.laws_script_calls.specs.laws_script_told.specs.Told.{FollowsBefore}
 use Rattle.laws_script_calls.specs.laws_script_runs.specs.Connections.{AreLeft, IsLeft}
-use Rattle.laws_script_calls.specs.laws_script_runs.specs.Runs.{first_handle, is_notice}
+use Rattle.laws_script_calls.specs.laws_script_runs.specs.Runs.{first_handle}
+use Rattle.laws_script_calls.specs.reactor_model.specs.Entries.{is_notice}
 use Rattle.laws_script_calls.specs.laws_script_runs.specs.Steps.{EachStep}
 use Rattle.laws_script_calls.specs.laws_script_runs.proofs.ByTurns.{TurnsBefore, read_backwards}
 use Rattle.laws_script_calls.specs.laws_script_runs.proofs.ByTurns.{turns_so}

@@ -54,7 +54,8 @@ use Rattle.laws_script_calls.specs.reactor_core.specs.Stands.{Meaning}
 use Rattle.tp_reactor.specs.reactor_desk.specs.declared.terms.DeskTerms.{DeskTerms}
 use Rattle.tp_reactor.specs.declared.working.Ran.{Ran}
 use Rattle.laws_script_calls.specs.laws_script_runs.specs.Runs.{first_handle, note_settled}
-use Rattle.laws_script_calls.specs.laws_script_runs.specs.Runs.{is_accepted, is_fault, is_notice}
+use Rattle.laws_script_calls.specs.laws_script_runs.specs.Runs.{is_accepted}
+use Rattle.laws_script_calls.specs.reactor_model.specs.Entries.{is_fault, is_notice}
 use Rattle.laws_script_calls.specs.laws_script_runs.specs.Steps.{EachStep}
 use Rattle.laws_script_calls.specs.laws_script_runs.proofs.Handles.{IsBegun}
 use Rattle.laws_script_calls.specs.laws_script_runs.proofs.Notes.{all_last}

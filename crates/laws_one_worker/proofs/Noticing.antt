@@ -27,7 +27,7 @@ use Rattle.laws_script_calls.specs.reactor_journal.proofs.Basics.{event_at-last,
 use Rattle.laws_script_calls.specs.reactor_model.specs.Handling.{Stopping}
 use Rattle.laws_script_calls.specs.acceptor.specs.Servers.{ServerMay, is_accepted as says_accepted}
 use Rattle.laws_script_calls.specs.log_handler.specs.declared.note.ServerNote.{ServerNote}
-use Rattle.laws_script_calls.specs.laws_script_runs.specs.Runs.{is_notice}
+use Rattle.laws_script_calls.specs.reactor_model.specs.Entries.{is_notice}
 use Rattle.laws_script_calls.specs.laws_script_runs.proofs.ByTurns.{TurnsBefore, IsByTurn}
 use Rattle.laws_script_calls.specs.laws_script_runs.proofs.Winding.{Begins, begins_one, begins_tail}
 

@@ -17,8 +17,6 @@ use Rattle.laws_script_calls.specs.ev_types.specs.declared.upcall.Handle.{Handle
 use Rattle.laws_script_calls.specs.ev_types.specs.declared.upcall.Mask.{Mask}
 use Rattle.laws_script_calls.specs.reactor_journal.specs.declared.entry.Entry.{Entry}
 use Rattle.laws_script_calls.specs.reactor_journal.specs.declared.entry.Entry.TheVariants.{Polled}
-use Rattle.laws_script_calls.specs.reactor_journal.specs.declared.entry.Entry.TheVariants.{Posted}
-use Rattle.laws_script_calls.specs.reactor_journal.specs.declared.entry.Entry.TheVariants.{Stale}
 use Rattle.laws_script_calls.specs.reactor_journal.specs.declared.entry.Entry.TheVariants.{Started}
 use Rattle.laws_script_calls.specs.reactor_journal.specs.declared.entry.Entry.TheVariants.{Returned}
 use Rattle.laws_script_calls.specs.reactor_journal.specs.declared.entry.Entry.TheVariants.{Closed}
@@ -50,7 +48,6 @@ use Rattle.laws_script_calls.specs.reactor_core.specs.declared.polling.Polled.{P
 use Rattle.tp_reactor.specs.reactor_desk.specs.Desks.{DeskStands, core_of}
 use Rattle.tp_reactor.specs.reactor_desk.specs.Leading.{Leaves, MayHaveWaited, WaitedFor}
 use Rattle.tp_reactor.specs.reactor_desk.specs.Leading.{Dispatches, Idles, IsOver, IsNotOver}
-use Rattle.tp_reactor.specs.reactor_desk.specs.Notices as desk
 use Rattle.tp_reactor.specs.reactor_desk.specs.declared.terms.DeskTerms.{DeskTerms}
 use Rattle.tp_reactor.specs.reactor_desk.specs.declared.desk.Desk.{Desk}
 use Rattle.tp_reactor.specs.reactor_desk.specs.declared.leading.Led.{Led}
@@ -63,7 +60,7 @@ use Rattle.laws_script_calls.specs.event_script.specs.Script.{ScriptGroup, group
 use Rattle.laws_script_calls.specs.event_script.specs.Stories.{offers}
 use Rattle.laws_script_calls.specs.log_handler.specs.declared.note.ServerNote.{ServerNote}
 use Rattle.laws_script_calls.specs.laws_script_told.specs.Told.{is_over}
-use Rattle.laws_script_calls.specs.laws_script_runs.specs.Runs.{is_notice}
+use Rattle.laws_script_calls.specs.reactor_model.specs.Entries.{is_notice}
 use Rattle.laws_script_calls.specs.laws_script_runs.specs.Steps.{EachStep}
 use Rattle.laws_script_calls.specs.Laws.{NamesAsServer}
 use Rattle.laws_script_serial.specs.Serial.{IsSpent}
@@ -76,11 +73,6 @@ use Rattle.laws_one_worker.proofs.Stepping.{settled_between, all_waited, over_he
 use Rattle.laws_one_worker.proofs.Answering.{answer_is}
 
 -- ---- what is appended
-
-is_posted : (e : Entry ServerNote) → desk.is_notice e ≡ true → is_notice e ≡ true
-is_posted (Posted handle kind from seq) h = refl
-is_posted (Stale handle from seq) h = refl
-is_posted _ h = absurd (false≢true h)
 
 all_due : (timers : List ℕ) → list_all is_brought (map due_of timers) ≡ true
 all_due [] = refl
@@ -247,11 +239,11 @@ module _ (most : ℕ) (groups : List ScriptGroup) where
 
   -- no posting was drained
   pub none_drained : (h notices : List (Entry ServerNote))
-      → list_any is_notice (past_of (h ++ notices)) ≡ false → list_all desk.is_notice notices ≡ true
+      → list_any is_notice (past_of (h ++ notices)) ≡ false → list_all is_notice notices ≡ true
       → h ++ notices ≡ h
   none_drained h notices quiet all =
       ap (λ (es : List (Entry ServerNote)). h ++ es)
-      (none_at_all desk.is_notice is_notice is_posted notices all
+      (none_at_all is_notice is_notice (λ e q. q) notices all
       (none_pushed is_notice (past_of h) notices
       (sym (ap (list_any is_notice) (past_pushed h notices)) ∙ quiet)))
       ∙ append-nil h

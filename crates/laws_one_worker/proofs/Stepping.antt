@@ -18,7 +18,8 @@ use Rattle.laws_script_calls.specs.event_script.specs.Script.{ScriptGroup, group
 use Rattle.laws_script_calls.specs.log_handler.specs.declared.note.ServerNote.{ServerNote}
 use Rattle.laws_script_calls.specs.ev_base.specs.declared.net.Waited.{Waited as WaitAnswer}
 use Rattle.laws_script_calls.specs.ev_base.specs.Playing.{waited}
-use Rattle.laws_script_calls.specs.laws_script_told.specs.Told.{last_wait, is_over, told, time_left}
+use Rattle.laws_script_calls.specs.laws_script_told.specs.Told.{last_wait, is_over, told}
+use Rattle.laws_script_calls.specs.laws_script_told.specs.Told.{time_left_in}
 use Rattle.laws_script_calls.specs.laws_script_runs.specs.Steps.{EachStep}
 use Rattle.laws_script_serial.specs.Serial.{IsSettledAtOnce, WaitsOnly, IsSpent, is_over_here}
 use Rattle.laws_one_worker.proofs.Pushing.{pushed}
@@ -202,7 +203,7 @@ module _ (groups : List ScriptGroup) where
   pub all_waited : (past : List (Entry ServerNote)) (moment : ℕ) (es : List (Entry ServerNote))
       → list_all is_brought es ≡ true → Between past → IsSpent past
       → Waited (pushed past (Polled moment ∷ es))
-      (Some (waited (time_left past) (told (groups_told groups) past)).answer)
+      (Some (waited (time_left_in past) (told (groups_told groups) past)).answer)
   all_waited past moment es all b spent =
       all_brought (Polled moment ∷ past) es _ all (record {
         each = (

@@ -20,7 +20,8 @@ use Rattle.laws_script_calls.specs.log_handler.specs.declared.note.ServerNote.{S
 use Rattle.laws_script_calls.specs.laws_script_told.specs.Told.{Follows}
 use Rattle.laws_script_calls.specs.laws_script_runs.specs.Connections.{AreLeft}
 use Rattle.laws_script_calls.specs.laws_script_runs.specs.Laws.{ActsAsServer}
-use Rattle.laws_script_calls.specs.laws_script_runs.specs.Runs.{first_handle, is_notice, is_fault}
+use Rattle.laws_script_calls.specs.laws_script_runs.specs.Runs.{first_handle}
+use Rattle.laws_script_calls.specs.reactor_model.specs.Entries.{is_notice, is_fault}
 use Rattle.laws_script_calls.specs.laws_script_runs.specs.Runs.{IsWhole}
 use Rattle.laws_script_calls.specs.Laws.{NamesAsServer}
 

@@ -36,14 +36,17 @@ use Rattle.reactor_core.specs.reactor_summary.proofs.Told as summary_told
 use Rattle.reactor_core.specs.reactor_summary.proofs.Reading.{wanted_is}
 use Rattle.laws_script_runs.specs.reactor_model.specs.Handling.{Handling, Names}
 use Rattle.reactor_core.specs.Calls as C
+use Rattle.reactor_core.specs.reactor_state.specs.Tables.{first_armed_deadline}
 use Rattle.reactor_core.specs.Calls.{AreCalls, IsWait}
 use Rattle.laws_script_runs.specs.log_handler.specs.declared.note.ServerNote.{ServerNote}
 use Rattle.laws_script_runs.specs.ev_base.specs.Playing.{Playing, Plays, IsAnswer, played, waited}
 use Rattle.laws_script_runs.specs.ev_base.specs.Playing.{attached, mask_set, retired, turned_away}
 use Rattle.laws_script_runs.specs.ev_base.specs.Playing.{end_of_serial}
-use Rattle.laws_script_runs.specs.laws_script_told.specs.Told.{told, time_left, first_deadline}
-use Rattle.laws_script_runs.specs.laws_script_told.specs.Told.{number_accepted, is_taken, IsTold}
-use Rattle.laws_script_runs.specs.laws_script_told.specs.Told.{IsAnsweredAt, FollowsBefore}
+use Rattle.laws_script_runs.specs.laws_script_told.specs.Told.{told, time_left_in}
+use Rattle.laws_script_runs.specs.laws_script_told.specs.Told.{first_deadline_in}
+use Rattle.laws_script_runs.specs.laws_script_told.specs.Told.{number_accepted, is_taken_in, IsTold}
+use Rattle.laws_script_runs.specs.laws_script_told.specs.Told.{FollowsBefore}
+use Rattle.laws_script_runs.specs.reactor_model.specs.Entries.{IsAnsweredAt}
 use Rattle.laws_script_runs.specs.ev_base.specs.Story.{Offer}
 use Rattle.laws_script_runs.specs.reactor_journal.specs.Event.{Origin}
 use Rattle.laws_script_calls.specs.Laws.{NamesAsServer}
@@ -52,17 +55,17 @@ use Rattle.laws_script_calls.specs.Laws.{NamesAsServer}
 
 deadline_left : (past : List (Entry ServerNote)) (moment now : ℕ) (armed : List (ℕ × ℕ))
     → moment ≡ now
-    → option_map (λ (d : ℕ). d - moment) (C.first_deadline (map (armed_timer past) armed))
-    ≡ option_map (λ (d : ℕ). d - now) (first_deadline armed)
+    → option_map (λ (d : ℕ). d - moment) (first_armed_deadline (map (armed_timer past) armed))
+    ≡ option_map (λ (d : ℕ). d - now) (first_deadline_in armed)
 deadline_left past moment now [] h = refl
 deadline_left past moment now (a ∷ rest) h = ap (λ (m : ℕ). Some (a.0 - m)) h
 
 pub same_time : (most : ℕ) (past : List (Entry ServerNote)) → is_legal most past ≡ true
-    → C.time_left (summary past) ≡ time_left past
+    → C.time_left (summary past) ≡ time_left_in past
 same_time most past legal =
     let t = summary_told.told most past legal in
     ap (λ (ts : List ArmedTimer). option_map (λ (d : ℕ). d - (summary past).moment)
-    (C.first_deadline ts)) t.armed
+    (first_armed_deadline ts)) t.armed
     ∙ deadline_left past (summary past).moment (P.now past) (P.armed past) t.moment
 
 filter_same : (p q : Report → Bool) (reports : List Report) → ((r : Report) → p r ≡ q r)
@@ -74,17 +77,10 @@ filter_same p q (r ∷ reports) same =
 
 same_taken : (most : ℕ) (past : List (Entry ServerNote)) (reports : List Report)
     → is_legal most past ≡ true → filter (C.is_taken (summary past)) reports
-    ≡ filter (is_taken past) reports
+    ≡ filter (is_taken_in past) reports
 same_taken most past reports legal =
     filter_same _ _ reports (λ (r : Report).
     wanted_is most past (summary past) r.handle.0 r.kind legal (summary_told.told most past legal))
-
-same_moment : (moment : ℕ) (answer : Waited) → C.IsAnsweredAt moment answer
-    → IsAnsweredAt moment answer
-same_moment moment (waited_by.Reports now count) h = h
-same_moment moment (waited_by.Quiet now) h = h
-same_moment moment (waited_by.Over now) h = h
-same_moment moment waited_by.Failed h = h
 
 -- ---- entry by entry
 
@@ -114,18 +110,18 @@ module _ {H E : Type 0} (means : Handling H E ServerNote) (t : Terms) (offers : 
       → is_legal most past ≡ true → played groups calls ≡ told groups past
       → IsWait t (summary past) moment taken asked_for answer reports
       → IsAnswer asked_for answer reports (played groups calls)
-      → (asked_for ≡ time_left past) × IsTold groups past moment taken
+      → (asked_for ≡ time_left_in past) × IsTold groups past moment taken
   waits past moment taken asked_for answer reports calls legal same w plays =
-      let time : asked_for ≡ time_left past =
+      let time : asked_for ≡ time_left_in past =
       asked (summary past) asked_for w.asked ∙ same_time most past legal in
       let here = ap (λ (o : Option ℕ). waited o (played groups calls)) time
-      ∙ ap (λ (p : Playing). waited (time_left past) p) same in (
+      ∙ ap (λ (p : Playing). waited (time_left_in past) p) same in (
         time,
         record {
           moment_is = subst (IsAnsweredAt moment) (plays.answers ∙ ap (λ (a : _). a.answer) here)
-              (same_moment moment answer w.moment);
+              w.moment;
           are_taken = w.are_taken ∙ same_taken most past reports legal
-              ∙ ap (filter (is_taken past)) (plays.gives ∙ ap (λ (a : _). a.reports) here);
+              ∙ ap (filter (is_taken_in past)) (plays.gives ∙ ap (λ (a : _). a.reports) here);
         },
       )
 
@@ -161,7 +157,7 @@ module _ {H E : Type 0} (means : Handling H E ServerNote) (t : Terms) (offers : 
       in
       record {
         same = ap (λ (o : Option ℕ). (waited o (played groups calls)).next) w.0
-            ∙ ap (λ (p : Playing). (waited (time_left past) p).next) more.same;
+            ∙ ap (λ (p : Playing). (waited (time_left_in past) p).next) more.same;
         follows = (w.1, more.follows);
       }
   plays_on (Polled moment ∷ past) taken (Attaches x given serial ∷ calls) legal are plays =

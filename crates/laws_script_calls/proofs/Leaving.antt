@@ -38,7 +38,7 @@ use Rattle.laws_script_runs.specs.log_handler.specs.Connection as connection
 use Rattle.laws_script_runs.specs.event_script.specs.Script.{ScriptStep, opened}
 use Rattle.laws_script_runs.specs.event_script.specs.Stories.{story, offers}
 use Rattle.laws_script_runs.specs.laws_script_turns.specs.Laws.{untold, unoffered}
-use Rattle.laws_script_runs.specs.Connections.{AreLeft, Leaves}
+use Rattle.laws_script_runs.specs.Connections.{AreLeft, SaysLast}
 use Rattle.laws_script_runs.specs.Steps.{EachStep}
 use Rattle.laws_script_runs.specs.Runs.{IsWhole}
 use Rattle.laws_script_runs.specs.reactor_journal.proofs.Alive.{opened_below}
@@ -79,12 +79,12 @@ module _ {H E : Type 0} (means : Handling H E ServerNote) (tells : E → EndFact
   one_left : (origin : Option (Origin ServerNote)) (end : E) (items : List (Item ServerNote))
       (reason : Why) (said : ServerNote) → OriginBelow (opened steps) origin
       → ServerGone tells keeps t origin end items reason said
-      → Leaves steps idle origin items reason said
+      → SaysLast steps idle origin items reason said
   one_left origin end items reason said below (inl gone) =
       let g = gone.listened in
       let telling : g.offering ≡ Some (unoffered (offers steps)) =
       g.story (offers steps) have.of_listener in
-      subst (λ (o : Option (Origin ServerNote)). Leaves steps idle o items reason said)
+      subst (λ (o : Option (Origin ServerNote)). SaysLast steps idle o items reason said)
       (sym (g.comes_from (offers steps) have.of_listener)) (record {
         now = g.now;
         course = subst (λ (o : Option Offering).
@@ -98,7 +98,8 @@ module _ {H E : Type 0} (means : Handling H E ServerNote) (tells : E → EndFact
       let telling : s.telling ≡ Some (untold (story gone.conn steps)) =
       s.story (story gone.conn steps) (have.of_each gone.conn few) from.1 in
       let idle_is : gone.idle ≡ idle = s.comes_from.waits idle have.idle_is in
-      subst (λ (o : Option (Origin ServerNote)). Leaves steps idle o items reason said) (sym from.0)
+      subst (λ (o : Option (Origin ServerNote)). SaysLast steps idle o items reason said)
+      (sym from.0)
       (record {
         now = s.now;
         word = gone.word;

@@ -34,7 +34,7 @@ use Rattle.laws_script_runs.specs.event_script.specs.Stories.{bytes_of, story}
 use Rattle.laws_script_runs.specs.laws_script_turns.specs.Laws.{ReadToEnd, pauses_had, steps_on}
 use Rattle.laws_script_runs.specs.laws_script_turns.specs.Laws.{untold}
 use Rattle.laws_script_runs.specs.laws_script_turns.proofs.Saying.{takes_all_bytes}
-use Rattle.laws_script_runs.specs.Connections.{IsLeft, Leaves, LeavesOffered}
+use Rattle.laws_script_runs.specs.Connections.{IsLeft, SaysLast, LeavesOffered}
 use Rattle.laws_script_runs.specs.Laws.{RunsOver}
 use Rattle.laws_script_runs.specs.Steps.{EachStep}
 use Rattle.laws_script_runs.proofs.Glue as glue
@@ -137,7 +137,7 @@ module _ {H E : Type 0} (means : Handling H E ServerNote) (t : Terms) (idle : Op
       ∙ origin_still t.most (past_of after ++ Closed handle said ∷ []) past x
       (sym (ap (is_legal t.most) joined) ∙ whole.legal means t idle groups journal r) opened_before
 
-  leaves : Leaves (steps_of groups) idle (origin_of past x) (had past x) (reason_of past x) said
+  leaves : SaysLast (steps_of groups) idle (origin_of past x) (had past x) (reason_of past x) said
   leaves = (each_front (IsLeft (steps_of groups) idle) (past_of after) (Closed handle said ∷ past)
       (subst (EachStep (IsLeft (steps_of groups) idle)) all_is
       (whole.left means t idle groups journal r))).0
@@ -182,7 +182,7 @@ module _ {H E : Type 0} (means : Handling H E ServerNote) (t : Terms) (idle : Op
       by_note o (note.Finished conn end) says from h = absurd h
 
       by_origin : (o : Option (Origin ServerNote)) → origin_of past x ≡ o
-          → Leaves (steps_of groups) idle o (had past x) (reason_of past x) said → Connected
+          → SaysLast (steps_of groups) idle o (had past x) (reason_of past x) said → Connected
       by_origin None from h = absurd (other h.notes)
         where
           other : note.Finished c word ≡ note.ListenerShut → ⊥

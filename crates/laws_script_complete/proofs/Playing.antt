@@ -40,7 +40,7 @@ use Rattle.laws_script_runs.specs.reactor_journal.proofs.Closing.{closed_gone}
 use Rattle.laws_script_runs.specs.reactor_journal.proofs.Turning.{count-append}
 use Rattle.laws_script_runs.specs.log_handler.specs.declared.note.ServerNote.{ServerNote}
 use Rattle.laws_script_runs.specs.laws_script_told.specs.Laws.{steps_at, all_steps, is_step_at}
-use Rattle.laws_script_runs.specs.laws_script_told.specs.Told.{told, time_left, end_offered}
+use Rattle.laws_script_runs.specs.laws_script_told.specs.Told.{told, time_left_in, end_offered}
 use Rattle.laws_script_runs.specs.laws_script_told.proofs.Playing.{to_come}
 use Rattle.laws_script_runs.proofs.Standing.{OpenedFor, opened_is}
 
@@ -159,7 +159,7 @@ module _ (start : List Group) where
       → to_come end (told start past) ≤ steps_at end (all_steps start)
   told_le end [] = omega arith
   told_le end (Polled moment ∷ past) =
-      le_trans _ _ _ (waited_le end (told start past) (time_left past)) (told_le end past)
+      le_trans _ _ _ (waited_le end (told start past) (time_left_in past)) (told_le end past)
   told_le end (Refused live fault said ∷ past) =
       le_trans _ _ _ (dropped_le end (end_offered past ∷ []) (told start past)) (told_le end past)
   told_le end (Closed handle other ∷ past) =
@@ -213,7 +213,8 @@ module _ (start : List Group) where
   gone_later : (end : StepEnd) (e : Entry ServerNote) (past : List (Entry ServerNote))
       → IsGone end past → IsGone end (e ∷ past)
   gone_later end (Polled moment) past g =
-      ap (list_any (λ e. is_end e end)) (waited_stays (told start past) (time_left past)).gone ∙ g
+      ap (list_any (λ e. is_end e end)) (waited_stays (told start past) (time_left_in past)).gone
+      ∙ g
   gone_later end (Refused live fault said) past g =
       any_right (λ e. is_end e end) (end_offered past ∷ []) (told start past).gone g
   gone_later end (Closed handle other) past g =
@@ -396,7 +397,8 @@ module _ (start : List Group) where
         sits_closed handle said past (sits most past (and_parts _ _ legal).1 o)
     sits most (Polled moment ∷ past) legal o =
         still (Polled moment) past refl (λ h.
-        ap (list_any (is_seat x end)) (waited_stays (told start past) (time_left past)).seats ∙ h)
+        ap (list_any (is_seat x end)) (waited_stays (told start past) (time_left_in past)).seats
+        ∙ h)
         (sits most past (and_parts _ _ legal).1 o)
     sits most (Masked handle mask ∷ past) legal o =
         still (Masked handle mask) past refl (masked_keeps handle.0 mask (told start past).seats)

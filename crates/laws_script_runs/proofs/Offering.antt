@@ -11,7 +11,7 @@ use Rattle.laws_script_turns.specs.acceptor.specs.Servers.{ServerMay, is_accepte
 use Rattle.log_handler.specs.declared.note.ServerNote.{ServerNote}
 use Rattle.log_handler.specs.declared.note.ServerNote.TheVariants as note
 use Rattle.laws_script_turns.specs.event_script.specs.Script.{ScriptStep}
-use Rattle.laws_script_runs.specs.Connections.{AreLeft, Leaves, LeavesOffered}
+use Rattle.laws_script_runs.specs.Connections.{AreLeft, SaysLast, LeavesOffered}
 use Rattle.laws_script_runs.specs.Runs.{is_accepted, note_settled}
 use Rattle.laws_script_runs.specs.Steps.{EachStep}
 use Rattle.laws_script_runs.proofs.ByTurns.{TurnsBefore}
@@ -53,7 +53,7 @@ module _ (steps : List ScriptStep) (idle : Option ℕ) where
       accepts_here offered.0.note (note_settled (d ∷ past))
       (offered_note (d ∷ past) offered.0 offered.1)
       (accepted_there offered.0.note offered.0.moment said
-      (subst (λ (o : Option (Origin ServerNote)). Leaves steps idle o [] ByRefusal said)
+      (subst (λ (o : Option (Origin ServerNote)). SaysLast steps idle o [] ByRefusal said)
       offered.1 left.0))
   one_offers t _ d past next turns left = tt
 

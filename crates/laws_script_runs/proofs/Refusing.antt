@@ -37,7 +37,8 @@ use Rattle.laws_script_turns.specs.event_script.specs.Script.{ScriptGroup, steps
 use Rattle.laws_script_turns.specs.event_script.specs.Script as script
 use Rattle.laws_script_runs.specs.Connections.{accepts, accepted}
 use Rattle.laws_script_runs.specs.Laws.{RunsOver}
-use Rattle.laws_script_runs.specs.Runs.{is_refusal, is_fault, is_closing}
+use Rattle.laws_script_runs.specs.Runs.{is_refusal, is_closing}
+use Rattle.reactor_model.specs.Entries.{is_fault}
 use Rattle.laws_script_runs.specs.Steps.{EachStep}
 use Rattle.laws_script_runs.proofs.ByTurns.{TurnsBefore}
 use Rattle.laws_script_runs.proofs.Numbering.{IsNumbered, balanced, owed, refusals}

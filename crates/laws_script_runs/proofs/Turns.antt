@@ -50,7 +50,7 @@ use Rattle.log_handler.specs.Notes.{note_lines}
 use Rattle.log_handler.specs.Laws.{records_in, records_of_note}
 use Rattle.reactor_model.specs.reactor_journal.proofs.Closing.{Gone, closed_gone}
 use Rattle.reactor_model.specs.reactor_journal.specs.Past.{closes}
-use Rattle.laws_script_runs.specs.Connections.{lines_in, Leaves, LeavesOffered, ListensThrough}
+use Rattle.laws_script_runs.specs.Connections.{lines_in, SaysLast, LeavesOffered, ListensThrough}
 use Rattle.laws_script_runs.specs.Connections.{TalksThrough, IsLeft, AreLeft, accepted}
 use Rattle.std.specs.List.{list_any}
 use Rattle.laws_script_runs.specs.Runs.{note_settled, is_accepted, is_refusal}
@@ -72,7 +72,7 @@ module _ (most : ℕ) (steps : List ScriptStep) (idle : Option ℕ) (all : List 
   pub record Left (x : ℕ) : Type 0 where
     pub f : Found (IsLeft steps idle) all x
     pub opened_before : was_opened f.before x ≡ true
-    pub leaves : Leaves steps idle (origin_of all x) (had all x) (reason_of f.before x) f.said
+    pub leaves : SaysLast steps idle (origin_of all x) (had all x) (reason_of f.before x) f.said
 
   pub left_by : (x : ℕ) → was_opened all x ≡ true → Left x
   left_by x o =
@@ -94,11 +94,11 @@ module _ (most : ℕ) (steps : List ScriptStep) (idle : Option ℕ) (all : List 
         f = f;
         opened_before = opened_here;
         leaves = subst (λ (o : Option (Origin ServerNote)).
-            Leaves steps idle o (had all x) (reason_of f.before x) f.said) (sym origin)
+            SaysLast steps idle o (had all x) (reason_of f.before x) f.said) (sym origin)
             (subst (λ (h : List (Item ServerNote)).
-            Leaves steps idle (origin_of f.before x) h (reason_of f.before x) f.said)
+            SaysLast steps idle (origin_of f.before x) h (reason_of f.before x) f.said)
             (sym (had_found most (IsLeft steps idle) all x legal f))
-            (subst (λ (y : ℕ). Leaves steps idle (origin_of f.before y) (had f.before y)
+            (subst (λ (y : ℕ). SaysLast steps idle (origin_of f.before y) (had f.before y)
             (reason_of f.before y) f.said) f.mine f.left));
       }
 
@@ -107,7 +107,7 @@ module _ (most : ℕ) (steps : List ScriptStep) (idle : Option ℕ) (all : List 
       → ListensThrough steps (had all 0) (left_by 0 o).f.said
   acceptor o = let l = left_by 0 o in
       subst (λ (origin : Option (Origin ServerNote)).
-      Leaves steps idle origin (had all 0) (reason_of l.f.before 0) l.f.said)
+      SaysLast steps idle origin (had all 0) (reason_of l.f.before 0) l.f.said)
       (origin_first most all legal begun) l.leaves
 
   -- a connection
@@ -139,7 +139,7 @@ module _ (most : ℕ) (steps : List ScriptStep) (idle : Option ℕ) (all : List 
       let by = offered all c begun o in
       talks_by c l.f.before l.f.said by.origin.note by.origin.moment by.of_it
       (subst (λ (origin : Option (Origin ServerNote)).
-      Leaves steps idle origin (had all (suc c)) (reason_of l.f.before (suc c)) l.f.said)
+      SaysLast steps idle origin (had all (suc c)) (reason_of l.f.before (suc c)) l.f.said)
       by.of_it l.leaves)
 
   -- a turn of a connection notes a piece
@@ -609,7 +609,7 @@ module _ (most : ℕ) (steps : List ScriptStep) (idle : Option ℕ) (all : List 
       was = (closing past handle.0 (may_fits most past (Closed handle said)
           (and_parts _ _ here).0)).0
 
-      leaves : Leaves steps idle (origin_of past handle.0) (had past handle.0)
+      leaves : SaysLast steps idle (origin_of past handle.0) (had past handle.0)
           (reason_of past handle.0) said
       leaves = (left_front later (Closed handle said ∷ past) (subst (AreLeft steps idle) is left)).0
 
@@ -622,9 +622,9 @@ module _ (most : ℕ) (steps : List ScriptStep) (idle : Option ℕ) (all : List 
       now_all = opened_all later past (Closed handle said) handle.0 is was
 
       by_origin : (o : Option (Origin ServerNote)) → origin_of all handle.0 ≡ o
-          → Leaves steps idle o (had past handle.0) (reason_of past handle.0) said
+          → SaysLast steps idle o (had past handle.0) (reason_of past handle.0) said
       by_origin o e = subst (λ (x : Option (Origin ServerNote)).
-          Leaves steps idle x (had past handle.0) (reason_of past handle.0) said) (origin ∙ e)
+          SaysLast steps idle x (had past handle.0) (reason_of past handle.0) said) (origin ∙ e)
           leaves
 
       by_handle : (x : ℕ) → handle.0 ≡ x → ClosedNote x said
@@ -776,7 +776,7 @@ module _ (most : ℕ) (steps : List ScriptStep) (idle : Option ℕ) (all : List 
   talks_at numbers c later handle said before is mine =
       let talks = connection c now_all in
       let leaves_ = subst (λ (x : Option (Origin ServerNote)).
-      Leaves steps idle x (had all (suc c)) (reason_of before (suc c)) said)
+      SaysLast steps idle x (had all (suc c)) (reason_of before (suc c)) said)
       (sym origin_is ∙ talks.origin) here_leaves in (
         talks.moment,
         was,
@@ -813,15 +813,15 @@ module _ (most : ℕ) (steps : List ScriptStep) (idle : Option ℕ) (all : List 
           (ap (λ (b : Bool). b || was_closed before (suc c)) (eq-eqb handle.0 (suc c) mine))
           ∙ append-nil (had before (suc c))
 
-      at_handle : Leaves steps idle (origin_of before handle.0) (had before handle.0)
+      at_handle : SaysLast steps idle (origin_of before handle.0) (had before handle.0)
           (reason_of before handle.0) said
       at_handle = (left_front later (Closed handle said ∷ before)
           (subst (AreLeft steps idle) is left)).0
 
-      here_leaves : Leaves steps idle (origin_of before (suc c)) (had all (suc c))
+      here_leaves : SaysLast steps idle (origin_of before (suc c)) (had all (suc c))
           (reason_of before (suc c)) said
       here_leaves = subst (λ (h : List (Item ServerNote)).
-          Leaves steps idle (origin_of before (suc c)) h (reason_of before (suc c)) said)
+          SaysLast steps idle (origin_of before (suc c)) h (reason_of before (suc c)) said)
           (sym had_is)
-          (subst (λ (x : ℕ). Leaves steps idle (origin_of before x) (had before x)
+          (subst (λ (x : ℕ). SaysLast steps idle (origin_of before x) (had before x)
           (reason_of before x) said) mine at_handle)

@@ -86,19 +86,19 @@ LeavesOffered steps idle (note.Accepted c) moment had reason said =
     TalksThrough steps idle c moment had reason said
 LeavesOffered steps idle _ moment had reason said = ⊥
 
-abbrev pub Leaves : List ScriptStep → Option ℕ → Option (Origin ServerNote) → List (Item ServerNote)
-    → Why → ServerNote → Type 0
-Leaves steps idle None had reason said = ListensThrough steps had said
-Leaves steps idle (Some origin) had reason said =
+abbrev pub SaysLast : List ScriptStep → Option ℕ → Option (Origin ServerNote)
+    → List (Item ServerNote) → Why → ServerNote → Type 0
+SaysLast steps idle None had reason said = ListensThrough steps had said
+SaysLast steps idle (Some origin) had reason said =
     LeavesOffered steps idle origin.note origin.moment had reason said
 
 -- each handler that was closed, or not registered, leaves what it does that had these turns over
 -- its story
 abbrev pub IsLeft : List ScriptStep → Option ℕ → List (Entry ServerNote) → Entry ServerNote → Type 0
 IsLeft steps idle past (Closed handle said) =
-    Leaves steps idle (origin_of past handle.0) (had past handle.0) (reason_of past handle.0) said
+    SaysLast steps idle (origin_of past handle.0) (had past handle.0) (reason_of past handle.0) said
 IsLeft steps idle past (Refused live fault said) =
-    Leaves steps idle (offered_here past) [] ByRefusal said
+    SaysLast steps idle (offered_here past) [] ByRefusal said
 IsLeft steps idle past _ = Unit {0}
 
 abbrev pub AreLeft : List ScriptStep → Option ℕ → List (Entry ServerNote) → Type 0

@@ -15,8 +15,8 @@ use Rattle.laws_script_turns.specs.event_script.specs.Script.{are_steps, opened}
 use Rattle.laws_script_told.specs.Told.{Follows}
 use Rattle.laws_script_turns.specs.Grouped.{grouped}
 use Rattle.laws_script_runs.specs.Connections.{lines_by_connection, AreLeft, HadMemory}
-use Rattle.laws_script_runs.specs.Runs.{IsWhole, EndsAtOver, is_notice, is_timer, is_refusal}
-use Rattle.laws_script_runs.specs.Runs.{is_fault}
+use Rattle.laws_script_runs.specs.Runs.{IsWhole, EndsAtOver, is_timer, is_refusal}
+use Rattle.reactor_model.specs.Entries.{is_notice, is_fault}
 use Rattle.laws_script_runs.specs.Runs.{first_handle}
 
 -- The turns of such handlers ask for no more than those of a server, and install as these do.

@@ -6,8 +6,6 @@ use Rattle.reactor_model.specs.ev_types.specs.declared.upcall.Handle.{Handle}
 use Rattle.reactor_model.specs.ev_base.specs.Terms.{Group}
 use Rattle.reactor_model.specs.reactor_journal.specs.declared.entry.Entry.{Entry}
 use Rattle.reactor_model.specs.reactor_journal.specs.declared.entry.Entry.TheVariants.{Scheduled}
-use Rattle.reactor_model.specs.reactor_journal.specs.declared.entry.Entry.TheVariants.{Posted}
-use Rattle.reactor_model.specs.reactor_journal.specs.declared.entry.Entry.TheVariants.{Stale}
 use Rattle.reactor_model.specs.reactor_journal.specs.declared.entry.Entry.TheVariants.{Returned}
 use Rattle.reactor_model.specs.reactor_journal.specs.declared.entry.Entry.TheVariants.{Refused}
 use Rattle.reactor_model.specs.reactor_journal.specs.declared.entry.Entry.TheVariants.{Removed}
@@ -25,7 +23,7 @@ abbrev pub first_handle : Handle
 first_handle = record { 0 = 0 }
 
 -- nothing can be started, and nothing is open
-pub record IsIdle {N : Type 0} (past : List (Entry N)) : Type 0 where
+pub record HasNoWork {N : Type 0} (past : List (Entry N)) : Type 0 where
   pub no_pick : (i : ℕ) → is_pick past i ≡ false
   pub none_open : (i : ℕ) → is_open past i ≡ false
 
@@ -34,7 +32,7 @@ pub record IsIdle {N : Type 0} (past : List (Entry N)) : Type 0 where
 pub record IsAtOver (groups : List Group) (past : List (Entry ServerNote)) : Type 0 where
   pub behind : follows_ready past ≡ true
   pub over : is_over (last_wait groups past) ≡ true
-  pub idle : IsIdle past
+  pub idle : HasNoWork past
 
 -- whether the entry removes or closes a handler
 abbrev pub is_closing : {N : Type 0} → Entry N → Bool
@@ -57,24 +55,14 @@ pub record IsWhole {N : Type 0} (most : ℕ) (journal : List (Entry N)) : Type 0
   pub stopped : IsTrue (ended (past_of journal))
   pub closed : all_below (opened (past_of journal)) (was_closed (past_of journal)) ≡ true
 
--- no notification
-abbrev pub is_notice : {N : Type 0} → Entry N → Bool
-is_notice (Posted handle kind from seq) = true
-is_notice (Stale handle from seq) = true
-is_notice _ = false
-
 abbrev pub is_timer : {N : Type 0} → Entry N → Bool
 is_timer (Scheduled timer handle first every) = true
 is_timer _ = false
 
--- a handler that was refused, and one that was for a fault of the net
+-- whether the entry tells that a handler was refused
 abbrev pub is_refusal : {N : Type 0} → Entry N → Bool
 is_refusal (Refused live fault said) = true
 is_refusal _ = false
-
-abbrev pub is_fault : {N : Type 0} → Entry N → Bool
-is_fault (Refused live fault said) = fault
-is_fault _ = false
 
 -- an `Opened` behind the first entry stands only behind a turn that accepted a connection
 abbrev pub note_settled : List (Entry ServerNote) → Option ServerNote

@@ -16,7 +16,7 @@ use Rattle.laws_script_runs.specs.reactor_journal.proofs.Turning.{is_legal-front
 use Rattle.laws_script_runs.specs.event_script.specs.Script.{ScriptGroup, groups_told, steps_of}
 use Rattle.laws_script_runs.specs.log_handler.specs.declared.note.ServerNote.{ServerNote}
 use Rattle.laws_script_runs.specs.laws_script_told.specs.Told.{FollowsBefore}
-use Rattle.laws_script_runs.specs.Connections.{AreLeft, IsLeft, HadMemory, entry_lacks, Leaves}
+use Rattle.laws_script_runs.specs.Connections.{AreLeft, IsLeft, HadMemory, entry_lacks, SaysLast}
 use Rattle.laws_script_runs.specs.Steps.{EachStep}
 use Rattle.laws_script_runs.proofs.Handles.{Found, found, had_found}
 use Rattle.laws_script_runs.proofs.Settling as settling
@@ -114,10 +114,10 @@ module _ (most : ℕ) (idle : Option ℕ) (groups : List ScriptGroup) where
     memory = winding.none_at entry_lacks f.later (Closed f.handle f.said) f.before
         (sym (ap (list_any entry_lacks) f.is) ∙ n.all_memory);
     leaves = subst (λ (origin : Option (Origin ServerNote)).
-        Leaves (steps_of groups) idle origin (had (whole later e past) x)
+        SaysLast (steps_of groups) idle origin (had (whole later e past) x)
         (reason_of f.before f.handle.0) f.said) origin
         (subst (λ (items : List (Item ServerNote)).
-        Leaves (steps_of groups) idle (origin_of f.before f.handle.0) items
+        SaysLast (steps_of groups) idle (origin_of f.before f.handle.0) items
         (reason_of f.before f.handle.0) f.said) items f.left);
   }
     where

@@ -17,7 +17,7 @@ use Rattle.laws_script_runs.specs.log_handler.specs.Connections.{IsClosing}
 use Rattle.laws_script_runs.specs.event_script.specs.Script.{ScriptStep}
 use Rattle.laws_script_runs.specs.event_script.specs.Stories.{story, offers}
 use Rattle.laws_script_runs.specs.laws_script_turns.specs.Laws.{untold, unoffered}
-use Rattle.laws_script_runs.specs.Connections.{Leaves, LeavesOffered, TalksThrough, lacks_memory}
+use Rattle.laws_script_runs.specs.Connections.{SaysLast, LeavesOffered, TalksThrough, lacks_memory}
 use Rattle.laws_script_serial.proofs.Courses.{same_course, next_turn, next_accept, Tells, Offers}
 
 -- ---- words
@@ -72,8 +72,8 @@ module _ (steps : List ScriptStep) (idle : Option ℕ) where
 
   pub same_closing : (origin : Option (Origin ServerNote)) (had : List (Item ServerNote))
       (own : Bool) (a b : ServerNote) → lacks_memory a ≡ false → lacks_memory b ≡ false
-      → Leaves steps idle origin had (cond own Own ByRemoval) a
-      → Leaves steps idle origin had (cond own Own ByRemoval) b → a ≡ b
+      → SaysLast steps idle origin had (cond own Own ByRemoval) a
+      → SaysLast steps idle origin had (cond own Own ByRemoval) b → a ≡ b
   same_closing None had own a b ma mb x y = x.notes ∙ sym y.notes
   same_closing (Some o) had own a b ma mb x y = by_note o.note x y
     where
@@ -88,7 +88,8 @@ module _ (steps : List ScriptStep) (idle : Option ℕ) where
 
   -- the note of a handler that was refused
   pub same_refusal : (origin : Option (Origin ServerNote)) (a b : ServerNote)
-      → Leaves steps idle origin [] ByRefusal a → Leaves steps idle origin [] ByRefusal b → a ≡ b
+      → SaysLast steps idle origin [] ByRefusal a → SaysLast steps idle origin [] ByRefusal b
+      → a ≡ b
   same_refusal None a b x y = x.notes ∙ sym y.notes
   same_refusal (Some o) a b x y = by_note o.note x y
     where
@@ -109,8 +110,8 @@ module _ (steps : List ScriptStep) (idle : Option ℕ) where
       (said said' : ServerNote)
       → lacks_memory said ≡ false → lacks_memory said' ≡ false → a.upcall ≡ b.upcall
       → a.moment ≡ b.moment
-      → Leaves steps idle origin ((had ++ a ∷ []) ++ more) (cond own Own ByRemoval) said
-      → Leaves steps idle origin ((had ++ b ∷ []) ++ other) (cond own' Own ByRemoval) said'
+      → SaysLast steps idle origin ((had ++ a ∷ []) ++ more) (cond own Own ByRemoval) said
+      → SaysLast steps idle origin ((had ++ b ∷ []) ++ other) (cond own' Own ByRemoval) said'
       → (a.answer ≡ b.answer) × (a.note ≡ b.note)
   same_next None had a b more other own own' said said' ms ms' up moment x y =
       next_accept _ x.now y.now had a b more other begins_offering up x.course y.course
@@ -138,7 +139,7 @@ module _ (steps : List ScriptStep) (idle : Option ℕ) where
       pub own : Bool
       pub said : ServerNote
       pub memory : lacks_memory said ≡ false
-      pub leaves : Leaves steps idle origin items (cond own Own ByRemoval) said
+      pub leaves : SaysLast steps idle origin items (cond own Own ByRemoval) said
 
   pub one_turn : (origin : Option (Origin ServerNote)) (had whole whole' : List (Item ServerNote))
       (a b : Item ServerNote) (more other : List (Item ServerNote))
@@ -148,6 +149,6 @@ module _ (steps : List ScriptStep) (idle : Option ℕ) where
   one_turn origin had whole whole' a b more other is is' up moment x y =
       same_next origin had a b more other x.own y.own x.said y.said x.memory y.memory up moment
       (subst (λ (items : List (Item ServerNote)).
-      Leaves steps idle origin items (cond x.own Own ByRemoval) x.said) is x.leaves)
+      SaysLast steps idle origin items (cond x.own Own ByRemoval) x.said) is x.leaves)
       (subst (λ (items : List (Item ServerNote)).
-      Leaves steps idle origin items (cond y.own Own ByRemoval) y.said) is' y.leaves)
+      SaysLast steps idle origin items (cond y.own Own ByRemoval) y.said) is' y.leaves)

@@ -44,7 +44,8 @@ use Rattle.laws_script_runs.specs.reactor_journal.proofs.OneOpen.{any_below-from
 use Rattle.laws_script_runs.specs.reactor_journal.proofs.Picking.{pick_one}
 use Rattle.laws_script_runs.specs.event_script.specs.Script.{ScriptGroup, groups_told}
 use Rattle.laws_script_runs.specs.log_handler.specs.declared.note.ServerNote.{ServerNote}
-use Rattle.laws_script_runs.specs.laws_script_told.specs.Told.{IsAnsweredAt, time_left, told}
+use Rattle.laws_script_runs.specs.laws_script_told.specs.Told.{time_left_in, told}
+use Rattle.laws_script_runs.specs.reactor_model.specs.Entries.{IsAnsweredAt, taken_before}
 use Rattle.laws_script_serial.specs.Serial.{IsSpent, is_over_here, is_installing}
 use Rattle.laws_script_serial.proofs.Entering.{Entrance}
 use Rattle.laws_script_serial.proofs.Quiet.{StartsLast, EndsLast, open_is_last, ends_last}
@@ -132,7 +133,7 @@ module _ (most : ℕ) (idle : Option ℕ) (groups : List ScriptGroup) where
       × (is_pick past event ≡ true)
   Facts past (Polls moment) = IsSpent past × (ended past ≡ false) × IsDone past
       × (is_over_here groups past ≡ false)
-      × IsAnsweredAt moment (waited (time_left past) (told (groups_told groups) past)).answer
+      × IsAnsweredAt moment (waited (time_left_in past) (told (groups_told groups) past)).answer
   Facts past Ends = IsSpent past × (ended past ≡ false) × IsDone past
       × (is_over_here groups past ≡ true)
   Facts past (Removes handle) = (ended past ≡ true) × (is_alive past handle.0 ≡ true)
@@ -152,14 +153,14 @@ module _ (most : ℕ) (idle : Option ℕ) (groups : List ScriptGroup) where
   done_here : (later : List (Entry ServerNote)) (e : Entry ServerNote)
       (past : List (Entry ServerNote)) → Entrance most idle groups later e past
       → follows_ready (e ∷ past) ≡ false
-      → Rattle.laws_script_runs.specs.laws_script_told.specs.Told.taken_before e [] ≡ []
+      → taken_before e [] ≡ []
       → IsDone past
   done_here later e past n over plain behind =
       told_made (groups_told groups) most past
-      (Rattle.laws_script_runs.specs.laws_script_told.specs.Told.taken_before e
+      (taken_before e
       (gathered later [])) n.before behind n.told.1
       ∙ ap (λ (t : List Report). reports_made past
-      ++ Rattle.laws_script_runs.specs.laws_script_told.specs.Told.taken_before e t)
+      ++ taken_before e t)
       (n.none_later over) ∙ ap (λ (t : List Report). reports_made past ++ t) plain
       ∙ append-nil (reports_made past)
 

@@ -28,15 +28,16 @@ use Rattle.laws_script_runs.specs.reactor_journal.specs.Follow.{may_follow, is_l
 use Rattle.laws_script_runs.specs.reactor_journal.specs.Follow.{follows_ready}
 use Rattle.laws_script_runs.specs.reactor_journal.proofs.Basics.{may_fits}
 use Rattle.laws_script_runs.specs.log_handler.specs.declared.note.ServerNote.{ServerNote}
-use Rattle.laws_script_runs.specs.laws_script_told.specs.Told.{FollowsBefore, taken_before}
-use Rattle.laws_script_runs.specs.laws_script_told.specs.Told.{is_taken, time_left, told}
+use Rattle.laws_script_runs.specs.laws_script_told.specs.Told.{FollowsBefore}
+use Rattle.laws_script_runs.specs.reactor_model.specs.Entries.{taken_before}
+use Rattle.laws_script_runs.specs.laws_script_told.specs.Told.{is_taken_in, time_left_in, told}
 
 -- the reports of the last wait that are taken, as the script tells them, and those that stand
 -- behind it
 abbrev pub reports_told : List Group → List (Entry ServerNote) → List Report
 reports_told groups [] = []
 reports_told groups (Polled moment ∷ past) =
-    filter (is_taken past) (waited (time_left past) (told groups past)).reports
+    filter (is_taken_in past) (waited (time_left_in past) (told groups past)).reports
 reports_told groups (e ∷ past) = reports_told groups past
 
 abbrev pub reports_made : List (Entry ServerNote) → List Report

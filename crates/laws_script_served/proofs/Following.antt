@@ -7,7 +7,7 @@ use Rattle.ev_base.specs.declared.end.PeerEnd.{Ghosts}
 use Rattle.laws_script_calls.specs.reactor_journal.specs.declared.entry.Entry.{Entry}
 use Rattle.laws_script_calls.specs.reactor_journal.specs.declared.entry.Entry.TheVariants.{Ended}
 use Rattle.laws_script_calls.specs.reactor_journal.specs.Past.{past_of, count}
-use Rattle.laws_script_calls.specs.reactor_core.specs.Ends.{is_fault}
+use Rattle.laws_script_calls.specs.reactor_model.specs.Entries.{is_fault, is_notice}
 use Rattle.laws_script_calls.specs.log_handler.specs.declared.note.ServerNote.{ServerNote}
 use Rattle.laws_script_calls.specs.acceptor.specs.Servers.{servers}
 use Rattle.laws_script_calls.specs.acceptor.specs.declared.server.ServerHandler.{ServerHandler}
@@ -22,7 +22,7 @@ use Rattle.laws_script_calls.specs.laws_script_runs.specs.Laws.{RunsOver}
 use Rattle.laws_script_calls.specs.laws_script_runs.specs.Runs as runs
 use Rattle.laws_script_calls.specs.laws_script_runs.proofs.Winding.{any_reverse}
 use Rattle.std.proofs.lemmas.List.{reverse-reverse}
-use Rattle.laws_script_served.specs.Served.{ServesScript, FollowsScript, EndsWithOver}
+use Rattle.laws_script_served.specs.Served.{ServesScript, FollowsScript, IsServedToOver}
 use Rattle.laws_script_served.proofs.Scripts.{text-steps}
 use Rattle.laws_script_calls.specs.laws_script_told.specs.Told.{last_wait, is_over}
 use Rattle.laws_script_calls.specs.reactor_core.specs.Marks.{answers, is_polled}
@@ -42,11 +42,11 @@ none-counted p (x ∷ l) none = by-test (p x) (none-counted p l) none where
   by-test false rest none = rest none
 
 no-faults : (journal : List (Entry ServerNote)) (many : ℕ) → count is_fault (past_of journal) ≤ many
-    → many ≡ 0 → list_any runs.is_fault journal ≡ false
+    → many ≡ 0 → list_any is_fault journal ≡ false
 no-faults journal many few none =
-    subst (λ l. list_any runs.is_fault l ≡ false) (reverse-reverse journal)
-    (any_reverse runs.is_fault (past_of journal)
-    (none-counted runs.is_fault (past_of journal) (omega (arith, few, none))))
+    subst (λ l. list_any is_fault l ≡ false) (reverse-reverse journal)
+    (any_reverse is_fault (past_of journal)
+    (none-counted is_fault (past_of journal) (omega (arith, few, none))))
 
 module _ (G : Ghosts ScriptEnd) (t : Terms) (groups : List ScriptGroup) (idle : Option ℕ)
     (journal : List (Entry ServerNote)) (net : NetContent)
@@ -66,7 +66,7 @@ module _ (G : Ghosts ScriptEnd) (t : Terms) (groups : List ScriptGroup) (idle : 
     none_failed = no-faults journal net.failed_attaches s.stands.faults s.attaches;
   }
 
-  over-here : (e : EndsWithOver G t journal net)
+  over-here : (e : IsServedToOver G t journal net)
       → is_over (last_wait (groups_told groups) (past_of e.run)) ≡ true
   over-here e =
       let told = answers-tell {H = ServerHandler ScriptEnd G}
@@ -83,7 +83,7 @@ module _ (G : Ghosts ScriptEnd) (t : Terms) (groups : List ScriptGroup) (idle : 
       sym same.1 ∙ ap (count is_polled) (sym behind) ∙ told.many in
       ap is_over last ∙ over-last (count is_polled (past_of e.run)) (answers net.calls) many e.over
 
-  pub ends-over : EndsWithOver G t journal net → runs.EndsAtOver (groups_told groups) journal
+  pub ends-over : IsServedToOver G t journal net → runs.EndsAtOver (groups_told groups) journal
   ends-over e = record {
     run = e.run;
     closing = e.closing;
@@ -92,7 +92,7 @@ module _ (G : Ghosts ScriptEnd) (t : Terms) (groups : List ScriptGroup) (idle : 
     closes = e.closes;
   }
 
-  pub runs-over : EndsWithOver G t journal net → list_any runs.is_notice journal ≡ false
+  pub runs-over : IsServedToOver G t journal net → list_any is_notice journal ≡ false
       → RunsOver {H = ServerHandler ScriptEnd G} (servers script_end_facts ScriptEndKeeps) t idle
       groups journal
   unfolding ends-over

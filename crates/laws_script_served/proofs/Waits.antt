@@ -40,7 +40,8 @@ use Rattle.laws_script_calls.specs.log_handler.specs.declared.note.ServerNote.{S
 use Rattle.laws_script_calls.specs.Laws.{NamesAsServer}
 use Rattle.laws_script_calls.proofs.Following.{plays_on, same_time}
 use Rattle.laws_script_calls.specs.laws_script_runs.specs.Runs.{is_closing}
-use Rattle.laws_script_calls.specs.laws_script_told.specs.Told.{told, time_left, last_wait, is_over}
+use Rattle.laws_script_calls.specs.laws_script_told.specs.Told.{told, time_left_in, last_wait}
+use Rattle.laws_script_calls.specs.laws_script_told.specs.Told.{is_over}
 
 -- the answer of the net's last wait
 abbrev pub last_of : List Waited → Option Waited
@@ -58,7 +59,7 @@ module _ {H E : Type 0} (means : Handling H E ServerNote) (t : Terms) (offers : 
     (groups : List Group) (most : ℕ) (limit : t.limit ≡ Some None)
     (told_of : t.offers ≡ Some offers) (as_server : NamesAsServer means t) where
   asked : (past : List (Entry ServerNote)) (most_ms : Option ℕ) → is_legal most past ≡ true
-      → IsAskedFor t.limit (summary past) most_ms → most_ms ≡ time_left past
+      → IsAskedFor t.limit (summary past) most_ms → most_ms ≡ time_left_in past
   asked past most_ms legal h = subst
       (λ (l : Option (Option ℕ)). C.IsAskedFor l (summary past) most_ms) limit h
       ∙ same_time most past legal
@@ -80,7 +81,7 @@ module _ {H E : Type 0} (means : Handling H E ServerNote) (t : Terms) (offers : 
         last = ap (λ (w : Waited). Some w)
             (sym (plays.0.answers ∙ ap (λ (o : Option ℕ). (waited o (played groups calls)).answer)
             (asked past most_ms before are.0.asked)
-            ∙ ap (λ p. (waited (time_left past) p).answer) same));
+            ∙ ap (λ p. (waited (time_left_in past) p).answer) same));
         many = ap suc more.many;
       }
   answers-tell (Polled moment ∷ past) taken (Attaches x given serial ∷ calls) legal are plays =

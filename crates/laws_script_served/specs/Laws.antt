@@ -17,10 +17,11 @@ use Rattle.script_net.specs.ScriptEnd.{script_end_facts, ScriptEndKeeps}
 use Rattle.script_net.specs.declared.end.ScriptEnd.{ScriptEnd}
 use Rattle.script_text.specs.Parsing.{HasGroups}
 use Rattle.laws_script_calls.specs.laws_script_runs.specs.Laws.{RunsOver}
-use Rattle.laws_script_calls.specs.laws_script_runs.specs.Runs.{EndsAtOver, is_notice}
+use Rattle.laws_script_calls.specs.laws_script_runs.specs.Runs.{EndsAtOver}
+use Rattle.laws_script_calls.specs.reactor_model.specs.Entries.{is_notice}
 use Rattle.std.specs.List.{list_any}
 use Rattle.laws_script_served.specs.Terms.{HaveScript, terms_of_script}
-use Rattle.laws_script_served.specs.Served.{ServesScript, FollowsScript, EndsWithOver}
+use Rattle.laws_script_served.specs.Served.{ServesScript, FollowsScript, IsServedToOver}
 
 -- the terms of a script lay down what is read from its text, and have its stories
 pub record LaysScriptsDown : Type 0 where
@@ -43,7 +44,7 @@ abbrev pub ScriptsEndOver : Ghosts ScriptEnd → Type 0
 ScriptsEndOver G =
     (t : Terms) (groups : List ScriptGroup) (idle : Option ℕ) (journal : List (Entry ServerNote))
     (net : NetContent)
-    → ServesScript G t groups idle journal net → EndsWithOver G t journal net
+    → ServesScript G t groups idle journal net → IsServedToOver G t journal net
     → EndsAtOver (groups_told groups) journal
 
 -- and without notices it is one that the laws of whole runs speak of
@@ -51,7 +52,7 @@ abbrev pub ScriptsRunOver : Ghosts ScriptEnd → Type 0
 ScriptsRunOver G =
     (t : Terms) (groups : List ScriptGroup) (idle : Option ℕ) (journal : List (Entry ServerNote))
     (net : NetContent)
-    → ServesScript G t groups idle journal net → EndsWithOver G t journal net
+    → ServesScript G t groups idle journal net → IsServedToOver G t journal net
     → list_any is_notice journal ≡ false
     → RunsOver {H = ServerHandler ScriptEnd G} (servers script_end_facts ScriptEndKeeps) t idle
     groups journal

@@ -21,8 +21,9 @@ use Rattle.script_net.specs.ScriptEnd.{script_end_facts, ScriptEndKeeps}
 use Rattle.script_net.specs.declared.end.ScriptEnd.{ScriptEnd}
 use Rattle.laws_script_calls.specs.laws_script_told.specs.Told.{Follows}
 use Rattle.laws_script_calls.specs.laws_script_runs.specs.Connections.{AreLeft}
-use Rattle.laws_script_calls.specs.laws_script_runs.specs.Runs.{IsWhole, IsIdle, first_handle}
-use Rattle.laws_script_calls.specs.laws_script_runs.specs.Runs.{is_closing, is_fault}
+use Rattle.laws_script_calls.specs.laws_script_runs.specs.Runs.{IsWhole, HasNoWork, first_handle}
+use Rattle.laws_script_calls.specs.laws_script_runs.specs.Runs.{is_closing}
+use Rattle.laws_script_calls.specs.reactor_model.specs.Entries.{is_fault}
 use Rattle.laws_script_served.specs.Terms.{HaveScript}
 
 -- Under terms that have the script of a text, this journal is whole, and the net stands for it,
@@ -49,7 +50,7 @@ pub record FollowsScript (groups : List ScriptGroup) (idle : Option ℕ)
 -- The run goes by turns behind the registration of the acceptor, and ended behind a wait that the
 -- net answered Over, with nothing to start and nothing open; then the handlers that were alive were
 -- closed.
-pub record EndsWithOver (G : Ghosts ScriptEnd) (t : Terms) (journal : List (Entry ServerNote))
+pub record IsServedToOver (G : Ghosts ScriptEnd) (t : Terms) (journal : List (Entry ServerNote))
     (net : NetContent) : Type 0 where
   pub run : List (Entry ServerNote)
   pub closing : List (Entry ServerNote)
@@ -58,6 +59,6 @@ pub record EndsWithOver (G : Ghosts ScriptEnd) (t : Terms) (journal : List (Entr
   pub turned : DispatchedByTurns {H = ServerHandler ScriptEnd G}
       (servers script_end_facts ScriptEndKeeps) t 1 run
   pub behind : follows_ready (past_of run) ≡ true
-  pub rests : IsIdle (past_of run)
+  pub rests : HasNoWork (past_of run)
   pub over : IsOverAt (count is_polled (past_of run)) (answers net.calls)
   pub closes : list_all is_closing closing ≡ true

@@ -28,7 +28,7 @@ use Rattle.laws_script_complete.specs.log_handler.specs.declared.note.ServerNote
 use Rattle.laws_script_complete.specs.event_script.specs.Script.{ScriptStep}
 use Rattle.laws_script_complete.specs.event_script.specs.Script.{ScriptGroup}
 use Rattle.laws_script_complete.specs.event_script.specs.Script.{steps_of}
-use Rattle.laws_script_complete.specs.laws_script_runs.specs.Connections.{IsLeft, Leaves}
+use Rattle.laws_script_complete.specs.laws_script_runs.specs.Connections.{IsLeft, SaysLast}
 use Rattle.laws_script_complete.specs.laws_script_runs.specs.Connections.{LeavesOffered}
 use Rattle.laws_script_complete.specs.laws_script_runs.specs.Connections.{is_entry_of}
 use Rattle.laws_script_complete.specs.laws_script_runs.specs.Connections.{is_note_of}
@@ -76,7 +76,7 @@ module _ (steps : List ScriptStep) (idle : Option ℕ) (c : ℕ) (items : List (
   by_note o (note.Piece conn took records) h = absurd h
   by_note o (note.Finished conn end) h = absurd h
 
-  finishes_it : (origin : Option (Origin ServerNote)) → Leaves steps idle origin items reason said
+  finishes_it : (origin : Option (Origin ServerNote)) → SaysLast steps idle origin items reason said
       → finishes c said ≡ true
   finishes_it None h = absurd (false≢true (sym (ap (is_note_of c) h.notes) ∙ mine))
   finishes_it (Some o) h = by_note o o.note h

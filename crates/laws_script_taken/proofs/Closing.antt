@@ -58,7 +58,7 @@ use Rattle.laws_script_complete.specs.event_script.specs.Script.{ScriptGroup}
 use Rattle.laws_script_complete.specs.event_script.specs.Script.{steps_of}
 use Rattle.laws_script_complete.specs.event_script.specs.Stories.{story}
 use Rattle.laws_script_complete.specs.laws_script_turns.specs.Laws.{untold}
-use Rattle.laws_script_complete.specs.laws_script_runs.specs.Connections.{AreLeft, IsLeft, Leaves}
+use Rattle.laws_script_complete.specs.laws_script_runs.specs.Connections.{AreLeft, IsLeft, SaysLast}
 use Rattle.laws_script_complete.specs.laws_script_runs.specs.Connections.{TalksThrough}
 use Rattle.laws_script_complete.specs.laws_script_runs.specs.Steps.{EachStep}
 use Rattle.laws_script_complete.specs.laws_script_runs.proofs.Handles as handles
@@ -243,7 +243,7 @@ module _ {H E : Type 0} (means : Handling H E ServerNote) (t : Terms) (idle : Op
 
         through : TalksThrough steps idle c moment [] ByRefusal said
         through = subst (λ (origin : Option (Origin ServerNote)).
-            Leaves steps idle origin [] ByRefusal said) here
+            SaysLast steps idle origin [] ByRefusal said) here
             (offering.left_at most steps idle all legal begun left closed first o.later
             (Refused live fault said) s o.is)
 
@@ -347,7 +347,7 @@ module _ {H E : Type 0} (means : Handling H E ServerNote) (t : Terms) (idle : Op
     through : TalksThrough steps idle c moment (had f.before f.handle.0)
         (reason_of f.before f.handle.0) f.said
     through = subst (λ (from : Option (Origin ServerNote)).
-        Leaves steps idle from (had f.before f.handle.0) (reason_of f.before f.handle.0) f.said)
+        SaysLast steps idle from (had f.before f.handle.0) (reason_of f.before f.handle.0) f.said)
         origin_before f.left
 
     had_is : had f.before f.handle.0 ≡ had all handle.0

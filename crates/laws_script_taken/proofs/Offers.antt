@@ -38,7 +38,7 @@ use Rattle.laws_script_complete.specs.log_handler.specs.declared.note.ServerNote
 use Rattle.laws_script_complete.specs.log_handler.specs.declared.note.ServerNote.TheVariants
     as note
 use Rattle.laws_script_complete.specs.event_script.specs.Script.{ScriptStep}
-use Rattle.laws_script_complete.specs.laws_script_runs.specs.Connections.{AreLeft, IsLeft, Leaves}
+use Rattle.laws_script_complete.specs.laws_script_runs.specs.Connections.{AreLeft, IsLeft, SaysLast}
 use Rattle.laws_script_complete.specs.laws_script_runs.specs.Connections.{LeavesOffered}
 use Rattle.laws_script_complete.specs.laws_script_runs.specs.Connections.{TalksThrough}
 use Rattle.laws_script_complete.specs.laws_script_runs.specs.Connections.{accepts, accepted}
@@ -235,7 +235,7 @@ module _ (steps : List ScriptStep) (idle : Option ℕ) (c : ℕ) (had : List (It
   by_note o (note.Piece conn took records) says h = absurd h
   by_note o (note.Finished conn end) says h = absurd h
 
-  pub leaves_it : (origin : Option (Origin ServerNote)) → Leaves steps idle origin had reason said
+  pub leaves_it : (origin : Option (Origin ServerNote)) → SaysLast steps idle origin had reason said
       → LeavesIt steps idle c origin had reason said
   leaves_it None h = absurd (false≢true (sym (ap (finishes c) h.notes) ∙ ends))
   leaves_it (Some o) h = by_note o o.note refl h

@@ -40,7 +40,7 @@ use Rattle.event_script.specs.Script.{ScriptStep, ScriptGroup, groups_told, repo
 use Rattle.event_script.specs.ev_base.specs.Playing.{Playing, Seat, is_end, dropped, has_handle}
 use Rattle.event_script.specs.ev_base.specs.Playing.{waited, given, most_reports, is_at}
 use Rattle.laws_script_told.specs.Laws.{StandsOnlyAt, IsOnlyAt, steps_at, all_steps}
-use Rattle.laws_script_told.specs.Told.{told, time_left, end_offered, is_taken, FollowsBefore}
+use Rattle.laws_script_told.specs.Told.{told, time_left_in, end_offered, is_taken_in, FollowsBefore}
 use Rattle.laws_script_told.specs.Told.{last_wait, is_over}
 use Rattle.laws_script_told.proofs.Playing.{AreSeatsRight, is_seat_right, Sees, is_report_of}
 use Rattle.laws_script_told.proofs.Playing.{is_read, AreReads, to_come, wait_reports, filter_reads}
@@ -218,7 +218,7 @@ module _ (groups : List ScriptGroup) (most x : ℕ) (end : StepEnd) where
   standing_polled : (moment : ℕ) (past : List (Entry ServerNote)) → Standing past
       → Standing (Polled moment ∷ past)
   standing_polled moment past r =
-      let w = wait_reports x end (told start past) r.sees (time_left past) in
+      let w = wait_reports x end (told start past) r.sees (time_left_in past) in
       record {
         sees = w.sees;
         seated = λ o. ap (list_any (has_seat end)) w.seats ∙ r.seated o;
@@ -343,11 +343,11 @@ module _ (groups : List ScriptGroup) (most x : ℕ) (end : StepEnd) where
 
   -- of the reports of a wait all that are of the handle are taken
   taken_all : (past : List (Entry ServerNote)) (reports : List Report) → is_alive past x ≡ true
-      → (mask_of past x).read ≡ true → count (is_report_of x) (filter (is_taken past) reports)
+      → (mask_of past x).read ≡ true → count (is_report_of x) (filter (is_taken_in past) reports)
       ≡ count (is_report_of x) reports
   taken_all past [] alive mask = refl
   taken_all past (r ∷ reports) alive mask =
-      by_test (is_taken past r) refl (taken_all past reports alive mask)
+      by_test (is_taken_in past r) refl (taken_all past reports alive mask)
     where
       reads : (kind : Kind) → is_input (upcall_of kind) ≡ true
           → has_kind (mask_of past x) kind ≡ true
@@ -355,17 +355,18 @@ module _ (groups : List ScriptGroup) (most x : ℕ) (end : StepEnd) where
       reads Write h = absurd (false≢true h)
       reads Except h = absurd (false≢true h)
 
-      is_mine : is_report_of x r ≡ true → is_taken past r ≡ true
+      is_mine : is_report_of x r ≡ true → is_taken_in past r ≡ true
       is_mine m = and_from _ _ (subst (λ (y : ℕ). is_alive past y ≡ true)
           (sym (eqb-true _ _ (and_parts _ _ m).0)) alive)
           (subst (λ (y : ℕ). has_kind (mask_of past y) r.kind ≡ true)
           (sym (eqb-true _ _ (and_parts _ _ m).0))
           (reads r.kind (and_parts (r.handle.0 == x) (is_input (upcall_of r.kind)) m).1))
 
-      by_test : (b : Bool) → is_taken past r ≡ b
-          → count (is_report_of x) (filter (is_taken past) reports) ≡ count (is_report_of x) reports
-          → count (is_report_of x) (cond b (r ∷ filter (is_taken past) reports)
-          (filter (is_taken past) reports)) ≡ count (is_report_of x) (r ∷ reports)
+      by_test : (b : Bool) → is_taken_in past r ≡ b
+          → count (is_report_of x) (filter (is_taken_in past) reports)
+          ≡ count (is_report_of x) reports
+          → count (is_report_of x) (cond b (r ∷ filter (is_taken_in past) reports)
+          (filter (is_taken_in past) reports)) ≡ count (is_report_of x) (r ∷ reports)
       by_test true t rest = ap (λ (n : ℕ). cond (is_report_of x r) (suc n) n) rest
       by_test false t rest = rest ∙ sym (⊎_elim
           (λ (m : is_report_of x r ≡ true). absurd (both_ways _ t (is_mine m)))
@@ -391,17 +392,17 @@ module _ (groups : List ScriptGroup) (most x : ℕ) (end : StepEnd) where
       by_test false false e h more = more h
 
   taken_count : (past : List (Entry ServerNote)) (l : Lives past)
-      → count (is_report_of x) (filter (is_taken past)
-      (waited (time_left past) (told start past)).reports)
-      ≡ count (is_report_of x) (waited (time_left past) (told start past)).reports
+      → count (is_report_of x) (filter (is_taken_in past)
+      (waited (time_left_in past) (told start past)).reports)
+      ≡ count (is_report_of x) (waited (time_left_in past) (told start past)).reports
   taken_count past l =
       let r = standing past l in
       ⊎_elim
       (λ (o : was_opened past x ≡ true).
       taken_all past _ (and_from _ _ o (ap not l.lives)) (r.masked o))
       (λ (o : was_opened past x ≡ false).
-      let none = none_waited x (time_left past) (told start past) (r.unseated o) in
-      none_filtered (is_taken past) _ none ∙ sym none)
+      let none = none_waited x (time_left_in past) (told start past) (r.unseated o) in
+      none_filtered (is_taken_in past) _ none ∙ sym none)
       (cases_Bool (was_opened past x))
 
   -- reports stand only behind a wait, so these are all there are, or there are none
@@ -422,9 +423,10 @@ module _ (groups : List ScriptGroup) (most x : ℕ) (end : StepEnd) where
   accounts (Polled moment ∷ past) taken l follows aligned =
       let before_ = before (Polled moment) past l in
       let rest = accounts past [] before_ follows.1 (inl refl) in
-      let w = wait_reports x end (told start past) (standing past before_).sees (time_left past) in
+      let w = wait_reports x end (told start past) (standing past before_).sees
+      (time_left_in past) in
       let taken_is : count (is_report_of x) taken
-      ≡ count (is_report_of x) (waited (time_left past) (told start past)).reports =
+      ≡ count (is_report_of x) (waited (time_left_in past) (told start past)).reports =
       ap (count (is_report_of x)) follows.0.are_taken ∙ taken_count past before_ in
       sums _ _ _ _ _ _ taken_is w.counts rest
     where
@@ -495,7 +497,7 @@ module _ (groups : List ScriptGroup) (most x : ℕ) (end : StepEnd) where
       → NothingLeft (told start past)
   at_end [] legal ready over = absurd (false≢true ready)
   at_end (Polled moment ∷ past) legal ready over = let o =
-      over_leaves (time_left past) (told start past) over in
+      over_leaves (time_left_in past) (told start past) over in
       record { groups = o.groups; held = o.held }
   at_end (Due timer ∷ past) legal ready over =
       let parts = and_parts (may_follow most past (Due timer)) (is_legal most past) legal in

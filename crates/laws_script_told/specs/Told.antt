@@ -9,23 +9,24 @@ use Rattle.event_script.specs.ev_base.specs.declared.net.Waited.TheVariants as w
 use Rattle.log_handler.specs.reactor_journal.specs.Event.{Origin}
 use Rattle.log_handler.specs.reactor_journal.specs.declared.entry.Entry.{Entry}
 use Rattle.log_handler.specs.reactor_journal.specs.declared.entry.Entry.TheVariants.{Opened, Polled}
-use Rattle.log_handler.specs.reactor_journal.specs.declared.entry.Entry.TheVariants.{Ready, Masked}
+use Rattle.log_handler.specs.reactor_journal.specs.declared.entry.Entry.TheVariants.{Masked}
 use Rattle.log_handler.specs.reactor_journal.specs.declared.entry.Entry.TheVariants.{Refused}
 use Rattle.log_handler.specs.reactor_journal.specs.declared.entry.Entry.TheVariants.{Closed}
 use Rattle.log_handler.specs.reactor_journal.specs.Past.{past_of, now, armed, is_alive, mask_of}
 use Rattle.log_handler.specs.reactor_journal.specs.Past.{has_kind, offered_here}
+use Rattle.log_handler.specs.reactor_model.specs.Entries.{IsAnsweredAt, taken_before}
 use Rattle.log_handler.specs.declared.note.ServerNote.{ServerNote}
 use Rattle.log_handler.specs.Connections.{accepted_in}
 use Rattle.event_script.specs.ev_base.specs.Playing.{Playing, at_start, waited, attached, mask_set}
 use Rattle.event_script.specs.ev_base.specs.Playing.{retired, turned_away, end_of_serial}
 
 -- the time from the moment to the first deadline, if a timer is armed
-abbrev pub first_deadline : List (ℕ × ℕ) → Option ℕ
-first_deadline [] = None
-first_deadline (a ∷ rest) = Some a.0
+abbrev pub first_deadline_in : List (ℕ × ℕ) → Option ℕ
+first_deadline_in [] = None
+first_deadline_in (a ∷ rest) = Some a.0
 
-abbrev pub time_left : {N : Type 0} → List (Entry N) → Option ℕ
-time_left past = option_map (λ deadline. deadline - now past) (first_deadline (armed past))
+abbrev pub time_left_in : {N : Type 0} → List (Entry N) → Option ℕ
+time_left_in past = option_map (λ deadline. deadline - now past) (first_deadline_in (armed past))
 
 -- the end of the handler that is offered here: that of the connection which the turn just settled
 -- has accepted, else the listener
@@ -39,7 +40,7 @@ end_offered past = end_of_serial (number_accepted (offered_here past))
 -- the ends that were attached, retired and turned away.
 abbrev pub told_after : List (Entry ServerNote) → Entry ServerNote → Playing → Playing
 told_after past (Opened handle mask) p = attached handle.0 mask (end_offered past) p
-told_after past (Polled moment) p = (waited (time_left past) p).next
+told_after past (Polled moment) p = (waited (time_left_in past) p).next
 told_after past (Masked handle mask) p = mask_set handle.0 mask p
 told_after past (Refused live fault note) p = turned_away (end_offered past) p
 told_after past (Closed handle note) p = retired handle.0 p
@@ -49,31 +50,18 @@ abbrev pub told : List Group → List (Entry ServerNote) → Playing
 told groups [] = at_start groups
 told groups (e ∷ past) = told_after past e (told groups past)
 
--- the moment of an answer
-abbrev pub IsAnsweredAt : ℕ → Waited → Type 0
-IsAnsweredAt moment (waited_by.Reports now count) = now ≡ moment
-IsAnsweredAt moment (waited_by.Quiet now) = now ≡ moment
-IsAnsweredAt moment (waited_by.Over now) = now ≡ moment
-IsAnsweredAt moment waited_by.Failed = ⊥
-
 -- a report that becomes a `Ready`: its handle is alive and its kind in the mask
-abbrev pub is_taken : {N : Type 0} → List (Entry N) → Report → Bool
-is_taken past report = is_alive past report.handle.0
+abbrev pub is_taken_in : {N : Type 0} → List (Entry N) → Report → Bool
+is_taken_in past report = is_alive past report.handle.0
     && has_kind (mask_of past report.handle.0) report.kind
 
 -- A wait was answered at the moment that the script tells, and these are its reports that are
 -- taken.
 pub record IsTold (groups : List Group) (past : List (Entry ServerNote)) (moment : ℕ)
     (taken : List Report) : Type 0 where
-  pub moment_is : IsAnsweredAt moment (waited (time_left past) (told groups past)).answer
-  pub are_taken : taken ≡ filter (is_taken past)
-      (waited (time_left past) (told groups past)).reports
-
--- the reports behind a wait, as they stand behind it, and one before them
-abbrev pub taken_before : {N : Type 0} → Entry N → List Report → List Report
-taken_before (Ready handle kind) taken = record { handle = handle; kind = kind } ∷ taken
-taken_before (Polled moment) taken = []
-taken_before _ taken = taken
+  pub moment_is : IsAnsweredAt moment (waited (time_left_in past) (told groups past)).answer
+  pub are_taken : taken ≡ filter (is_taken_in past)
+      (waited (time_left_in past) (told groups past)).reports
 
 abbrev pub IsToldEntry : List Group → List (Entry ServerNote) → List Report → Entry ServerNote
     → Type 0
@@ -93,7 +81,8 @@ Follows groups journal = FollowsBefore groups (past_of journal) []
 -- the wait of the last `Polled` as the script answers it, if there was one
 abbrev pub last_wait : List Group → List (Entry ServerNote) → Option Waited
 last_wait groups [] = None
-last_wait groups (Polled moment ∷ past) = Some (waited (time_left past) (told groups past)).answer
+last_wait groups (Polled moment ∷ past) =
+    Some (waited (time_left_in past) (told groups past)).answer
 last_wait groups (e ∷ past) = last_wait groups past
 
 abbrev pub is_over : Option Waited → Bool

@@ -6,7 +6,7 @@ use Rattle.reactor_model.specs.reactor_journal.specs.declared.entry.Entry.{Entry
 use Rattle.reactor_model.specs.reactor_journal.specs.declared.entry.Entry.TheVariants.{Ended}
 use Rattle.reactor_model.specs.reactor_journal.specs.Past.{past_of}
 use Rattle.reactor_core.specs.reactor_summary.specs.Summary.{summary}
-use Rattle.reactor_core.specs.Beginning.{IsOver}
+use Rattle.reactor_core.specs.Beginning.{IsShutDown}
 use Rattle.reactor_core.specs.Removing.{Stops, StopsOnce}
 use Rattle.reactor_core.specs.Stands.{Meaning}
 use Rattle.reactor_core.specs.declared.reactor.Core.{Core}
@@ -43,7 +43,7 @@ pub finishes_shut : {H M Q W V N E : Type 0} (m : Meaning H M Q W V N E) (t : Te
 finishes_shut m t F h new now shut s =
     stops_shut (now ∷ []) h s.entries (omega arith) shut s.removals
 
-pub is_over : {N : Type 0} (h : List (Entry N)) → IsFinished h → IsOver (summary (past_of h))
+pub is_over : {N : Type 0} (h : List (Entry N)) → IsFinished h → IsShutDown (summary (past_of h))
 is_over h f = record { ended = ap (λ s. s.ended) f.sums; none_live = ap (λ s. s.handles) f.sums }
 
 pub ended_can : (halt : Option Halt) (lost : Bool) (h : List (Entry ServerNote))

@@ -10,7 +10,7 @@ use Rattle.reactor_model.specs.reactor_journal.specs.declared.entry.Entry.{Entry
 use Rattle.reactor_model.specs.reactor_journal.specs.declared.entry.Entry.TheVariants.{Ended}
 use Rattle.reactor_model.specs.reactor_journal.specs.Past.{past_of}
 use Rattle.reactor_core.specs.reactor_summary.specs.Summary.{summary}
-use Rattle.reactor_core.specs.Beginning.{IsOver}
+use Rattle.reactor_core.specs.Beginning.{IsShutDown}
 use Rattle.reactor_core.specs.Removing.{Stops}
 use Rattle.reactor_core.specs.Stands.{Meaning, Stands}
 use Rattle.reactor_core.specs.declared.reactor.Core.{Core}
@@ -65,8 +65,8 @@ pub only_ended : {H M Q W V N E : Type 0} (m : Meaning H M Q W V N E) (t : Terms
 only_ended m t F new s = ap (λ entries. ([] ++ Ended ∷ []) ++ entries) s.removals
 
 pub over_at_once : {N : Type 0} (journal : List (Entry N)) → journal ≡ Ended ∷ []
-    → IsOver (summary (past_of journal))
-over_at_once journal is = subst (λ journal. IsOver (summary (past_of journal))) (sym is)
+    → IsShutDown (summary (past_of journal))
+over_at_once journal is = subst (λ journal. IsShutDown (summary (past_of journal))) (sym is)
     (record { ended = refl; none_live = refl })
 
 pub none_or_end : {N : Type 0} (F : ℕ) (entries journal : List (Entry N)) → journal ≡ Ended ∷ []

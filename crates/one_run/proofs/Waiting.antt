@@ -23,7 +23,8 @@ use Rattle.reactor_model.specs.reactor_journal.specs.Past.{past_of}
 use Rattle.reactor_core.specs.reactor_summary.specs.Summary.{summary}
 use Rattle.reactor_model.specs.Volumes.{VolumesFacts}
 use Rattle.reactor_core.specs.reactor_state.specs.State.{after}
-use Rattle.reactor_core.specs.Calls.{is_taken, IsAnsweredAt, least_limit, time_left}
+use Rattle.reactor_core.specs.Calls.{is_taken, least_limit, time_left}
+use Rattle.reactor_model.specs.Entries.{IsAnsweredAt}
 use Rattle.reactor_core.specs.Ends.{live_masks}
 use Rattle.reactor_core.specs.Polling.{AreDue, due_of, ready_of, name_of, WaitsOnce, Polls}
 use Rattle.reactor_core.specs.Stands.{Stands}

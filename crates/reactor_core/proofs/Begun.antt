@@ -17,7 +17,7 @@ use Rattle.reactor_core.specs.Ends.{WhereTold}
 use Rattle.reactor_core.specs.Calls.{AreCalls}
 use Rattle.reactor_model.specs.Volumes.{IsNext}
 use Rattle.reactor_core.specs.Stands.{Meaning, NetStands, HasTaken, Stands}
-use Rattle.reactor_core.specs.Beginning.{IsOver}
+use Rattle.reactor_core.specs.Beginning.{IsShutDown}
 use Rattle.reactor_core.specs.declared.reactor.Core.{Core}
 use Rattle.reactor_core.proofs.Seats.{no_seats}
 use Rattle.reactor_core.proofs.Moves.{absent}
@@ -92,7 +92,7 @@ begun {H = H} {N = N} m t core d most fresh steady keeps watch taken next = reco
 
 pub over_no_seat : {H M Q W V N E : Type 0} (m : Meaning H M Q W V N E) (t : Terms)
     (core : Core H M Q W V N E) (F : ℕ) (h : List (Entry N)) → Stands m t core F h
-    → IsOver (summary (past_of h)) → core.repo.entries ≡ []
+    → IsShutDown (summary (past_of h)) → core.repo.entries ≡ []
 over_no_seat m t core F h st o = no_seats core.repo.entries
     (λ x. (absent m.means t false (past_of h) x (R.seat_of x core.repo.entries)
     (ap (list_any (λ (a : LiveHandle). a.handle.0 == x)) o.none_live) (st.tracks.repository x)).1)

@@ -38,8 +38,9 @@ use Rattle.reactor_summary.specs.Summary.{Summary, summary, step, with_mask, wit
 use Rattle.reactor_summary.specs.Summary.{with_end, of_handle}
 use Rattle.reactor_model.specs.Handling.{Handling, Names}
 use Rattle.reactor_core.specs.Ends.{WhereTold, ThereIs, number_of, mask_entry, live_numbers}
-use Rattle.reactor_core.specs.Ends.{live_masks, AreRetired, AreTurnedAway, is_fault}
-use Rattle.reactor_core.specs.Calls.{AreCalls, IsAnsweredAt, IsAskedFor, is_taken}
+use Rattle.reactor_core.specs.Ends.{live_masks, AreRetired, AreTurnedAway}
+use Rattle.reactor_model.specs.Entries.{is_fault, IsAnsweredAt}
+use Rattle.reactor_core.specs.Calls.{AreCalls, IsAskedFor, is_taken}
 use Rattle.reactor_core.specs.Stands.{NetStands}
 use Rattle.reactor_model.specs.reactor_journal.proofs.Steps.{same_tests}
 use Rattle.reactor_core.proofs.Seats.{mask_number, suspended_number, end_number}

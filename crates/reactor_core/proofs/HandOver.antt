@@ -22,7 +22,7 @@ use Rattle.reactor_core.specs.Ends.{WhereTold}
 use Rattle.reactor_core.specs.Stands.{Meaning, JournalStands, NetStands, HasTaken, VolumesStand}
 use Rattle.reactor_core.specs.Stands.{Stands, places_for}
 use Rattle.reactor_core.specs.HandingOver.{is_due, KeepsOthers, HandsDue, HandsOver, HandsNothing}
-use Rattle.reactor_core.specs.HandingOver.{IsCause, refusal_of}
+use Rattle.reactor_core.specs.HandingOver.{IsHandOverCause, hand_over_refusal}
 use Rattle.reactor_core.specs.declared.reactor.Core.{Core}
 use Rattle.reactor_core.proofs.WaitNumbers.{marks_kept}
 
@@ -185,6 +185,6 @@ module _ {H M Q W V N E : Type 0} (m : Meaning H M Q W V N E) (t : Terms)
 -- what the volumes answer where they refuse
 pub take_refused : {N : Type 0} (old : VolumesFacts N) (volume back : Held (Entry N))
     (why : TakeRefused) (new : VolumesFacts N) → TakesVolume old volume (Err (back, why)) new
-    → GivesBack old volume back new × IsCause (refusal_of why) old.faults new.faults
+    → GivesBack old volume back new × IsHandOverCause (hand_over_refusal why) old.faults new.faults
 take_refused old volume back Failed new r = r
 take_refused old volume back NoMemory new r = r

@@ -26,7 +26,8 @@ use Rattle.handler_repo.specs.Seats as R
 use Rattle.handler_repo.specs.declared.seat.Seat.TheVariants.{Home}
 use Rattle.reactor_state.specs.State.{HasNumber}
 use Rattle.reactor_core.specs.Handlers.{is_live, RepositoryStands}
-use Rattle.reactor_core.specs.Ends.{live_numbers, is_fault}
+use Rattle.reactor_core.specs.Ends.{live_numbers}
+use Rattle.reactor_model.specs.Entries.{is_fault}
 use Rattle.reactor_core.specs.Stands.{Meaning, Tracks, NetStands, VolumesStand, IsSettled}
 use Rattle.reactor_core.specs.Registering.{HasPlaceFor, IsOffered}
 use Rattle.reactor_core.specs.Offering.{ComesBack}

@@ -19,7 +19,8 @@ use Rattle.reactor_summary.specs.Summary.{Summary, summary, step, some_wait}
 use Rattle.reactor_state.specs.State.{HasNumber, owed}
 use Rattle.reactor_state.specs.declared.places.Places.{Places}
 use Rattle.reactor_core.specs.Handlers.{RepositoryStands}
-use Rattle.reactor_core.specs.Calls.{is_taken, IsAnsweredAt}
+use Rattle.reactor_core.specs.Calls.{is_taken}
+use Rattle.reactor_model.specs.Entries.{IsAnsweredAt}
 use Rattle.reactor_core.specs.Stands.{Meaning, Tracks, NetStands, HasRoom, Stands, StandsAsBefore}
 use Rattle.reactor_core.specs.Stands.{places_for}
 use Rattle.reactor_core.specs.Taking.{moment_of, count_of, event_places, MayWait, WaitGives}

@@ -15,7 +15,7 @@ use Rattle.reactor_model.specs.reactor_journal.proofs.Turning.{past_of-more}
 use Rattle.reactor_summary.specs.declared.parts.ArmedTimer.{ArmedTimer}
 use Rattle.reactor_summary.specs.Summary.{Summary, summary}
 use Rattle.reactor_state.specs.Tables as Q
-use Rattle.reactor_core.specs.Calls.{first_deadline, time_left, least_limit, is_taken, IsAskedFor}
+use Rattle.reactor_core.specs.Calls.{time_left, least_limit, is_taken, IsAskedFor}
 use Rattle.reactor_core.specs.Stands.{Meaning, HasRoom, Stands, Keeps}
 use Rattle.reactor_core.specs.Polling.{FitsLimit, name_of, AreDue, due_of, ready_of, WaitsOnce}
 use Rattle.reactor_core.specs.Polling.{Polls}
@@ -28,10 +28,6 @@ use Rattle.reactor_core.proofs.PollWait.{IsAnswered, answered}
 
 -- ---- the limit of the wait
 
-deadline_same : (armed : List ArmedTimer) → Q.first_deadline armed ≡ first_deadline armed
-deadline_same [] = refl
-deadline_same (a ∷ rest) = refl
-
 asked_by : (limit : Option (Option ℕ)) (most asked : Option ℕ) (s : Summary)
     → ((l : Option ℕ) → limit ≡ Some l → most ≡ l) → asked ≡ least_limit most (time_left s)
     → IsAskedFor limit s asked
@@ -40,10 +36,9 @@ asked_by (Some l) most asked s f q = q ∙ ap (λ k. least_limit k (time_left s)
 
 -- the limit that the body computes
 pub limit_is : (s : Summary) (most left : Option ℕ)
-    → left ≡ option_map (λ (d : ℕ). d - s.moment) (Q.first_deadline s.armed)
+    → left ≡ option_map (λ (d : ℕ). d - s.moment) (Q.first_armed_deadline s.armed)
     → least_limit most left ≡ least_limit most (time_left s)
-limit_is s most left l = ap (λ k. least_limit most k)
-    (l ∙ ap (option_map (λ (d : ℕ). d - s.moment)) (deadline_same s.armed))
+limit_is s most left l = ap (λ k. least_limit most k) l
 
 -- the wait may be made
 pub may_wait : {H M Q W V N E : Type 0} (m : Meaning H M Q W V N E) (t : Terms)

@@ -21,13 +21,13 @@ use Rattle.reactor_summary.proofs.Told.{told}
 use Rattle.reactor_model.specs.Handling.{Names}
 use Rattle.reactor_state.specs.State.{HasNumber, no_places}
 use Rattle.reactor_state.specs.declared.places.Places.{Places}
-use Rattle.reactor_core.specs.Ends.{is_fault}
+use Rattle.reactor_model.specs.Entries.{is_fault}
 use Rattle.reactor_core.specs.Handlers.{RepositoryStands}
 use Rattle.reactor_core.specs.Stands.{Meaning, HasRoom, IsSettled, Stands, StandsWithRoom}
 use Rattle.reactor_core.specs.Stands.{places_for}
 use Rattle.reactor_core.specs.Registering.{HasPlaceFor, IsFull, IsOffered, registered}
 use Rattle.reactor_core.specs.Settling.{act_places}
-use Rattle.reactor_core.specs.Acting.{MayRefuse, IsCause, CountsFaults, Installs}
+use Rattle.reactor_core.specs.Acting.{MayRefuseHandler, IsRefusalCause, CountsFaults, Installs}
 use Rattle.reactor_core.specs.declared.reactor.Core.{Core}
 use Rattle.reactor_core.proofs.Ends.{net_refused}
 use Rattle.reactor_core.proofs.Opened.{count_le}
@@ -55,14 +55,14 @@ pub record Refuses {H M Q W V N E : Type 0} (m : Meaning H M Q W V N E)
 
 module _ {H M Q W V N E : Type 0} (m : Meaning H M Q W V N E) (weak : Weakens m) (t : Terms)
     (old new : Core H M Q W V N E) (F : ℕ) (h : List (Entry N)) where
-  enough : (live : ℕ) (fault : Bool) (note : N) → MayRefuse m t.most old (past_of h) fault
+  enough : (live : ℕ) (fault : Bool) (note : N) → MayRefuseHandler m t.most old (past_of h) fault
       → count is_fault (past_of h) ≤ (m.facts old.net).failed_attaches
       → count is_fault (Refused live fault note ∷ past_of h) ≤ (m.facts old.net).failed_attaches
   enough live true note may le = may
   enough live false note may le = le
 
   refused_fits : (live : ℕ) (fault : Bool) (note : N) → live ≡ R.live (summary (past_of h))
-      → MayRefuse m t.most old (past_of h) fault
+      → MayRefuseHandler m t.most old (past_of h) fault
       → R.fits {N = N} t.most (follows_due (past_of h)) (follows_ready (past_of h))
       (summary (past_of h)) (Refused live fault note) ≡ true
   refused_fits live fault note q may =
@@ -72,7 +72,7 @@ module _ {H M Q W V N E : Type 0} (m : Meaning H M Q W V N E) (weak : Weakens m)
       s : Summary
       s = summary (past_of h)
 
-      by_fault : (fault : Bool) → MayRefuse m t.most old (past_of h) fault
+      by_fault : (fault : Bool) → MayRefuseHandler m t.most old (past_of h) fault
           → (R.live s == t.most || (s.opened == most_handles || (fault || s.ended))) ≡ true
       by_fault true may = or_right (R.live s == t.most) _
           (or_right (s.opened == most_handles) (true || s.ended) refl)
@@ -91,7 +91,7 @@ module _ {H M Q W V N E : Type 0} (m : Meaning H M Q W V N E) (weak : Weakens m)
   -- the core goes on
   pub refused : (handler : _) (live : ℕ) (fault : Bool) (note : N) (serial : Option ℕ) (end : E)
       → Refuses m old new handler live fault note serial end → live ≡ R.live (summary (past_of h))
-      → IsOffered m.means t (past_of h) handler → MayRefuse m t.most old (past_of h) fault
+      → IsOffered m.means t (past_of h) handler → MayRefuseHandler m t.most old (past_of h) fault
       → StandsWithRoom m 4 act_places t old F h
       → Stands m t new F (h ++ Refused (R.live (summary (past_of h))) fault note ∷ [])
   refused handler live fault note serial end d q offered may st =
@@ -151,7 +151,7 @@ module _ {H M Q W V N E : Type 0} (m : Meaning H M Q W V N E) (t : Terms)
   -- where the net's count rose, a handler may be refused for a fault
   pub may_after : (mid : Core H M Q W V N E)
       → Rose (m.facts old.net).failed_attaches (m.facts mid.net).failed_attaches
-      → StandsWithRoom m 4 act_places t old F h → MayRefuse m t.most mid (past_of h) true
+      → StandsWithRoom m 4 act_places t old F h → MayRefuseHandler m t.most mid (past_of h) true
   may_after mid rose st =
       let entries : (summary (past_of h)).entries ≡ length (past_of h) =
       (told t.most (past_of h) st.tracks.legal).entries in
@@ -161,7 +161,7 @@ module _ {H M Q W V N E : Type 0} (m : Meaning H M Q W V N E) (t : Terms)
       (omega (arith, st.room.numbers, entries, few)) rose
 
   pub installs_refused : (mask : Mask) (timer : Option (ℕ × ℕ)) (fault : Bool) (note : N)
-      → IsCause t.most (summary (past_of h)) (m.facts old.net).failed_attaches
+      → IsRefusalCause t.most (summary (past_of h)) (m.facts old.net).failed_attaches
       (m.facts new.net).failed_attaches fault
       → CountsFaults {N = N} (Refused (R.live (summary (past_of h))) fault note ∷ [])
       (m.facts old.net).failed_attaches (m.facts new.net).failed_attaches

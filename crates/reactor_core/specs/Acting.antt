@@ -21,7 +21,7 @@ use Rattle.reactor_model.specs.declared.handler.Act.{Act}
 use Rattle.reactor_model.specs.declared.handler.Act.TheVariants.{Install, MaskMine, CancelMine}
 use Rattle.reactor_model.specs.declared.handler.Act.TheVariants.{Stop}
 use Rattle.std.specs.List.{list_any}
-use Rattle.reactor_core.specs.Ends.{is_fault}
+use Rattle.reactor_model.specs.Entries.{is_fault}
 use Rattle.reactor_core.specs.Stands.{Meaning, Stands}
 use Rattle.reactor_core.specs.Registering.{HasPlaceFor, IsFull, IsOffered, registered}
 use Rattle.reactor_core.specs.Removing.{AreRemovals, alive_handles}
@@ -53,9 +53,9 @@ is_mine s x timer =
 
 -- The refusal of an offered handler: for a fault exactly where there was a place for it and the
 -- net's count of failed attaches rose, and else because the reactor was stopped or is full.
-abbrev pub IsCause : ℕ → Summary → ℕ → ℕ → Bool → Type 0
-IsCause most s before after true = HasPlaceFor most s × Rose before after
-IsCause most s before after false = (s.ended ≡ true) ⊎ IsFull most s
+abbrev pub IsRefusalCause : ℕ → Summary → ℕ → ℕ → Bool → Type 0
+IsRefusalCause most s before after true = HasPlaceFor most s × Rose before after
+IsRefusalCause most s before after false = (s.ended ≡ true) ⊎ IsFull most s
 
 -- whether an offered handler may be registered, for all that the reactor knows
 abbrev pub CanInstall : ℕ → Summary → Bool → Type 0
@@ -66,7 +66,7 @@ pub record IsRefusal {N : Type 0} (most : ℕ) (s : Summary) (before after : ℕ
     (entries : List (Entry N)) : Type 0 where
   pub fault : Bool
   pub note : N
-  pub cause : IsCause most s before after fault
+  pub cause : IsRefusalCause most s before after fault
   pub is : entries ≡ Refused (live s) fault note ∷ []
 
 pub record IsRegistration {N : Type 0} (most : ℕ) (s : Summary) (mask : Mask)
@@ -137,10 +137,11 @@ pub record Installs {H M Q W V N E : Type 0} (m : Meaning H M Q W V N E) (t : Te
 
 -- a handler may be refused: the reactor was stopped or is full, or the net's count of faults has
 -- room for one more
-abbrev pub MayRefuse : {H M Q W V N E : Type 0} → Meaning H M Q W V N E → ℕ → Core H M Q W V N E
+abbrev pub MayRefuseHandler : {H M Q W V N E : Type 0} → Meaning H M Q W V N E → ℕ
+    → Core H M Q W V N E
     → List (Entry N) → Bool → Type 0
-MayRefuse m most core past true = count is_fault past < (m.facts core.net).failed_attaches
-MayRefuse m most core past false = ((summary past).ended ≡ true) ⊎ IsFull most (summary past)
+MayRefuseHandler m most core past true = count is_fault past < (m.facts core.net).failed_attaches
+MayRefuseHandler m most core past false = ((summary past).ended ≡ true) ⊎ IsFull most (summary past)
 
 -- What `settle` leaves: the `Returned` of the upcall; the `Closed` of its handler where its handle
 -- is not alive any more; and what its act appends. The answer has the length of the history, how

@@ -26,7 +26,7 @@ pub record CanBegin {N E : Type 0} (net : NetFacts E) (net_keeps : Type 0) (time
       volumes.taken
 
 -- it was stopped, and every handler was closed
-pub record IsOver (s : Summary) : Type 0 where
+pub record IsShutDown (s : Summary) : Type 0 where
   pub ended : s.ended ≡ true
   pub none_live : s.handles ≡ []
 

@@ -7,26 +7,21 @@ use Rattle.ev_base.specs.Terms.{Terms}
 use Rattle.ev_base.specs.Net.{Call, Waits, Attaches, SetsMask, Retires, TurnsAway}
 use Rattle.ev_base.specs.declared.net.Report.{Report}
 use Rattle.ev_base.specs.declared.net.Waited.{Waited}
-use Rattle.ev_base.specs.declared.net.Waited.TheVariants as waited
 use Rattle.reactor_model.specs.reactor_journal.specs.declared.entry.Entry.{Entry}
 use Rattle.reactor_model.specs.reactor_journal.specs.declared.entry.Entry.TheVariants.{Opened}
 use Rattle.reactor_model.specs.reactor_journal.specs.declared.entry.Entry.TheVariants.{Polled}
-use Rattle.reactor_model.specs.reactor_journal.specs.declared.entry.Entry.TheVariants.{Ready}
 use Rattle.reactor_model.specs.reactor_journal.specs.declared.entry.Entry.TheVariants.{Masked}
 use Rattle.reactor_model.specs.reactor_journal.specs.declared.entry.Entry.TheVariants.{Refused}
 use Rattle.reactor_model.specs.reactor_journal.specs.declared.entry.Entry.TheVariants.{Closed}
 use Rattle.reactor_model.specs.reactor_journal.specs.Past.{offered_here}
+use Rattle.reactor_model.specs.Entries.{IsAnsweredAt, taken_before}
 use Rattle.reactor_summary.specs.Summary.{Summary, summary, is_wanted}
-use Rattle.reactor_summary.specs.declared.parts.ArmedTimer.{ArmedTimer}
+use Rattle.reactor_state.specs.Tables.{first_armed_deadline}
 use Rattle.reactor_model.specs.Handling.{Handling, Names}
 
--- the milliseconds from the moment to the first deadline, 0 where it is reached
-abbrev pub first_deadline : List ArmedTimer → Option ℕ
-first_deadline [] = None
-first_deadline (a ∷ rest) = Some a.deadline
-
+-- the milliseconds from the moment to the first deadline, 0 if it is reached
 abbrev pub time_left : Summary → Option ℕ
-time_left s = option_map (λ deadline. deadline - s.moment) (first_deadline s.armed)
+time_left s = option_map (λ deadline. deadline - s.moment) (first_armed_deadline s.armed)
 
 -- the lesser of two limits, where none is no limit
 abbrev pub least_limit : Option ℕ → Option ℕ → Option ℕ
@@ -37,13 +32,6 @@ least_limit (Some a) (Some b) = Some (min a b)
 -- a report that becomes a `Ready`: its handle is alive and its kind in the mask
 abbrev pub is_taken : Summary → Report → Bool
 is_taken s report = is_wanted s report.handle.0 report.kind
-
--- a wait was answered at the moment
-abbrev pub IsAnsweredAt : ℕ → Waited → Type 0
-IsAnsweredAt moment (waited.Reports now count) = now ≡ moment
-IsAnsweredAt moment (waited.Quiet now) = now ≡ moment
-IsAnsweredAt moment (waited.Over now) = now ≡ moment
-IsAnsweredAt moment waited.Failed = ⊥
 
 -- where the terms have the limit of waits, the wait was asked for the lesser of it and the time to
 -- the first deadline
@@ -87,12 +75,6 @@ IsCallOf means t past taken (Closed handle note) (Retires x) = x ≡ handle.0
 IsCallOf means t past taken (Refused live fault note) (TurnsAway serial) =
     Names (means.serial t (offered_here past)) serial
 IsCallOf means t past taken _ _ = ⊥
-
--- the reports that were taken behind a wait, as they stand behind it, and one before them
-abbrev pub taken_before : {N : Type 0} → Entry N → List Report → List Report
-taken_before (Ready handle kind) taken = record { handle = handle; kind = kind } ∷ taken
-taken_before (Polled moment) taken = []
-taken_before _ taken = taken
 
 abbrev pub CallsBy : {H E N : Type 0} → Handling H E N → Terms → Bool → Entry N → List (Entry N)
     → List Report → List Call → (List Call → Type 0) → Type 0

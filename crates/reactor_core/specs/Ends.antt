@@ -73,8 +73,3 @@ abbrev pub AreTurnedAway : {H E N : Type 0} → Handling H E N → Terms → Lis
 AreTurnedAway means t [] ends = ends ≡ []
 AreTurnedAway means t (e ∷ past) ends =
     TurnedAwayBy means t (refusing e) past ends (λ rest. AreTurnedAway means t past rest)
-
--- whether the entry is a `Refused` for a fault of the net
-abbrev pub is_fault : {N : Type 0} → Entry N → Bool
-is_fault (Refused live fault note) = fault
-is_fault _ = false

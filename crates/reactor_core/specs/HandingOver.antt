@@ -50,16 +50,16 @@ pub record HandsNothing {H M Q W V N E : Type 0} (m : Meaning H M Q W V N E)
   pub next : (m.volumes new.volumes).next ≡ (m.volumes old.volumes).next
 
 -- the volumes' count of faults rose where they failed, and else stands
-abbrev pub IsCause : HandOverRefused → ℕ → ℕ → Type 0
-IsCause Failed before now = Rose before now
-IsCause NoMemory before now = now ≡ before
+abbrev pub IsHandOverCause : HandOverRefused → ℕ → ℕ → Type 0
+IsHandOverCause Failed before now = Rose before now
+IsHandOverCause NoMemory before now = now ≡ before
 
 abbrev pub HasCause : {H M Q W V N E : Type 0} → Meaning H M Q W V N E → HandOverRefused
     → Core H M Q W V N E → Core H M Q W V N E → Type 0
-HasCause m refused old new = IsCause refused (m.volumes old.volumes).faults
+HasCause m refused old new = IsHandOverCause refused (m.volumes old.volumes).faults
     (m.volumes new.volumes).faults
 
 -- the refusal, by what the volumes answered
-abbrev pub refusal_of : TakeRefused → HandOverRefused
-refusal_of take.Failed = Failed
-refusal_of take.NoMemory = NoMemory
+abbrev pub hand_over_refusal : TakeRefused → HandOverRefused
+hand_over_refusal take.Failed = Failed
+hand_over_refusal take.NoMemory = NoMemory

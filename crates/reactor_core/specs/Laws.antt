@@ -6,7 +6,7 @@ use Rattle.reactor_model.specs.reactor_journal.specs.Past.{past_of, is_open}
 use Rattle.reactor_model.specs.reactor_journal.specs.Follow.{Legal}
 use Rattle.reactor_model.specs.Handling.{Handling}
 use Rattle.reactor_summary.specs.Summary.{Summary}
-use Rattle.reactor_core.specs.Beginning.{IsOver}
+use Rattle.reactor_core.specs.Beginning.{IsShutDown}
 use Rattle.reactor_core.specs.Stands.{IsSettled}
 use Rattle.reactor_core.specs.Upcalls.{DoneFits}
 use Rattle.reactor_core.specs.declared.job.Done.{Done}
@@ -22,4 +22,4 @@ IsSettledLater {H} {E} {N} means =
 
 -- a reactor that was stopped is over once no upcall is on its way
 abbrev pub IsOverOnceStopped : Type 0
-IsOverOnceStopped = (s : Summary) → IsSettled s → s.ended ≡ true → s.opens ≡ [] → IsOver s
+IsOverOnceStopped = (s : Summary) → IsSettled s → s.ended ≡ true → s.opens ≡ [] → IsShutDown s

@@ -12,7 +12,8 @@ use Rattle.reactor_model.specs.reactor_journal.specs.declared.entry.Entry.TheVar
 use Rattle.reactor_model.specs.reactor_journal.specs.Past.{past_of}
 use Rattle.reactor_summary.specs.Summary.{Summary, summary, is_overdue, is_first_due}
 use Rattle.reactor_state.specs.State.{after}
-use Rattle.reactor_core.specs.Calls.{time_left, least_limit, is_taken, IsAnsweredAt}
+use Rattle.reactor_core.specs.Calls.{time_left, least_limit, is_taken}
+use Rattle.reactor_model.specs.Entries.{IsAnsweredAt}
 use Rattle.reactor_core.specs.Stands.{Meaning, Stands}
 use Rattle.reactor_core.specs.declared.reactor.Core.{Core}
 use Rattle.reactor_core.specs.declared.polling.Polled.{Polled}

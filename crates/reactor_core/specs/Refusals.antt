@@ -111,3 +111,10 @@ LeavesOffer m handler old (Err (back, register.Full live_now opened_now)) new =
 LeavesOffer m handler old (Err (back, register.NoMemory)) new = (back ≡ handler) × Keeps m old new
 LeavesOffer m handler old (Err (back, register.NetFailed)) new =
     FitsStill m old.net handler back × FailsOnce m FailsToAttach old new
+
+-- a reactor that has no handler and was not stopped refuses one for these reasons alone
+abbrev pub MayRefuseFirst : RegisterRefused → Type 0
+MayRefuseFirst register.NetFailed = Unit {0}
+MayRefuseFirst register.NoMemory = Unit {0}
+MayRefuseFirst register.Stopped = ⊥
+MayRefuseFirst (register.Full live opened) = ⊥

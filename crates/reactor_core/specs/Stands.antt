@@ -18,7 +18,8 @@ use Rattle.reactor_state.specs.declared.places.Pick.{Pick}
 use Rattle.reactor_state.specs.declared.state.ReactorState.{ReactorState}
 use Rattle.reactor_core.specs.Handlers.{RepositoryStands}
 use Rattle.reactor_core.specs.Ends.{WhereTold, ThereIs, live_numbers, live_masks, AreRetired}
-use Rattle.reactor_core.specs.Ends.{AreTurnedAway, is_fault}
+use Rattle.reactor_core.specs.Ends.{AreTurnedAway}
+use Rattle.reactor_model.specs.Entries.{is_fault}
 use Rattle.reactor_core.specs.Calls.{AreCalls}
 use Rattle.reactor_core.specs.Marks.{MarksStand, told_answers}
 use Rattle.reactor_core.specs.declared.reactor.Core.{Core}

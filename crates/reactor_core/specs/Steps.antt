@@ -14,7 +14,7 @@ use Rattle.reactor_core.specs.Stands.{upcall_entries, upcall_places}
 use Rattle.reactor_core.specs.Closing.{IsClosable}
 use Rattle.reactor_core.specs.Settling.{IsReturned, act_places}
 use Rattle.reactor_core.specs.Registering.{HasPlaceFor, IsOffered}
-use Rattle.reactor_core.specs.Acting.{MayRefuse}
+use Rattle.reactor_core.specs.Acting.{MayRefuseHandler}
 use Rattle.reactor_core.specs.declared.reactor.Core.{Core}
 
 -- the handler in hand may be closed: its handle waits for that
@@ -54,7 +54,7 @@ pub record MayTurnAway {H M Q W V N E : Type 0} (m : Meaning H M Q W V N E) (han
   where
     pub stands : StandsWithRoom m 4 act_places t core F h
     pub offered : IsOffered m.means t (past_of h) handler
-    pub may : MayRefuse m t.most core (past_of h) fault
+    pub may : MayRefuseHandler m t.most core (past_of h) fault
 
 -- the upcall of an event may be started: it is the pick, and there is room for what its settling
 -- may append

@@ -9,7 +9,7 @@ ghost use Rattle.reactor_core.specs.Views.{volume_of, net_of, watch_of, volumes_
 ghost use Rattle.reactor_core.specs.Stands.{From, Stands, StandsWith};
 ghost use Rattle.reactor_core.specs.Ends.{WhereTold};
 ghost use Rattle.reactor_core.specs.Marks.{IsOverAt, answers};
-ghost use Rattle.reactor_core.specs.Beginning.{CanBegin, IsOver, PartsStand};
+ghost use Rattle.reactor_core.specs.Beginning.{CanBegin, IsShutDown, PartsStand};
 
 use crate::marks::WaitMarks;
 use crate::means::Means;
@@ -175,7 +175,7 @@ impl<
     /// Takes apart a reactor that was stopped and whose handlers were all closed. The net, the
     /// watch and the volumes are its own, so their counts of faults are those of its last call.
     pub fn into_parts(self) -> Parts<H::Note, M, Q, W, V>
-        requires stands { StandsWith ⟦<Self as Means>⟧.m (λ t h. IsOver (summary (past_of h)))
+        requires stands { StandsWith ⟦<Self as Means>⟧.m (λ t h. IsShutDown (summary (past_of h)))
             self }
         ensures stands { From ⟦<Self as Means>⟧.m self
             (λ t F h. PartsStand ⟦<Self as Means>⟧.m Q.timers t F h result) }

@@ -2,7 +2,7 @@
 ghost use Rattle.std.specs.Prelude.{◌≡◌, ◌≤◌, true, IfOk, IfErr, OnErr};
 ghost use Rattle.reactor_core.specs.Stands.{From, IsStanding, StandsAsBefore};
 ghost use Rattle.reactor_core.specs.HandingOver.{is_due, HandsOver, HandsNothing, HasCause};
-ghost use Rattle.reactor_core.specs.HandingOver.{refusal_of};
+ghost use Rattle.reactor_core.specs.HandingOver.{hand_over_refusal};
 
 use crate::Core;
 use crate::means::Means;
@@ -74,7 +74,7 @@ impl<
                 mem::replace(&mut self.journal, back)
                     .into_vec()
                     .destroy_empty();
-                Err(refusal_of(why))
+                Err(hand_over_refusal(why))
             }
         }
     }
@@ -98,8 +98,8 @@ fn room_ahead(owed: usize, volume: u64) -> usize
 }
 
 // The refusal, by what the volumes answered.
-fn refusal_of(why: TakeRefused) -> HandOverRefused
-    ensures { result ≡ refusal_of why }
+fn hand_over_refusal(why: TakeRefused) -> HandOverRefused
+    ensures { result ≡ hand_over_refusal why }
 {
     match why {
         TakeRefused::Failed => HandOverRefused::Failed,

@@ -29,7 +29,7 @@ use Rattle.reactor_core.specs.declared.polling.PollRefused.{PollRefused}
 use Rattle.reactor_core.specs.declared.polling.PollRefused.TheVariants as refusal
 use Rattle.reactor_desk.specs.Desks.{DeskStands, FillsVolume, drainer_of, is_started}
 use Rattle.reactor_desk.specs.Draining.{HasLooked, FoundEmpty, Drains}
-use Rattle.reactor_desk.specs.Leading.{Waits, IsOver, IsNotOver, StandsForStart, GivesBehind}
+use Rattle.reactor_desk.specs.Leading.{WaitsOnNet, IsOver, IsNotOver, StandsForStart, GivesBehind}
 use Rattle.reactor_desk.specs.Leading.{DispatchGives, LeadsOn, MayLead, HasDrained, LeadGives}
 use Rattle.reactor_desk.specs.Leading.{LeadTells}
 use Rattle.reactor_desk.specs.declared.terms.DeskTerms.{DeskTerms}
@@ -116,7 +116,7 @@ module _ {H M Q W V N E : Type 0} (m : Meaning H M Q W V N E) (q : DeskTerms) (F
   pub record Brought (most : Option ℕ) (before : NetFacts E) (old : Desk H M Q W V N E)
       (core : Core H M Q W V N E) (wait : Polled) : Type 0 where
     pub entries : List (Entry N)
-    pub waits : Waits most h before wait entries (m.facts core.net)
+    pub waits : WaitsOnNet most h before wait entries (m.facts core.net)
     pub stands : StandsForStart m q F (record { core = core; drainer = old.drainer }) (h ++ entries)
     pub none : HasNoPick (past_of h)
 

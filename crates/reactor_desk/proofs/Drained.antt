@@ -19,7 +19,8 @@ use Rattle.reactor_core.specs.Marks.{is_polled}
 use Rattle.reactor_core.specs.Postings.{posting}
 use Rattle.reactor_core.specs.Stands.{Meaning, Stands}
 use Rattle.reactor_core.specs.declared.reactor.Core.{Core}
-use Rattle.reactor_desk.specs.Notices.{is_notice, Records, AreRecorded}
+use Rattle.reactor_desk.specs.Notices.{Records, AreRecorded}
+use Rattle.reactor_model.specs.Entries.{is_notice}
 use Rattle.reactor_desk.specs.Desks.{DeskStands, is_started}
 use Rattle.reactor_desk.specs.Draining.{DrainsOne}
 use Rattle.reactor_desk.specs.declared.terms.DeskTerms.{DeskTerms}

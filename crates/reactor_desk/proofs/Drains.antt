@@ -10,7 +10,7 @@ use Rattle.reactor_model.specs.reactor_journal.specs.declared.entry.Entry.{Entry
 use Rattle.notify_ring.specs.Words.{drainer_view}
 use Rattle.reactor_core.specs.Marks.{is_polled}
 use Rattle.reactor_core.specs.Stands.{Meaning}
-use Rattle.reactor_desk.specs.Notices.{is_notice}
+use Rattle.reactor_model.specs.Entries.{is_notice}
 use Rattle.reactor_desk.specs.Desks.{DeskStands, is_started}
 use Rattle.reactor_core.proofs.Frames.{rest_begins, rest_goes_on}
 use Rattle.reactor_desk.specs.Draining.{Drains, DrainsOne, DrainsSome, HasLooked, LeavesDrained}

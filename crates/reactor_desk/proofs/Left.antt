@@ -14,7 +14,7 @@ use Rattle.reactor_core.specs.Views.{job_event}
 use Rattle.reactor_desk.specs.Desks.{DeskStands}
 use Rattle.reactor_desk.specs.Laws.{HistoryLeft}
 use Rattle.reactor_desk.specs.Leading.{DispatchGives, LeadGives, history_on, history_left, event_of}
-use Rattle.reactor_desk.specs.Notices.{is_notice}
+use Rattle.reactor_model.specs.Entries.{is_notice}
 use Rattle.reactor_desk.specs.declared.terms.DeskTerms.{DeskTerms}
 use Rattle.reactor_desk.specs.declared.desk.Desk.{Desk}
 use Rattle.reactor_desk.specs.declared.leading.Led.{Led}

@@ -31,7 +31,7 @@ use Rattle.reactor_core.specs.laws_turns.specs.Opens.{opens_after, open_events, 
 use Rattle.reactor_core.specs.Calls.{is_taken}
 use Rattle.reactor_core.specs.Polling.{due_of, ready_of}
 use Rattle.reactor_core.specs.declared.polling.Polled.{Polled as PolledName}
-use Rattle.reactor_desk.specs.Notices.{is_notice}
+use Rattle.reactor_model.specs.Entries.{is_notice}
 use Rattle.reactor_desk.specs.Leading.{MayHaveWaited, WaitedFor}
 
 pub opens_more : {N : Type 0} (h : List (Entry N)) (e : Entry N)

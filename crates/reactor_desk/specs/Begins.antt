@@ -5,7 +5,7 @@ use Rattle.notify_ring.specs.Passes.{new_drainer}
 use Rattle.notify_ring.specs.Words.{drainer_ring, drainer_view}
 use Rattle.notify_ring.specs.declared.parts.Drainer.{Drainer}
 use Rattle.reactor_model.specs.reactor_journal.specs.declared.entry.Entry.{Entry}
-use Rattle.reactor_desk.specs.Notices.{is_notice}
+use Rattle.reactor_model.specs.Entries.{is_notice}
 use Rattle.reactor_desk.specs.declared.terms.DeskTerms.{DeskTerms}
 
 -- The drainer of a ring has taken nothing, the history of the reactor has no notification, and

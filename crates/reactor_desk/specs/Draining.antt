@@ -12,7 +12,7 @@ use Rattle.reactor_core.specs.Marks.{is_polled}
 use Rattle.reactor_core.specs.Rest.{LeavesRest}
 use Rattle.reactor_core.specs.Stands.{Meaning}
 use Rattle.reactor_core.specs.Views.{net_of}
-use Rattle.reactor_desk.specs.Notices.{is_notice}
+use Rattle.reactor_model.specs.Entries.{is_notice}
 use Rattle.reactor_desk.specs.Desks.{DeskStands, core_of, drainer_of, looks_of, is_started}
 use Rattle.reactor_desk.specs.declared.terms.DeskTerms.{DeskTerms}
 use Rattle.reactor_desk.specs.declared.desk.Desk.{Desk}

@@ -11,7 +11,8 @@ use Rattle.reactor_model.specs.reactor_journal.specs.declared.entry.Entry.TheVar
 use Rattle.reactor_model.specs.reactor_journal.specs.Past.{past_of, is_pick, count}
 use Rattle.reactor_core.specs.reactor_summary.specs.Summary.{summary}
 use Rattle.reactor_core.specs.reactor_state.specs.State.{after}
-use Rattle.reactor_core.specs.Calls.{time_left, least_limit, is_taken, IsAnsweredAt}
+use Rattle.reactor_core.specs.Calls.{time_left, least_limit, is_taken}
+use Rattle.reactor_model.specs.Entries.{IsAnsweredAt, is_notice}
 use Rattle.reactor_core.specs.HandingOver.{is_due}
 use Rattle.reactor_core.specs.Marks.{is_polled}
 use Rattle.reactor_core.specs.Polling.{name_of, AreDue, due_of, ready_of}
@@ -21,7 +22,6 @@ use Rattle.reactor_core.specs.Views.{net_of, watch_of, volumes_of, over_of, job_
 use Rattle.reactor_core.specs.declared.job.Job.{Job}
 use Rattle.reactor_core.specs.declared.polling.Polled.{Polled}
 use Rattle.reactor_core.specs.declared.polling.Polled.TheVariants as polled
-use Rattle.reactor_desk.specs.Notices.{is_notice}
 use Rattle.reactor_desk.specs.Desks.{DeskStands, FromDesk, core_of, looks_of, is_started}
 use Rattle.reactor_desk.specs.Draining.{IsRunning, FoundEmpty}
 use Rattle.reactor_desk.specs.declared.terms.DeskTerms.{DeskTerms}
@@ -32,7 +32,7 @@ use Rattle.reactor_desk.specs.declared.leading.Led.TheVariants as led
 -- One wait of the net, which has more places than before and is else as it was, for the lesser of
 -- the limit and the time to the first deadline. Its entries: `Polled`, the timers that come due,
 -- and the reports that are taken.
-pub record Waits {E N : Type 0} (most : Option ℕ) (h : List (Entry N)) (before : NetFacts E)
+pub record WaitsOnNet {E N : Type 0} (most : Option ℕ) (h : List (Entry N)) (before : NetFacts E)
     (polled : Polled) (entries : List (Entry N)) (now : NetFacts E) : Type 0 where
   pub net : NetFacts E
   pub answer : Waited
@@ -53,7 +53,7 @@ pub record WaitedFor {E N : Type 0} (most : Option ℕ) (h : List (Entry N)) (be
   pub none : HasNoPick (past_of h)
   pub polled : Polled
   pub now : NetFacts E
-  pub waits : Waits most h before polled entries now
+  pub waits : WaitsOnNet most h before polled entries now
   pub stays : Reserves now left
   pub found : P polled
 

@@ -1,5 +1,6 @@
 pub mod Handling
 pub mod Turns
+pub mod Entries
 pub mod Attaching
 pub mod Volumes
 pub mod MemVolumes

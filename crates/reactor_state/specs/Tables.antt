@@ -150,9 +150,9 @@ abbrev pub IsOnce : List ArmedTimer → Type 0
 IsOnce armed = (n : ℕ) → count (λ (a : ArmedTimer). a.timer == n) armed ≤ 1
 
 -- the first deadline
-abbrev pub first_deadline : List ArmedTimer → Option ℕ
-first_deadline [] = None
-first_deadline (a ∷ armed) = Some a.deadline
+abbrev pub first_armed_deadline : List ArmedTimer → Option ℕ
+first_armed_deadline [] = None
+first_armed_deadline (a ∷ armed) = Some a.deadline
 
 -- the number of an owner's timer, by which they stand in rising order
 abbrev pub timer_of : Owner → ℕ

@@ -10,7 +10,8 @@ ghost use Rattle.reactor_summary.specs.reactor_journal.specs.Past.{count, next_d
 ghost use Rattle.reactor_summary.specs.Summary as S;
 ghost use Rattle.reactor_state.specs.Rises.{RisesIn};
 ghost use Rattle.reactor_state.specs.Sound.{IsReached, is_due_of};
-ghost use Rattle.reactor_state.specs.Tables.{timer_of, armed_of, first_deadline, IsOnce, HasArmed};
+ghost use Rattle.reactor_state.specs.Tables.{timer_of, armed_of, first_armed_deadline, IsOnce};
+ghost use Rattle.reactor_state.specs.Tables.{HasArmed};
 ghost use Rattle.reactor_state.specs.Tables.{TellsArmed, TakesArmedTo, HasTimerRoom};
 ghost use Rattle.reactor_state.specs.Tables.{KeepsTimerRoom};
 
@@ -246,7 +247,7 @@ impl<Q: TimerQueue> Armed<Q> {
 
     /// The first deadline.
     pub fn earliest(&self) -> Option<u64>
-        ensures { TellsArmed Q.timers self.now (λ armed. result ≡ first_deadline armed) }
+        ensures { TellsArmed Q.timers self.now (λ armed. result ≡ first_armed_deadline armed) }
     {
         self.timers.earliest()
     }

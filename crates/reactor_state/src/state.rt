@@ -8,7 +8,7 @@ ghost use Rattle.reactor_summary.specs.reactor_journal.specs.Past as P;
 ghost use Rattle.reactor_summary.specs.Summary as S;
 ghost use Rattle.reactor_summary.specs.Summary.{Summary};
 ghost use Rattle.reactor_summary.specs.Rules as R;
-ghost use Rattle.reactor_state.specs.Tables.{alive_count, armed_of, first_deadline};
+ghost use Rattle.reactor_state.specs.Tables.{alive_count, armed_of, first_armed_deadline};
 ghost use Rattle.reactor_state.specs.State.{Shows, HasPlaces, KeepsPlaces, Tells, IsPlaced, owed};
 ghost use Rattle.reactor_state.specs.State.{no_places};
 
@@ -244,7 +244,7 @@ impl<Q: TimerQueue> ReactorState<Q> {
     /// `None` where no timer is armed.
     pub fn time_to_deadline(&self) -> Option<u64>
         ensures { Tells Q.timers self.now (λ s. result
-            ≡ option_map (λ d. d - s.moment) (first_deadline s.armed)) }
+            ≡ option_map (λ d. d - s.moment) (first_armed_deadline s.armed)) }
     {
         match self.armed.earliest() {
             Some(deadline) => Some(deadline.saturating_sub(self.moment)),

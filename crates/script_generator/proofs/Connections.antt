@@ -18,7 +18,7 @@ use Rattle.script_generator.specs.Records.{letter_count, bytes_of}
 use Rattle.script_generator.specs.Scripts.{last_round, openings, shuttings, front_piece, rest_piece}
 use Rattle.script_generator.specs.Scripts.{pieces, lines, round_group, generated}
 use Rattle.script_generator.specs.Laws.{rounds, connection_bytes, HasSteps, BringsRecords}
-use Rattle.script_generator.specs.Laws.{all_bytes, bytes_of_records}
+use Rattle.script_generator.specs.Laws.{bytes_of_connections, bytes_of_records}
 use Rattle.script_generator.proofs.Growing.{flat_more}
 use Rattle.script_generator.proofs.Spelling.{record_length}
 use Rattle.script_generator.proofs.Standing.{onto}
@@ -254,7 +254,7 @@ same_sums f g n same (suc j) a le =
     ∙ sym (sum_by-cons g a (range_with_len (a + 1) j))
 
 pub bytes_are : (n seed : ℕ) → 1 ≤ n → n ≤ 1000
-    → all_bytes (steps_of (generated n seed)) ≡ bytes_of_records n seed
+    → bytes_of_connections (steps_of (generated n seed)) ≡ bytes_of_records n seed
 bytes_are n seed least many =
     ap (λ (k : ℕ). sum_by (λ c. length (all_brought c (steps_of (generated n seed))))
     (range_with_len 0 k)) (has_steps n seed least many).come

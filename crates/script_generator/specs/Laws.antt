@@ -57,8 +57,9 @@ ConnectionsBringRecords = (n seed c : ℕ) → c < n → n ≤ 1000
     → BringsRecords seed c (steps_of (generated n seed))
 
 -- how many bytes all connections of a script bring
-abbrev pub all_bytes : List ScriptStep → ℕ
-all_bytes steps = sum_by (λ c. length (bytes_brought c steps)) (range_with_len 0 (opened steps))
+abbrev pub bytes_of_connections : List ScriptStep → ℕ
+bytes_of_connections steps =
+    sum_by (λ c. length (bytes_brought c steps)) (range_with_len 0 (opened steps))
 
 -- In a generated script that are 29 for each record, and its letters.
 abbrev pub bytes_of_records : ℕ → ℕ → ℕ
@@ -67,4 +68,4 @@ bytes_of_records n seed = sum_by (λ c. sum_by (λ r. 29 + letter_count seed r c
 
 abbrev pub BytesAreThoseOfRecords : Type 0
 BytesAreThoseOfRecords = (n seed : ℕ) → 1 ≤ n → n ≤ 1000
-    → all_bytes (steps_of (generated n seed)) ≡ bytes_of_records n seed
+    → bytes_of_connections (steps_of (generated n seed)) ≡ bytes_of_records n seed

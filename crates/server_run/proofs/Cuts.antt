@@ -30,7 +30,8 @@ use Rattle.tp_reactor.specs.reactor_core.specs.Acting.{StopAppends}
 use Rattle.tp_reactor.specs.reactor_core.specs.Ends.{AreRetired}
 use Rattle.tp_reactor.specs.reactor_core.specs.Removing.{AreRemovals, alive_handles}
 use Rattle.tp_reactor.specs.reactor_core.specs.Settling.{IsClosing}
-use Rattle.laws_script_taken.specs.laws_script_runs.specs.Runs.{first_handle, is_closing, is_notice}
+use Rattle.laws_script_taken.specs.laws_script_runs.specs.Runs.{first_handle, is_closing}
+use Rattle.laws_script_taken.specs.reactor_model.specs.Entries.{is_notice}
 use Rattle.laws_script_taken.specs.laws_script_runs.specs.Runs.{is_refusal}
 use Rattle.laws_script_taken.specs.Laws.{OffersEach}
 use Rattle.laws_script_taken.proofs.Offered.{offers_each}

@@ -41,7 +41,7 @@ use Rattle.tp_reactor.specs.reactor_core.specs.Views.{net_of, over_of, volumes_o
 use Rattle.tp_reactor.specs.reactor_core.specs.declared.reactor.Core.{Core}
 use Rattle.tp_reactor.specs.reactor_desk.specs.Desks.{capped, core_marks}
 use Rattle.tp_reactor.specs.reactor_desk.specs.Notices.{AreRecorded, Records}
-use Rattle.tp_reactor.specs.reactor_desk.specs.Notices.{is_notice as is_drained}
+use Rattle.laws_script_taken.specs.reactor_model.specs.Entries.{is_notice}
 use Rattle.tp_reactor.specs.reactor_desk.specs.declared.terms.DeskTerms.{DeskTerms}
 use Rattle.tp_reactor.specs.Alone.{RunsTo}
 use Rattle.tp_reactor.specs.Ends.{IsClosed, IsRoot, MayShare}
@@ -52,7 +52,7 @@ use Rattle.tp_reactor.specs.Words.{SameKin}
 use Rattle.tp_reactor.specs.Working.{Runs}
 use Rattle.tp_reactor.specs.declared.working.Ran.{Ran}
 use Rattle.tp_reactor.specs.declared.working.Ran.TheVariants as ran
-use Rattle.laws_script_taken.specs.laws_script_runs.specs.Runs.{IsIdle, is_notice}
+use Rattle.laws_script_taken.specs.laws_script_runs.specs.Runs.{HasNoWork}
 use Rattle.tp_reactor.specs.reactor_desk.specs.Desks.{FillsVolume}
 use Rattle.server_run.specs.Finishing.{Finishes, HasNoneOpen, KeepsCounts, NoneOpen, named}
 use Rattle.server_run.specs.Journals.{EndsSo, first_entry, notice_for}
@@ -92,7 +92,7 @@ right_one (Some n) (entry.Posted handle kind from seq) x r q = ap (λ (h : Handl
 right_one (Some n) (entry.Stale handle from seq) x r q = ap (λ (h : Handle). h.0 == 0) r.0 ∙ q
 right_one (Some n) _ x r q = refl
 
-right_other : {N : Type 0} (until : Option ℕ) (e : Entry N) → is_drained e ≡ false
+right_other : {N : Type 0} (until : Option ℕ) (e : Entry N) → is_notice e ≡ false
     → is_right until e ≡ true
 right_other None e q = ap not q
 right_other (Some n) (entry.Posted handle kind from seq) q = absurd (true≢false q)
@@ -111,7 +111,7 @@ none_ended (e ∷ es) le = and_from _ _ (none_posted e.posted (omega (arith, le)
 
 -- where no posting was made, nothing is recorded
 unposted : {N : Type 0} (list : List (Entry N)) (s drainer : RingView) (n : ℕ)
-    → AreRecorded (filter is_drained list) drainer.got → IsMerged s drainer n → known_postings s ≤ 0
+    → AreRecorded (filter is_notice list) drainer.got → IsMerged s drainer n → known_postings s ≤ 0
     → list_any is_notice list ≡ false
 unposted list s drainer n recorded merged none =
     let all : list_all (λ (x : Posting). false) drainer.got ≡ true =
@@ -120,9 +120,9 @@ unposted list s drainer n recorded merged none =
       own = none_posted s.posted (omega (arith, none));
       ended = none_ended s.ended (omega (arith, none));
     }) in
-    none_of_all is_notice list (all_of_filter is_drained (λ e. not (is_notice e)) list
+    none_of_all is_notice list (all_of_filter is_notice (λ e. not (is_notice e)) list
     (λ e q. ap not q) (records_all (λ x. false) (λ e. not (is_notice e))
-    (λ e x r q. absurd (false≢true q)) (filter is_drained list) drainer.got recorded all))
+    (λ e x r q. absurd (false≢true q)) (filter is_notice list) drainer.got recorded all))
 
 -- ---- counts
 
@@ -223,9 +223,9 @@ module _ {H M Q W V E : Type 0} (m : Meaning H M Q W V ServerNote E) (t : Terms)
         subst (λ u. AllPosted (is_for u) s) d.until_is says.posted in
         let drained = all_drained (is_for (notice_for asked.until)) s
         (drainer_view d.closed.drainer) d.closed.posted d.closed.merged posted in
-        all_of_filter is_drained (is_right asked.until) w.seen (right_other asked.until)
+        all_of_filter is_notice (is_right asked.until) w.seen (right_other asked.until)
         (records_all (is_for (notice_for asked.until)) (is_right asked.until)
-        (right_one asked.until) (filter is_drained w.seen) (drainer_view d.closed.drainer).got
+        (right_one asked.until) (filter is_notice w.seen) (drainer_view d.closed.drainer).got
         d.closed.stands.recorded drained)
 
     posted : list_any is_notice w.seen ≡ true → HasClosed (notice_for asked.until) w.seen
@@ -263,7 +263,7 @@ module _ {H M Q W V E : Type 0} (m : Meaning H M Q W V ServerNote E) (t : Terms)
             ⊎_elim
             (λ first. record {
               behind = ap (λ k. follows_ready (past_of k)) first.0 ∙ o.behind;
-              idle = subst (λ (k : List (Entry ServerNote)). IsIdle (past_of k)) (sym first.0)
+              idle = subst (λ (k : List (Entry ServerNote)). HasNoWork (past_of k)) (sym first.0)
                   o.idle;
               over = subst (λ (n : ℕ). WhereTold (λ calls. IsOverAt n (answers calls))
                   (m.facts served.parts.net).calls) (over_number is

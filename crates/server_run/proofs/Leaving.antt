@@ -17,7 +17,8 @@ use Rattle.tp_reactor.specs.laws_by_turns.specs.ByTurns.{DispatchedByTurns}
 use Rattle.log_handler.specs.declared.note.ServerNote.{ServerNote}
 use Rattle.tp_reactor.specs.reactor_core.specs.Beginning.{CanBegin}
 use Rattle.tp_reactor.specs.reactor_core.specs.Calls.{AreCalls}
-use Rattle.tp_reactor.specs.reactor_core.specs.Ends.{WhereTold, is_fault}
+use Rattle.tp_reactor.specs.reactor_core.specs.Ends.{WhereTold}
+use Rattle.laws_script_taken.specs.reactor_model.specs.Entries.{is_fault}
 use Rattle.tp_reactor.specs.reactor_core.specs.Removing.{AreRemovals, alive_handles}
 use Rattle.tp_reactor.specs.reactor_core.specs.Stands.{HasTaken, Meaning, NetStands}
 use Rattle.tp_reactor.specs.reactor_core.specs.declared.reactor.Core.{Core}

@@ -23,7 +23,7 @@ use Rattle.log_handler.specs.reactor_journal.specs.Past.{timer_of, timeout_of}
 use Rattle.log_handler.specs.reactor_journal.specs.Past.{upcall_of}
 use Rattle.log_handler.specs.reactor_journal.specs.Past.{was_opened}
 use Rattle.log_handler.specs.reactor_journal.specs.Past.{was_removed}
-use Rattle.laws_script_taken.specs.laws_script_runs.specs.Runs.{is_notice}
+use Rattle.laws_script_taken.specs.reactor_model.specs.Entries.{is_notice}
 
 -- ---- an event of a notification
 

@@ -34,7 +34,8 @@ use Rattle.tp_reactor.specs.reactor_core.specs.declared.registering.RegisterRefu
     as refused
 use Rattle.server_run.specs.Finishing.{Finishes, KeepsCounts, named}
 use Rattle.server_run.specs.Journals.{first_entry}
-use Rattle.server_run.specs.Opening.{MayRefuse, OpenCounts, SameCounts, refused_ending}
+use Rattle.server_run.specs.Opening.{OpenCounts, SameCounts, refused_ending}
+use Rattle.tp_reactor.specs.reactor_core.specs.Refusals.{MayRefuseFirst}
 use Rattle.server_run.specs.Served.{FaultRose, HasCauses, LeavesRun, MayLackLead}
 use Rattle.server_run.specs.declared.asked.Asked.{Asked}
 use Rattle.server_run.specs.declared.ending.Ending.{Ending}
@@ -108,7 +109,7 @@ module _ {H M Q W V E : Type 0} (m : Meaning H M Q W V ServerNote E) where
 
   pub refused_for : (t : Terms) (mask : Mask) (old : Core H M Q W V ServerNote E) (back : H)
       (why : RegisterRefused) (new : Core H M Q W V ServerNote E) → 1 ≤ t.most
-      → RegisterGives m t 0 [] mask None old (Err (back, why)) new → MayRefuse why
+      → RegisterGives m t 0 [] mask None old (Err (back, why)) new → MayRefuseFirst why
       × Stands m t new 0 []
   refused_for t mask old back refused.Stopped new place gives = absurd (false≢true gives.0)
   refused_for t mask old back (refused.Full live opened) new place gives =

@@ -30,10 +30,10 @@ use Rattle.tp_reactor.specs.reactor_core.specs.Calls.{is_taken}
 use Rattle.tp_reactor.specs.reactor_core.specs.Marks.{is_polled}
 use Rattle.tp_reactor.specs.reactor_core.specs.Polling.{due_of, ready_of}
 use Rattle.tp_reactor.specs.reactor_core.specs.Stands.{Meaning}
-use Rattle.tp_reactor.specs.reactor_desk.specs.Notices.{is_notice}
+use Rattle.laws_script_taken.specs.reactor_model.specs.Entries.{is_notice}
 use Rattle.tp_reactor.specs.reactor_desk.specs.declared.terms.DeskTerms.{DeskTerms}
 use Rattle.tp_reactor.specs.Pool.{EndsWithOver}
-use Rattle.laws_script_taken.specs.laws_script_runs.specs.Runs.{IsIdle}
+use Rattle.laws_script_taken.specs.laws_script_runs.specs.Runs.{HasNoWork}
 use Rattle.server_run.specs.Finishing.{NoneOpen}
 use Rattle.server_run.proofs.Winding.{sum, sum_more}
 
@@ -177,7 +177,7 @@ pub record IsOverThere {N : Type 0} (list : List (Entry N)) : Type 0 where
   pub waited : 1 ≤ count is_polled (past_of list)
   pub behind : follows_ready (past_of list) ≡ true
   pub running : (sum list).ended ≡ false
-  pub idle : IsIdle (past_of list)
+  pub idle : HasNoWork (past_of list)
 
 -- what stands behind a wait
 record IsBehind {N : Type 0} (h list : List (Entry N)) : Type 0 where

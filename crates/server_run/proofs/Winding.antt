@@ -22,7 +22,7 @@ use Rattle.tp_reactor.specs.reactor_summary.specs.Tells.{listed, live_handle}
 use Rattle.tp_reactor.specs.reactor_summary.specs.declared.parts.LiveHandle.{LiveHandle}
 use Rattle.tp_reactor.specs.reactor_summary.proofs.Told.{told}
 use Rattle.tp_reactor.specs.reactor_core.specs.Acting.{StopAppends}
-use Rattle.tp_reactor.specs.reactor_core.specs.Beginning.{IsOver, PartsStand}
+use Rattle.tp_reactor.specs.reactor_core.specs.Beginning.{IsShutDown, PartsStand}
 use Rattle.tp_reactor.specs.reactor_core.specs.Ends.{WhereTold}
 use Rattle.tp_reactor.specs.reactor_core.specs.Marks.{IsOverAt, answers}
 use Rattle.tp_reactor.specs.reactor_core.specs.Removing.{AreRemovals, StopsOnce}
@@ -91,7 +91,7 @@ keeps_removals h busy (a ∷ hs) es r =
 
 pub over_of_stands : {H M Q W V N E : Type 0} (m : Meaning H M Q W V N E) (t : Terms)
     (core : Core H M Q W V N E) (F : ℕ) (h : List (Entry N)) → Stands m t core F h → NoneOpen h
-    → (sum h).ended ≡ true → IsOver (sum h)
+    → (sum h).ended ≡ true → IsShutDown (sum h)
 over_of_stands m t core F h stands none ended =
     record {
       ended = ended;
@@ -105,7 +105,7 @@ pub record Stopped {H M Q W V N E : Type 0} (m : Meaning H M Q W V N E) (t : Ter
   pub journal : List (Entry N)
   pub winds : WindsUp list journal
   pub stands : Stands m t core F journal
-  pub over : IsOver (sum journal)
+  pub over : IsShutDown (sum journal)
 
 pub stopped : {H M Q W V N E : Type 0} (m : Meaning H M Q W V N E) (t : Terms) (F : ℕ)
     (h : List (Entry N)) (new : Core H M Q W V N E) (b : Bool) → NoneOpen h → (sum h).ended ≡ b
@@ -204,7 +204,7 @@ all_closed past (suc n) q =
     (option_to_list (live_handle past n)) q))
 
 pub whole_of_over : {N : Type 0} (most : ℕ) (journal : List (Entry N)) → Legal journal most
-    → IsOver (sum journal) → IsWhole most journal
+    → IsShutDown (sum journal) → IsWhole most journal
 whole_of_over most journal legal over =
     let tells = told most (past_of journal) legal in
     record {

@@ -7,7 +7,7 @@ use Rattle.log_handler.specs.reactor_journal.specs.declared.entry.Entry.{Entry}
 use Rattle.log_handler.specs.reactor_journal.specs.Follow.{Legal}
 use Rattle.log_handler.specs.reactor_journal.specs.Past.{past_of}
 use Rattle.tp_reactor.specs.reactor_summary.specs.Summary.{summary}
-use Rattle.tp_reactor.specs.reactor_core.specs.Beginning.{IsOver, PartsStand}
+use Rattle.tp_reactor.specs.reactor_core.specs.Beginning.{IsShutDown, PartsStand}
 use Rattle.tp_reactor.specs.reactor_core.specs.Ends.{WhereTold}
 use Rattle.tp_reactor.specs.reactor_core.specs.Marks.{IsOverAt, answers}
 use Rattle.tp_reactor.specs.reactor_core.specs.Stands.{Meaning, StandsWith}
@@ -42,7 +42,7 @@ pub record Finishes {H M Q W V N E : Type 0} (m : Meaning H M Q W V N E) (armed 
   pub winds : WindsUp list journal
   pub legal : Legal journal t.most
   pub bound : length journal ≤ 2 ^ 62
-  pub over : IsOver (summary (past_of journal))
+  pub over : IsShutDown (summary (past_of journal))
   pub stand : PartsStand m armed t first journal parts
   pub marked : 1 ≤ over_of core → WhereTold (λ calls. IsOverAt (over_of core) (answers calls))
       (m.facts parts.net).calls

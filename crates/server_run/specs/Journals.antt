@@ -23,11 +23,12 @@ use Rattle.tp_reactor.specs.reactor_summary.specs.Summary.{summary, is_busy}
 use Rattle.log_handler.specs.reactor_model.specs.Handling.{Handling}
 use Rattle.tp_reactor.specs.laws_by_turns.specs.ByTurns.{DispatchedByTurns}
 use Rattle.acceptor.specs.Servers.{read_alone}
-use Rattle.laws_script_taken.specs.laws_script_runs.specs.Runs.{IsWhole, IsIdle, first_handle}
-use Rattle.laws_script_taken.specs.laws_script_runs.specs.Runs.{is_notice, is_refusal}
+use Rattle.laws_script_taken.specs.laws_script_runs.specs.Runs.{IsWhole, HasNoWork, first_handle}
+use Rattle.laws_script_taken.specs.laws_script_runs.specs.Runs.{is_refusal}
+use Rattle.laws_script_taken.specs.reactor_model.specs.Entries.{is_notice, is_fault}
 use Rattle.laws_script_taken.specs.Laws.{OffersEach}
 use Rattle.tp_reactor.specs.reactor_core.specs.Acting.{StopAppends}
-use Rattle.tp_reactor.specs.reactor_core.specs.Ends.{WhereTold, is_fault}
+use Rattle.tp_reactor.specs.reactor_core.specs.Ends.{WhereTold}
 use Rattle.tp_reactor.specs.reactor_core.specs.Marks.{IsOverAt, answers, is_polled}
 use Rattle.tp_reactor.specs.reactor_core.specs.Removing.{AreRemovals, alive_handles}
 use Rattle.server_run.specs.declared.ending.Ending.{Ending}
@@ -62,7 +63,7 @@ HasNotices (Some n) journal = list_all is_for_acceptor journal ≡ true
 pub record EndsAtNetOver {N E : Type 0} (net : NetFacts E) (run closing : List (Entry N)) : Type 0
   where
     pub behind : follows_ready (past_of run) ≡ true
-    pub idle : IsIdle (past_of run)
+    pub idle : HasNoWork (past_of run)
     pub over : WhereTold (λ calls. IsOverAt (count is_polled (past_of run)) (answers calls))
         net.calls
     pub closes : AreRemovals (is_busy (summary (past_of run)))

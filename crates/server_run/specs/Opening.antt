@@ -26,13 +26,7 @@ pub record CanRegister {H M Q W V N E : Type 0} (m : Meaning H M Q W V N E)
   pub listener_keeps_terms : listener_keeps t listener
   pub idle : t.idle ≡ Some asked.idle
 
--- it may refuse the acceptor for these causes alone; and how a run ended whose acceptor was refused
-abbrev pub MayRefuse : RegisterRefused → Type 0
-MayRefuse refused.NetFailed = Unit {0}
-MayRefuse refused.NoMemory = Unit {0}
-MayRefuse refused.Stopped = ⊥
-MayRefuse (refused.Full live opened) = ⊥
-
+-- how a run ended whose acceptor was refused
 abbrev pub refused_ending : RegisterRefused → Ending
 refused_ending refused.NetFailed = ending.NotAttached
 refused_ending refused.NoMemory = ending.NoMemory

@@ -6,7 +6,8 @@ ghost use Rattle.ev_base.specs.Story.{NumbersFrom};
 ghost use Rattle.ev_base.specs.Terms.{Terms};
 ghost use Rattle.acceptor.specs.Idle.{IsIdleTime};
 ghost use Rattle.tp_reactor.specs.reactor_core.specs.Views.{net_of, volume_of, volumes_of};
-ghost use Rattle.server_run.specs.Opening.{CanRegister, MayRefuse, OpenCounts, OpensSo};
+ghost use Rattle.server_run.specs.Opening.{CanRegister, OpenCounts, OpensSo};
+ghost use Rattle.tp_reactor.specs.reactor_core.specs.Refusals.{MayRefuseFirst};
 ghost use Rattle.server_run.specs.Opening.{refused_ending};
 ghost use Rattle.server_run.specs.Starting.{CanStart, IsFine};
 
@@ -108,7 +109,7 @@ fn register<
 
 /// How a run ended whose acceptor was refused by a reactor that has no handler and was not stopped.
 fn refusal(refused: RegisterRefused) -> Ending
-    requires { MayRefuse refused }
+    requires { MayRefuseFirst refused }
     ensures { result ≡ refused_ending refused }
 {
     match refused {

@@ -17,7 +17,7 @@ use Rattle.reactor_core.specs.laws_turns.specs.Opens.{open_events}
 use Rattle.reactor_core.specs.list_lemmas.specs.Times.{times}
 use Rattle.reactor_core.specs.laws_turns.proofs.Opens.{opens_are}
 use Rattle.reactor_model.specs.declared.watch.NoWatch.{NoWatch}
-use Rattle.reactor_core.specs.Beginning.{IsOver}
+use Rattle.reactor_core.specs.Beginning.{IsShutDown}
 use Rattle.reactor_core.specs.Removing.{StopsOnce}
 use Rattle.reactor_core.specs.Stands.{Meaning, Stands, StandsWith}
 use Rattle.reactor_core.specs.declared.reactor.Core.{Core}
@@ -51,7 +51,7 @@ none_open most past legal closed =
 module _ {M V : Type 0} (m : Meaning Member M Content NoWatch V ℕ PlayEnd) (t : Terms) (F : ℕ) where
   over : (core : Core Member M Content NoWatch V ℕ PlayEnd) (h : List (Entry ℕ))
       → Stands m t core F h → (sum h).opens ≡ [] → (sum h).ended ≡ true
-      → StandsWith m (λ t h. IsOver (summary (past_of h))) core
+      → StandsWith m (λ t h. IsShutDown (summary (past_of h))) core
   over core h st none ended = (
     t,
     F,
@@ -67,7 +67,7 @@ module _ {M V : Type 0} (m : Meaning Member M Content NoWatch V ℕ PlayEnd) (t 
 
   pub stopped : (core : Core Member M Content NoWatch V ℕ PlayEnd) (h : List (Entry ℕ)) (b : Bool)
       → (sum h).opens ≡ [] → (sum h).ended ≡ b → StopsOnce m t F h core b
-      → StandsWith m (λ t h. IsOver (summary (past_of h))) core
+      → StandsWith m (λ t h. IsShutDown (summary (past_of h))) core
   stopped core h true none is st = over core h st none is
   stopped core h false none is st =
       let e : sum (h ++ Ended ∷ []) ≡ step {N = ℕ} (sum h) Ended = sum_more h Ended in

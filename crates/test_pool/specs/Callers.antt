@@ -18,7 +18,7 @@ use Rattle.reactor_core.specs.declared.reactor.Core.{Core}
 use Rattle.reactor_core.specs.laws_turns.specs.Opens.{opens_of}
 use Rattle.tp_reactor.specs.reactor_desk.specs.declared.terms.DeskTerms.{DeskTerms}
 use Rattle.tp_reactor.specs.reactor_desk.specs.declared.desk.Desk.{Desk}
-use Rattle.tp_reactor.specs.Words.{known_by, poster_of, IsIdle, IsOf, SameKin}
+use Rattle.tp_reactor.specs.Words.{known_by, poster_of, IsIdleWorker, IsOf, SameKin}
 use Rattle.tp_reactor.specs.declared.reactor.Reactor.{Reactor}
 use Rattle.tp_reactor.specs.declared.reactor.Worker.{Worker}
 use Rattle.test_pool.specs.Members.{member}
@@ -31,7 +31,7 @@ abbrev pub PoolOf : Type 0 → Type 0 → Type 0 → Type 0
 PoolOf M V K = Reactor Member M Content NoWatch V K ℕ PlayEnd
 
 -- a reactor in which no upcall is on its way
-pub record IsAtRest {M V : Type 0} (m : Meaning Member M Content NoWatch V ℕ PlayEnd)
+pub record HasNoUpcalls {M V : Type 0} (m : Meaning Member M Content NoWatch V ℕ PlayEnd)
     (core : Core Member M Content NoWatch V ℕ PlayEnd) : Type 0 where
   pub terms : Terms
   pub first : ℕ
@@ -49,7 +49,7 @@ module _ {M V : Type 0} {kept : Keeping (DeskOf M V) (Entry ℕ) DeskTerms} wher
   pub record IsFree {K : Type 0} (pool : PoolOf M V K)
       (worker : Worker Member M Content NoWatch V ℕ PlayEnd kept) : Type 0 where
     pub of : IsOf worker pool
-    pub idle : IsIdle worker
+    pub idle : IsIdleWorker worker
     pub terms : IsOpen (known_by worker).terms
 
   -- one that has made this upcall, which is to be settled

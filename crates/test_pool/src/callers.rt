@@ -5,7 +5,8 @@ ghost use Rattle.notify_ring.specs.Words.{poster_view};
 ghost use Rattle.reactor_core.specs.Beginning.{CanBegin};
 ghost use Rattle.reactor_model.specs.Turns.{IsTimer};
 ghost use Rattle.tp_reactor.specs.Words.{SameKin, known_by, poster_of};
-ghost use Rattle.test_pool.specs.Callers.{HasDismissed, HasHired, IsAtRest, IsFree, IsOut, IsRoot};
+ghost use Rattle.test_pool.specs.Callers.{HasDismissed, HasHired, HasNoUpcalls, IsFree, IsOut};
+ghost use Rattle.test_pool.specs.Callers.{IsRoot};
 ghost use Rattle.test_pool.specs.Callers.{SameRank};
 
 use crate::Member;
@@ -105,7 +106,7 @@ pub fn share<M: Net<End = PlayEnd> + Drop, V: Volumes<u64> + Drop, K: Wake + Dro
 fn end<M: Net<End = PlayEnd>, V: Volumes<u64>>(
     core: Core<Member, M, SortedTimers, NoWatch, V>,
 ) -> Left<M, V>
-    requires { IsAtRest ⟦<Core<Member, M, SortedTimers, NoWatch, V> as Means>⟧.m core }
+    requires { HasNoUpcalls ⟦<Core<Member, M, SortedTimers, NoWatch, V> as Means>⟧.m core }
 {
     let mut core = core;
     core.stop();

@@ -20,7 +20,7 @@ use Rattle.reactor_desk.specs.declared.desk.Desk.{Desk}
 use Rattle.reactor_desk.specs.declared.leading.Led.{Led}
 use Rattle.reactor_desk.specs.Laws.{HistoryLeft}
 use Rattle.reactor_desk.proofs.Left.{left_by_lead, only_one}
-use Rattle.tp_reactor.specs.Led.{Finds, Leaves, IsLed}
+use Rattle.tp_reactor.specs.Led.{Finds, LeavesDesk, IsLed}
 
 -- marks of what is lent out of the token are those of what was found
 pub kept_of : {H M Q W V N E : Type 0} (m : Meaning H M Q W V N E)
@@ -93,7 +93,8 @@ module _ {H M Q W V N E : Type 0} (m : Meaning H M Q W V N E) where
   -- what was put back is what the caller had in mind
   pub leaves : (v mid w : View (Entry N) DeskTerms) (found left : Desk H M Q W V N E)
       (got : Got v found mid) (list : List (Entry N)) (mine : Option ℕ)
-      → Holds v mid found left got list mine → Put mid left w → Leaves m v found left list mine w
+      → Holds v mid found left got list mine → Put mid left w
+      → LeavesDesk m v found left list mine w
   leaves v mid w found left got list mine held put =
       let a : May mid left = may_put v mid found left got list mine held in
       let b : May mid left = put.may in

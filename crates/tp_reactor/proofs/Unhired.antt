@@ -7,7 +7,7 @@ use Rattle.reactor_model.specs.reactor_journal.specs.declared.entry.Entry.{Entry
 use Rattle.reactor_core.specs.Stands.{Meaning}
 use Rattle.reactor_desk.specs.declared.terms.DeskTerms.{DeskTerms}
 use Rattle.reactor_desk.specs.declared.desk.Desk.{Desk}
-use Rattle.tp_reactor.specs.Words.{IsIdle, IsOf}
+use Rattle.tp_reactor.specs.Words.{IsIdleWorker, IsOf}
 use Rattle.tp_reactor.specs.Workers.{RunsWorkers, SameWorker}
 use Rattle.tp_reactor.specs.declared.reactor.Reactor.{Reactor}
 use Rattle.tp_reactor.specs.declared.reactor.Worker.{Worker}
@@ -27,7 +27,7 @@ module _ {H M Q W V N E : Type 0} {kept : Keeping (Desk H M Q W V N E) (Entry N)
   }
 
   pub same_worker : {K : Type 0} (reactor : Reactor H M Q W V K N E) → IsOf root reactor
-      → IsIdle root → SameWorker reactor root root
+      → IsIdleWorker root → SameWorker reactor root root
   same_worker reactor of idle = record {
     of = of;
     idle = idle;

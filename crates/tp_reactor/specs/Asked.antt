@@ -23,7 +23,7 @@ use Rattle.reactor_core.specs.declared.removing.NotLive.{NotLive}
 use Rattle.reactor_desk.specs.Desks.{core_of}
 use Rattle.reactor_desk.specs.declared.terms.DeskTerms.{DeskTerms}
 use Rattle.reactor_desk.specs.declared.desk.Desk.{Desk}
-use Rattle.tp_reactor.specs.Led.{Finds, Leaves}
+use Rattle.tp_reactor.specs.Led.{Finds, LeavesDesk}
 
 -- A request of a caller that knew v and knows w from then on: the desk that was found under the
 -- token stood for the history, and was left standing for it and these entries, of which P holds.
@@ -38,7 +38,7 @@ pub record HasAsked {H M Q W V N E : Type 0} (m : Meaning H M Q W V N E)
   pub entries : List (Entry N)
   pub finds : Finds m v first history found
   pub gives : P history found left entries
-  pub leaves : Leaves m v found left (history ++ entries) v.mine w
+  pub leaves : LeavesDesk m v found left (history ++ entries) v.mine w
 
 -- the entry of a request that was met, and none else
 abbrev pub entries_asked : {A X N : Type 0} → (A → Entry N) → Result A X → List (Entry N)

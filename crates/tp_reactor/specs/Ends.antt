@@ -15,7 +15,7 @@ use Rattle.reactor_core.specs.Stands.{Meaning, Stands}
 use Rattle.reactor_core.specs.declared.reactor.Core.{Core}
 use Rattle.reactor_core.specs.Views.{volume_of}
 use Rattle.reactor_desk.specs.Desks.{DeskStands, FillsVolume, marks_of}
-use Rattle.reactor_desk.specs.Notices.{is_notice}
+use Rattle.reactor_model.specs.Entries.{is_notice}
 use Rattle.reactor_core.specs.laws_turns.specs.Opens.{opens_of}
 use Rattle.reactor_desk.specs.declared.terms.DeskTerms.{DeskTerms}
 

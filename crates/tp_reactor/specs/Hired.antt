@@ -14,7 +14,7 @@ use Rattle.reactor_core.specs.declared.job.Done.{Done}
 use Rattle.reactor_desk.specs.declared.terms.DeskTerms.{DeskTerms}
 use Rattle.reactor_desk.specs.declared.desk.Desk.{Desk}
 use Rattle.tp_reactor.specs.Pool.{WorkerEnd, hirer_posted}
-use Rattle.tp_reactor.specs.Words.{known_by, poster_of, posted_of, IsOf, IsIdle, SameKin}
+use Rattle.tp_reactor.specs.Words.{known_by, poster_of, posted_of, IsOf, IsIdleWorker, SameKin}
 use Rattle.tp_reactor.specs.Observed.{RunsObserved, loop_of}
 use Rattle.tp_reactor.specs.declared.reactor.Reactor.{Reactor}
 use Rattle.tp_reactor.specs.declared.pool.Hired.{Hired}
@@ -42,7 +42,7 @@ module _ {H M Q W V O N E : Type 0} {kept : Keeping (Desk H M Q W V N E) (Entry 
     pub record IsReady (reactor : Reactor H M Q W V K N E) (most : Option ℕ)
         (hired : Hired H M Q W V O N E kept) : Type 0 where
       pub of : IsOf hired.worker reactor
-      pub idle : IsIdle hired.worker
+      pub idle : IsIdleWorker hired.worker
       pub limit : FitsLimit (known_by hired.worker).terms.run most
       pub room : length (posted_of hired.worker) < 2 ^ 56
 
@@ -51,7 +51,7 @@ module _ {H M Q W V O N E : Type 0} {kept : Keeping (Desk H M Q W V N E) (Entry 
         (reactor : Reactor H M Q W V K N E) (most : Option ℕ) (until : Option (ℕ × Handle))
         (old new : Hired H M Q W V O N E kept) : Type 0 where
       pub of : IsOf new.worker reactor
-      pub idle : IsIdle new.worker
+      pub idle : IsIdleWorker new.worker
       pub kin : SameKin (known_by old.worker) (known_by new.worker)
       pub runs : RunsObserved m observes most until (loop_of old.worker old.observer) new.ran
           (loop_of new.worker new.observer)
@@ -74,5 +74,5 @@ module _ {H M Q W V O N E : Type 0} {kept : Keeping (Desk H M Q W V N E) (Entry 
     pub record MayLeave (reactor : Reactor H M Q W V K N E)
         (hired : Hired H M Q W V O N E kept) : Type 0 where
       pub of : IsOf hired.worker reactor
-      pub idle : IsIdle hired.worker
+      pub idle : IsIdleWorker hired.worker
       pub child : (known_by hired.worker).root ≡ false

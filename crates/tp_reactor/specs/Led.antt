@@ -33,7 +33,7 @@ pub record Finds {H M Q W V N E : Type 0} (m : Meaning H M Q W V N E) (v : View 
 
 -- The desk was left standing for this list, which the caller has then seen, with this event as its
 -- own. No mark fell.
-pub record Leaves {H M Q W V N E : Type 0} (m : Meaning H M Q W V N E)
+pub record LeavesDesk {H M Q W V N E : Type 0} (m : Meaning H M Q W V N E)
     (v : View (Entry N) DeskTerms) (found left : Desk H M Q W V N E) (list : List (Entry N))
     (mine : Option ℕ) (w : View (Entry N) DeskTerms) : Type 0 where
   pub first : ℕ
@@ -53,7 +53,7 @@ pub record IsLed {H M Q W V N E : Type 0} (m : Meaning H M Q W V N E) (v : View 
   pub gives : LeadGives m v.terms first history most found led left
   pub volumes : TellsVolumeFault m found led left
   pub tells : LeadTells m found led left
-  pub leaves : Leaves m v found left
+  pub leaves : LeavesDesk m v found left
       (history_left m v.terms first history most found led left gives) (event_of led) w
 
 -- the marks of a worker: of the faults of the watch, of failed waits, of the faults of the volumes,

@@ -19,7 +19,7 @@ use Rattle.reactor_desk.specs.declared.leading.Led.{Led}
 use Rattle.tp_reactor.specs.Led.{IsLed}
 use Rattle.tp_reactor.specs.Pool.{Dismisses, HiresNone, WorkerEnd, hirer, hirer_posted}
 use Rattle.tp_reactor.specs.Words.{known_by, poster_of}
-use Rattle.tp_reactor.specs.Working.{EndsRun, Idles, Serves, ServesAndLeads, ran_of}
+use Rattle.tp_reactor.specs.Working.{EndsRun, LeadsToNone, Serves, ServesAndLeads, ran_of}
 use Rattle.tp_reactor.specs.declared.reactor.Worker.{Worker}
 use Rattle.tp_reactor.specs.declared.working.Ran.{Ran}
 use Rattle.tp_reactor.specs.declared.working.Ran.TheVariants as ran
@@ -53,7 +53,7 @@ pub record ServesObserved {H M Q W V N E O : Type 0} (m : Meaning H M Q W V N E)
 abbrev pub RoundObserved : {H M Q W V N E O : Type 0} → Meaning H M Q W V N E
     → (O → Done H N E → O → Type 0) → Option ℕ → Option (ℕ × Handle) → Loop N O → Loop N O → Type 0
 RoundObserved m observes most until a b =
-    (Idles m most a.known a.posted b.known b.posted × (b.observer ≡ a.observer))
+    (LeadsToNone m most a.known a.posted b.known b.posted × (b.observer ≡ a.observer))
     ⊎ ServesObserved m observes most until a b
 
 -- so many rounds, one after another

@@ -10,7 +10,7 @@ use Rattle.reactor_desk.specs.Settling.{SettlesDesk}
 use Rattle.reactor_desk.specs.declared.terms.DeskTerms.{DeskTerms}
 use Rattle.reactor_desk.specs.declared.desk.Desk.{Desk}
 use Rattle.reactor_desk.specs.declared.leading.Led.{Led}
-use Rattle.tp_reactor.specs.Led.{Finds, Leaves, IsLed}
+use Rattle.tp_reactor.specs.Led.{Finds, LeavesDesk, IsLed}
 
 -- The upcall of a caller that knew v and knows w from then on was settled: its `Returned`, the
 -- closing of its handler or nothing, and what its act appends.
@@ -23,7 +23,7 @@ pub record HasSettled {H M Q W V N E : Type 0} (m : Meaning H M Q W V N E)
   pub history : List (Entry N)
   pub finds : Finds m v first history found
   pub settles : SettlesDesk m v.terms first history done found left settled
-  pub leaves : Leaves m v found left
+  pub leaves : LeavesDesk m v found left
       (((history ++ returned done ∷ []) ++ settles.settles.closing) ++ settles.settles.acted) None w
 
 -- In one hold of the token the upcall was settled, and then led: as if the caller had put the token

@@ -43,5 +43,5 @@ module _ {H M Q W V N E : Type 0} {kept : Keeping (Desk H M Q W V N E) (Entry N)
         → (poster_view worker.poster).children < (poster_view worker.poster).posters
 
   -- it neither holds the token nor has an upcall open
-  abbrev pub IsIdle : Worker H M Q W V N E kept → Type 0
-  IsIdle worker = ((view_of worker.pass).base ≡ None) × ((view_of worker.pass).mine ≡ None)
+  abbrev pub IsIdleWorker : Worker H M Q W V N E kept → Type 0
+  IsIdleWorker worker = ((view_of worker.pass).base ≡ None) × ((view_of worker.pass).mine ≡ None)

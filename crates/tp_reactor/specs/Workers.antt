@@ -16,7 +16,7 @@ use Rattle.tp_reactor.specs.Alone.{RunsTo}
 use Rattle.tp_reactor.specs.Asked.{HasAsked}
 use Rattle.tp_reactor.specs.Pool.{EndsWithOver, HasClosed, HiresNone, RanTells, RunsPool, WorkerEnd}
 use Rattle.tp_reactor.specs.Pool.{known_postings}
-use Rattle.tp_reactor.specs.Words.{known_by, poster_of, posted_of, IsIdle, IsOf, SameKin}
+use Rattle.tp_reactor.specs.Words.{known_by, poster_of, posted_of, IsIdleWorker, IsOf, SameKin}
 use Rattle.tp_reactor.specs.Working.{Runs}
 use Rattle.tp_reactor.specs.declared.reactor.Reactor.{Reactor}
 use Rattle.tp_reactor.specs.declared.reactor.Worker.{Worker}
@@ -56,7 +56,7 @@ module _ {H M Q W V N E : Type 0} {kept : Keeping (Desk H M Q W V N E) (Entry N)
     pub many : 1 ≤ n
     pub few : (poster_view (poster_of root)).posters + n ≤ 65
     pub is_root : (known_by root).root ≡ true
-    pub idle : IsIdle root
+    pub idle : IsIdleWorker root
     pub limit : FitsLimit (known_by root).terms.run most
     pub room : IfSome until (λ asked. length (posted_of root) < 2 ^ 56)
 
@@ -66,7 +66,7 @@ module _ {H M Q W V N E : Type 0} {kept : Keeping (Desk H M Q W V N E) (Entry N)
     pub record SameWorker (reactor : Reactor H M Q W V K N E)
         (old new : Worker H M Q W V N E kept) : Type 0 where
       pub of : IsOf new reactor
-      pub idle : IsIdle new
+      pub idle : IsIdleWorker new
       pub kin : SameKin (known_by old) (known_by new)
       pub seen : Begins (known_by old).seen (known_by new).seen
       pub marks : NoneAbove (known_by old).marks (known_by new).marks

@@ -103,14 +103,14 @@ pub record ServesAndLeads {H M Q W V N E : Type 0} (m : Meaning H M Q W V N E) (
   pub leads : IsLed m between most led w
 
 -- a lead that came to nothing
-abbrev pub Idles : {H M Q W V N E : Type 0} → Meaning H M Q W V N E → Option ℕ
+abbrev pub LeadsToNone : {H M Q W V N E : Type 0} → Meaning H M Q W V N E → Option ℕ
     → View (Entry N) DeskTerms → RingView → View (Entry N) DeskTerms → RingView → Type 0
-Idles m most v p w s = IsLed m v most led.Quiet w × (s ≡ p)
+LeadsToNone m most v p w s = IsLed m v most led.Quiet w × (s ≡ p)
 
 -- One round of the loop of a worker that knew v, with postings p, and knows w with s from then on.
 abbrev pub Round : {H M Q W V N E : Type 0} → Meaning H M Q W V N E → Option ℕ → Option (ℕ × Handle)
     → View (Entry N) DeskTerms → RingView → View (Entry N) DeskTerms → RingView → Type 0
-Round m most until v p w s = Idles m most v p w s ⊎ Serves m most until v p w s
+Round m most until v p w s = LeadsToNone m most v p w s ⊎ Serves m most until v p w s
 
 -- so many rounds, one behind another
 abbrev pub Rounds : {H M Q W V N E : Type 0} → Meaning H M Q W V N E → Option ℕ

@@ -5,7 +5,7 @@ ghost use Rattle.leader_token.specs.Passes.{IsOpenLater, split_left, split_right
 ghost use Rattle.notify_ring.specs.Passes as ring;
 ghost use Rattle.notify_ring.specs.Words.{poster_view};
 ghost use Rattle.reactor_core.specs.laws_turns.specs.Opens.{opens_of};
-ghost use Rattle.tp_reactor.specs.Words.{known_by, poster_of, IsOf, IsIdle};
+ghost use Rattle.tp_reactor.specs.Words.{known_by, poster_of, IsOf, IsIdleWorker};
 
 use crate::{Reactor, Worker};
 use ev_base::{Net, Wake};
@@ -48,7 +48,7 @@ impl<
         requires root { (known_by root.old).root ≡ true }
         requires free { (known_by root.old).base ≡ None }
         requires child { (known_by other).root ≡ false }
-        requires idle { IsIdle other }
+        requires idle { IsIdleWorker other }
         ensures of { IsOf root.new self.now }
         ensures root { (known_by root.new ≡ joined (known_by root.old) (known_by other))
             × (poster_view (poster_of root.new)

@@ -11,7 +11,8 @@ ghost use Rattle.tp_reactor.specs.Hired.{observers_of};
 ghost use Rattle.tp_reactor.specs.Observed.{PoolObserved, RunObserves, RunsObserved, loop_of};
 ghost use Rattle.tp_reactor.specs.Pool.{Dismisses, hirer, hirer_posted};
 ghost use Rattle.tp_reactor.specs.Workers.{MayRun, RunsWorkers, SameWorker, worker_end};
-ghost use Rattle.tp_reactor.specs.Words.{IsIdle, IsOf, SameKin, known_by, posted_of, poster_of};
+ghost use Rattle.tp_reactor.specs.Words.{IsIdleWorker, IsOf, SameKin, known_by, posted_of};
+ghost use Rattle.tp_reactor.specs.Words.{poster_of};
 
 use crate::observer::no_observers;
 use crate::{NoObserver, Observer, Ran, Reactor, Worker};
@@ -181,13 +182,13 @@ where
             ≤ 64 }
         requires of { IsOf root.old self.now }
         requires root { (known_by root.old).root ≡ true }
-        requires idle { IsIdle root.old }
+        requires idle { IsIdleWorker root.old }
         requires limit { FitsLimit (known_by root.old).terms.run most_ms }
         requires room { IfSome until (λ asked. length (posted_of root.old) < 2 ^ 56) }
         requires empty { room.items ≡ [] }
         requires places { length observers.old.items ≤ vec_capacity room }
         ensures of { IsOf root.new self.now }
-        ensures idle { IsIdle root.new }
+        ensures idle { IsIdleWorker root.new }
         ensures runs { PoolObserved ⟦<Self as Means>⟧.m O.observes most_ms until
             (length observers.old.items) (known_by root.old) (poster_view (poster_of root.old))
             (record { root = observer.old; hired = observers.old.items })
@@ -215,7 +216,7 @@ where
             ≤ 64 }
         requires of { IsOf root.old self.now }
         requires root { (known_by root.old).root ≡ true }
-        requires idle { IsIdle root.old }
+        requires idle { IsIdleWorker root.old }
         requires empty { room.items ≡ [] }
         requires places { length observers.old.items ≤ vec_capacity room }
         ensures of { IsOf root.new self.now }
@@ -253,12 +254,12 @@ where
         owes_notice: &mut bool,
     ) -> (Ran, Vec<Hired<H, M, Q, W, V, O>>)
         requires of { IsOf root.old self.now }
-        requires idle { IsIdle root.old }
+        requires idle { IsIdleWorker root.old }
         requires limit { FitsLimit (known_by root.old).terms.run most_ms }
         requires room { owes_notice.old ≡ true → length (posted_of root.old) < 2 ^ 56 }
         requires ready { All (λ x. IsReady self.now most_ms x) hired.items }
         ensures of { IsOf root.new self.now }
-        ensures idle { IsIdle root.new }
+        ensures idle { IsIdleWorker root.new }
         ensures kin { SameKin (known_by root.old) (known_by root.new) }
         ensures runs { RunsObserved ⟦<Self as Means>⟧.m O.observes most_ms until
             (loop_of root.old observer.old) result.0 (loop_of root.new observer.new) }
@@ -272,10 +273,10 @@ where
         let limit = most_ms;
         let end = until;
         let mut mine = || -> Ran
-            requires { IsOf root.now self.now × IsIdle root.now
+            requires { IsOf root.now self.now × IsIdleWorker root.now
                 × FitsLimit (known_by root.now).terms.run most_ms
                 × (owes_notice.now ≡ true → length (posted_of root.now) < 2 ^ 56) }
-            ensures { IsOf root.exit.now self.entry.now × IsIdle root.exit.now
+            ensures { IsOf root.exit.now self.entry.now × IsIdleWorker root.exit.now
                 × SameKin (known_by root.entry.now) (known_by root.exit.now)
                 × RunsObserved (meaning H.means M.facts M.keeps (Shows Q.timers)
                 (HasPlaces Q.spare) IsPlaced W.stands W.faults W.is_broken W.whole V.facts)
@@ -372,12 +373,12 @@ where
     ) -> Ran
         requires of { IsOf root.old self.now }
         requires root { (known_by root.old).root ≡ true }
-        requires idle { IsIdle root.old }
+        requires idle { IsIdleWorker root.old }
         requires leave { All (λ x. MayLeave self.now x) hired.items }
         requires empty { observers.old.items ≡ [] }
         requires places { length hired.items ≤ vec_capacity observers.old }
         ensures of { IsOf root.new self.now }
-        ensures idle { IsIdle root.new }
+        ensures idle { IsIdleWorker root.new }
         ensures dismisses { Dismisses (worker_end ran root.old) (ends_of hired.items)
             (worker_end result root.new) }
         ensures observers { observers.new.items ≡ observers_of hired.items }

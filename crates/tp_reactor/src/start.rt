@@ -7,7 +7,7 @@ ghost use Rattle.reactor_model.specs.reactor_journal.specs.declared.entry.Entry.
 ghost use Rattle.reactor_core.specs.Views.{volume_of};
 ghost use Rattle.reactor_desk.specs.Desks.{core_marks};
 ghost use Rattle.tp_reactor.specs.Ends.{IsClosed, IsRoot, MayShare};
-ghost use Rattle.tp_reactor.specs.Words.{known_by, poster_of, IsIdle, IsOf};
+ghost use Rattle.tp_reactor.specs.Words.{known_by, poster_of, IsIdleWorker, IsOf};
 
 use crate::promoting::Turns;
 use crate::{Reactor, Worker};
@@ -76,7 +76,7 @@ impl<
     pub fn close(self, root: Worker<H, M, Q, W, V>) -> Core<H, M, Q, W, V>
         requires of { IsOf root self }
         requires root { ((known_by root).root ≡ true) × ((known_by root).children ≡ 0) }
-        requires idle { IsIdle root }
+        requires idle { IsIdleWorker root }
         ensures { IsClosed ⟦<Self as Means>⟧.m (known_by root) (poster_view (poster_of root))
             result }
     {

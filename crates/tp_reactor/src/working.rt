@@ -4,7 +4,8 @@ ghost use Rattle.notify_ring.specs.Words.{poster_view};
 ghost use Rattle.reactor_core.specs.Polling.{FitsLimit};
 ghost use Rattle.tp_reactor.specs.Observed.{Goes, RunsObserved, ServesAndLeadsObserved, loop_of};
 ghost use Rattle.tp_reactor.specs.Working.{JobReady, LedBefore, MayPost, first_ran};
-ghost use Rattle.tp_reactor.specs.Words.{posted_of, known_by, poster_of, IsOf, IsIdle, SameKin};
+ghost use Rattle.tp_reactor.specs.Words.{posted_of, known_by, poster_of, IsOf, IsIdleWorker};
+ghost use Rattle.tp_reactor.specs.Words.{SameKin};
 
 use crate::{Observer, Reactor, Worker};
 use ev_base::{Handle, Kind, Net, Wake};
@@ -64,11 +65,11 @@ impl<
         owes_notice: &mut bool,
     ) -> Ran
         requires of { IsOf worker.old self.now }
-        requires idle { IsIdle worker.old }
+        requires idle { IsIdleWorker worker.old }
         requires limit { FitsLimit (known_by worker.old).terms.run most_ms }
         requires room { owes_notice.old ≡ true → length (posted_of worker.old) < 2 ^ 56 }
         ensures of { IsOf worker.new self.now }
-        ensures idle { IsIdle worker.new }
+        ensures idle { IsIdleWorker worker.new }
         ensures kin { SameKin (known_by worker.old) (known_by worker.new) }
         ensures runs { RunsObserved ⟦<Self as Means>⟧.m O.observes most_ms until
             (loop_of worker.old observer.old) result (loop_of worker.new observer.new) }

@@ -1,6 +1,6 @@
 use Rattle.std.proofs.Common.{List, [], ◌++◌, refl, sym, subst, append-nil}
 use Rattle.message_block.specs.Messages.{MessageState}
-use Rattle.cmd_display.specs.Pipelines.{text_of, Writes}
+use Rattle.cmd_display.specs.Pipelines.{text_of, Prints}
 use Rattle.cmd_display.proofs.Texts.{gathers-both}
 use Rattle.cmd_display.proofs.second.Second.put_some.Goals as goal
 
@@ -16,7 +16,7 @@ pub returns-clause-front : goal.returns-clause-front
 returns-clause-front g c = λ second o fed h. (
   [],
   (c.args.messages, refl),
-  subst (λ (l : List MessageState). Writes g.G.Task.gives g.K.Sink.facts second o l
+  subst (λ (l : List MessageState). Prints g.G.Task.gives g.K.Sink.facts second o l
       (record c.args.self.now { task = c.put_all.new.self })) (sym (append-nil fed)) (record {
         lines = h.lines;
         runs = c.in-Err.ensures.unchanged second fed h.lines h.runs;

@@ -4,7 +4,7 @@ use Rattle.reactor_model.specs.reactor_journal.specs.Past.{past_of}
 use Rattle.reactor_summary.specs.Summary.{summary}
 use Rattle.reactor_model.specs.Volumes.{AddsEntries, IsNext}
 use Rattle.reactor_state.specs.State.{owed}
-use Rattle.reactor_core.specs.HandingOver.{IsCause}
+use Rattle.reactor_core.specs.HandingOver.{IsHandOverCause}
 use Rattle.reactor_core.proofs.HandOver.{few_are, first_is, stands_refused, hands, take_refused}
 use Rattle.reactor_core.proofs.reactor.Core.hand_over.Goals as goal
 
@@ -88,7 +88,7 @@ returns-in-Err-take-clause-err g c t F h o =
 pub returns-in-Err-take-clause-cause : goal.returns-in-Err-take-clause-cause
 returns-in-Err-take-clause-cause g c =
     let facts = g.V.Volumes.facts in
-    subst (λ refused. IsCause refused (facts c.args.self.now.volumes).faults
+    subst (λ refused. IsHandOverCause refused (facts c.args.self.now.volumes).faults
     (facts c.take.new.self).faults) (sym c.refusal_of.ensures)
     (take_refused (facts c.args.self.now.volumes) c.replace-volume.result c.in-Err-take.back
     c.in-Err-take.why (facts c.take.new.self) c.in-Err-take.ensures.takes).1

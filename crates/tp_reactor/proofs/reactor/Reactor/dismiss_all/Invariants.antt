@@ -3,7 +3,7 @@ use Rattle.std.specs.Vec.Iter.{into_iter_items}
 use Rattle.notify_ring.specs.Words.{poster_view}
 use Rattle.tp_reactor.specs.Hired.{MayLeave, ends_of, observers_of}
 use Rattle.tp_reactor.specs.Pool.{Dismisses, WorkerEnd}
-use Rattle.tp_reactor.specs.Words.{IsIdle, IsOf, known_by, poster_of}
+use Rattle.tp_reactor.specs.Words.{IsIdleWorker, IsOf, known_by, poster_of}
 use Rattle.tp_reactor.proofs.reactor.Reactor.dismiss_all.Given as goal
 
 abbrev pub invariant-loop-seat : goal.invariant-loop-seat
@@ -12,7 +12,7 @@ invariant-loop-seat g l = record {
   finite : (goal.iterator-loop-seat g).is_finite l.seat-iterator;
   of : IsOf l.root l.fn.self;
   root : (known_by l.root).root ≡ true;
-  idle : IsIdle l.root;
+  idle : IsIdleWorker l.root;
   leave : All (λ x. MayLeave l.fn.self x) (into_iter_items l.seat-iterator);
   observers : l.observers.items ++ observers_of (into_iter_items l.seat-iterator)
       ≡ observers_of l.fn.hired.items;
