@@ -1,4 +1,4 @@
--- Turns of an acceptor, one behind another.
+-- Turns of an acceptor, one after another.
 use Rattle.std.proofs.Common.{◌≡◌, ◌⊎◌, inl, inr, ℕ, suc, Bool, true, false, List, [], ◌∷◌, ◌++◌}
 use Rattle.std.proofs.Common.{Option, Some, None, refl, sym, subst, ap}
 use Rattle.std.specs.Prelude.{nat_lt}
@@ -15,7 +15,7 @@ use Rattle.acceptor.specs.Accepting.{ServesAccept, Gives, OneEnd, NoEnd, Failure
 use Rattle.acceptor.specs.Accepting.{most_connections}
 use Rattle.ev_base.specs.Story.{AreNumbered, NumbersFrom}
 
--- a course and more turns behind it
+-- a course and more turns after it
 pub course-more : (start : Progress) (had items : List (Item ServerNote)) (p q : Progress)
     → Course start had p → Course p items q → Course start (had ++ items) q
 course-more start [] items p q first next =
@@ -99,7 +99,7 @@ numbers-course start p (item ∷ had) course h =
     numbers-course course.0 p had course.2
     (numbers-upcall item.upcall start course.0 item course.1 h)
 
--- where the listener tells its story, the end that it gives has the next number
+-- if the listener tells its story, the end that it gives has the next number
 pub told-serial : (n : ℕ) (a b : Option Offering) (serial : Option ℕ) (offers : List Offer)
     → NumbersFrom n a → TakesSerial a serial b → IsOffering a offers → serial ≡ Some n
 told-serial n None b serial offers h m told = absurd told

@@ -25,7 +25,7 @@ pub record Progress : Type 0 where
   pub last_accept : Option Try
   -- whether one of them failed
   pub failed : Bool
-  -- how far the story of its listener was told, where that is told
+  -- how far the story of its listener was told, if that is told
   pub offering : Option Offering
 
 -- at the start
@@ -84,7 +84,7 @@ ServesAccept (OneEnd serial) before item after = TakesConnection before serial i
 ServesAccept NoEnd before item after = FindsNone before item after
 ServesAccept Failure before item after = FailsOnce before item after
 
--- the turn makes one accept, which takes the next of the listener's story where that is told
+-- the turn makes one accept, which takes the next of the listener's story if that is told
 pub record AcceptsOnce (before : Progress) (item : Item ServerNote) (after : Progress) : Type 0
   where
     pub gave : Gives
@@ -114,7 +114,7 @@ ServesUpcall (Notice kind) before item after = MakesNoAccept before item after
 abbrev pub Turns : Progress → Item ServerNote → Progress → Type 0
 Turns before item after = ServesUpcall item.upcall before item after
 
--- turns one behind another, each from where the one before left it
+-- turns one after another, each from where the one before left it
 abbrev pub Course : Progress → List (Item ServerNote) → Progress → Type 0
 Course start [] p = p ≡ start
 Course start (item ∷ items) p = (next : Progress) × Turns start item next × Course next items p

@@ -13,7 +13,7 @@ use Rattle.log_handler.specs.declared.note.ServerNote.TheVariants as note
 use Rattle.acceptor.specs.declared.acceptor.Acceptor.{Acceptor}
 use Rattle.acceptor.specs.Accepting.{Progress, at_start, Course}
 
--- at the start the whole of the listener's story was left, where the terms have it
+-- at the start the whole of the listener's story was left, if the terms have it
 abbrev pub BeginsOffers : Terms → Option Offering → Type 0
 BeginsOffers t offering = (offers : List Offer) → t.offers ≡ Some offers
     → offering ≡ Some (record { given = []; left = offers })
@@ -32,7 +32,7 @@ pub record HasListened (p : Progress) (e : EndFacts) : Type 0 where
   pub faults : HasFaults p.failed e.faults
 
 -- An acceptor had these turns, and its listener tells this. Its connections have this idle time.
--- Where the listener's story is told, the acceptor was registered and no turn installed it, and its
+-- If the listener's story is told, the acceptor was registered and no turn installed it, and its
 -- listener has no serial number.
 pub record Listened {E : Type 0} (tells : E → EndFacts) (keeps : Terms → E → Type 0) (t : Terms)
     (origin : Option (Origin ServerNote)) (idle : Option ℕ)

@@ -3,7 +3,7 @@
 use Rattle.std.specs.Prelude.{◌≡◌, ◌≤◌, ℕ, Option, Some, None}
 use Rattle.reactor_model.specs.Turns.{most_milliseconds}
 
--- an idle time, where it is given, can be the delay of a timer
+-- an idle time, if it is given, can be the delay of a timer
 abbrev pub IsIdleTime : Option ℕ → Type 0
 IsIdleTime time = (idle : ℕ) → time ≡ Some idle → (1 ≤ idle) × (idle ≤ most_milliseconds)
 

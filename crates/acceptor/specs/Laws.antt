@@ -30,7 +30,7 @@ serials_of (Connection serial ∷ offers) = serial ∷ serials_of offers
 serials_of (NoneThere ∷ offers) = serials_of offers
 serials_of (OneFailure ∷ offers) = serials_of offers
 
--- A front of the offers that were left was taken, with so many connections. Where the story numbers
+-- A front of the offers that were left was taken, with so many connections. If the story numbers
 -- its connections from this one on, these have the numbers from it on.
 pub record TakesFront (start now : Offering) (first many : ℕ) : Type 0 where
   pub front : List Offer
@@ -56,7 +56,7 @@ pub record Accounts (offering : Option Offering) (had : List (Item ServerNote))
   -- each turn of input made one accept while it might take one more, and no other turn did
   pub accepts : p.taken < most_connections → p.accepts ≡ count_by on_input had
   pub no_others : p.accepts ≤ count_by on_input had
-  -- the ends that it took are a front of the listener's story, where that is told, and connection c
+  -- the ends that it took are a front of the listener's story, if that is told, and connection c
   -- is that of number c
   pub offers : TakesOffers offering p.offering 0 p.taken
 

@@ -45,7 +45,7 @@ ServerGone tells keeps t origin end had reason said =
 abbrev pub read_alone : Mask
 read_alone = record { read = true; write = false; except = false }
 
--- Which acts a turn may carry: at input a connection is installed, with that mask and, where the
+-- Which acts a turn may carry: at input a connection is installed, with that mask and, if the
 -- terms have the idle time, its timer; and a notice stops the reactor.
 abbrev pub ServerMay : Terms → Upcall → Deed → Type 0
 ServerMay t Input (Installing mask timer) =

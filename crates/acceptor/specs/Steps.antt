@@ -68,7 +68,7 @@ pub record NotesAccept (taken : ℕ) (old new : EndFacts) (said : ServerNote) : 
       ↔ ((most_connections ≤ taken) ⊎ (new.last_read ≡ Some Paused))
 
 -- What a turn of input tells: of an acceptor, what its one accept came to; and a connection answers
--- Keep exactly where its one read paused.
+-- Keep exactly if its one read paused.
 abbrev pub TellsInput : {E : Type 0} {G : Ghosts E} → (E → EndFacts) → ServerHandler E G
     → ServerHandler E G → Turn (ServerHandler E G) ServerNote E → Type 0
 TellsInput tells (Listen old) (Listen new) turn =

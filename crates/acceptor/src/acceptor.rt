@@ -37,7 +37,7 @@ pub struct Acceptor<E: PeerEnd> {
 }
 
 impl<E: PeerEnd> Acceptor<E> {
-    /// An acceptor over a listener that has made no accept. Where `idle` is given, it is from 1 to
+    /// An acceptor over a listener that has made no accept. If `idle` is given, it is from 1 to
     /// 4,294,967,295, and each of its connections is closed once so many milliseconds brought no
     /// bytes. It takes no memory.
     pub fn new(alloc: Global, end: E, idle: Option<u64>) -> Acceptor<E>

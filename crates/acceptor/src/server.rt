@@ -60,10 +60,10 @@ impl<E: PeerEnd> EventHandler for ServerHandler<E> {
             → TakesTurn (servers E.tells E.keeps) t origin up now had self.new result }
         ensures promises { KeepsPromises (servers E.tells E.keeps) up result }
 
-        // An acceptor stops the reactor at a notice, and offers a connection where it accepted one.
+        // An acceptor stops the reactor at a notice, and offers a connection if it accepted one.
         ensures acts { ActsSo self.old up result }
 
-        // Of input: what an acceptor's one accept came to, and where a connection's one read
+        // Of input: what an acceptor's one accept came to, and whether a connection's one read
         // paused.
         ensures tells { up ≡ Input → TellsInput E.tells self.old self.new result }
     {

@@ -123,7 +123,7 @@ pub one_passes : (left byte : ℕ) (t : List ℕ) → 1 ≤ left
     → wide_behind left (byte ∷ t) ≡ byte ∷ wide_behind (left - 1) t
 one_passes left byte t h = wide_pass left (byte ∷ []) t h
 
--- ---- pieces one behind another
+-- ---- pieces one after another
 
 -- bytes that are as they are
 pub passed_on : (all bytes : List ℕ) (old place new : Place) (at count : ℕ)

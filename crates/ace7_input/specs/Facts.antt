@@ -5,7 +5,7 @@ use Rattle.ev_base.specs.Source.{SourceFacts}
 use Rattle.ev_base.specs.End.{EndFacts}
 use Rattle.ace7_input.specs.Wide.{as_wide}
 
--- what was given, and what is left behind that of what stands for all bytes
+-- what was given, and what is left after that of what stands for all bytes
 abbrev pub wide_bytes : ReaderBytes → ReaderBytes
 wide_bytes b = record {
   given = as_wide b.given;

@@ -25,7 +25,7 @@ behind (Payload left) t = wide_behind left t
 behind (Header begun) t = behind_begun (bytes_of begun) t
 behind Behind t = t
 
--- the place behind a whole header
+-- the place after a whole header
 abbrev pub place_after : List ℕ → Place
 place_after header =
     if is_wide_length (payload_length header) then Payload (payload_length header) else Behind
@@ -34,7 +34,7 @@ place_after header =
 abbrev pub Passes : Place → List ℕ → List ℕ → Place → Type 0
 Passes old piece given new = (t : List ℕ) → behind old (piece ++ t) ≡ given ++ behind new t
 
--- where a reader tells its bytes, those that it gave end at this place
+-- if a reader tells its bytes, those that it gave end at this place
 abbrev pub EndsAt : Option ReaderBytes → Place → Type 0
 EndsAt bytes place = (b : ReaderBytes) → bytes ≡ Some b → (t : List ℕ)
     → as_wide (b.given ++ t) ≡ as_wide b.given ++ behind place t

@@ -21,8 +21,8 @@ abbrev pub is_header : List ℕ → Bool
 is_header t = nat_lt (octet t) 4 && (not (nat_lt (length t) 8) && is_wide_length (payload_length t))
 
 -- What stands for a list, of which so many bytes are no header's order octet: those are as they
--- are. Then comes a header, whose order octet is widened. Behind a whole one come the 7 bytes of
--- its rest, its payload and the next header. Behind what is no header all is as it is.
+-- are. Then comes a header, whose order octet is widened. After a whole one come the 7 bytes of
+-- its rest, its payload and the next header. After what is no header all is as it is.
 unfoldable pub wide_behind : ℕ → List ℕ → List ℕ
 wide_behind passing [] = []
 wide_behind (suc passing) (byte ∷ t) = byte ∷ wide_behind passing t

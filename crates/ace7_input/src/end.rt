@@ -9,8 +9,8 @@ ghost use Rattle.ace7_input.specs.Places.{EndsAt};
 use crate::place::Place;
 use ev_base::{Got, Handle, Mask, Net, NetFailed, PeerEnd, Sent, Taken};
 
-/// An end whose reads give the bytes of another one, where each header has the order octet of
-/// version 2. Each call makes the same call of that one, once, and takes no memory. It tells no
+/// An end whose reads give the bytes of another one, but with the order octet of version 2 in
+/// each header. Each call makes the same call of that one, once, and takes no memory. It tells no
 /// parts of a story.
 #[derive(Drop)]
 pub struct Ace7End<E: PeerEnd> {

@@ -8,8 +8,8 @@ ghost use Rattle.ace7_input.specs.Places.{EndsAt};
 use crate::place::Place;
 use ev_base::{Got, Source};
 
-/// A source whose bytes are those of another one, where each header has the order octet of version
-/// 2. It makes one read of that for each of its own, and takes no memory.
+/// A source whose bytes are those of another one, but with the order octet of version 2 in each
+/// header. It makes one read of that for each of its own, and takes no memory.
 #[derive(Drop)]
 pub struct Ace7Source<S: Source> {
     inner: S,

@@ -10,7 +10,7 @@ use Rattle.proactor.specs.declared.service.AioNote.{AioNote}
 use Rattle.aio_lines.specs.declared.watch.ConnectionLines.{ConnectionLines}
 use Rattle.aio_lines.specs.Watch.{PutsLines, watch_faults, is_broken, sink_of}
 
--- Where a write failed, the count is above that of the terms, if they have it.
+-- If a write failed, the count is above that of the terms, if they have it.
 pub breaks_above : {K : Type 0} (facts : K → SinkFacts) (t : Terms) (sink : ConnectionLines K)
     (h : List (Entry AioNote)) (before : ℕ) → PutsLines facts t sink h →
     is_broken sink ≡ true → t.output_faults ≡ Some before

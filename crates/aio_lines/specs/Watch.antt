@@ -25,7 +25,7 @@ whole_of sink = sink.whole
 -- It has seen these entries: since its sink told what it tells at the start, the sink took their
 -- lines; or, once a write failed, it took a front of them, in which are all lines of the entries
 -- that it saw before that. The text and the count of faults at the start are those of the terms,
--- where these have them.
+-- if these have them.
 pub record PutsLines {K : Type 0} (facts : K → SinkFacts) (t : Terms) (sink : ConnectionLines K)
     (h : List (Entry AioNote)) : Type 0 where
   pub start : SinkFacts

@@ -24,7 +24,7 @@ pub struct AioWords {
     pub until: Option<u64>,
 }
 
-/// What these words say, which stand after `aio`, or `None` where they are not as they have to be:
+/// What these words say, which stand after `aio`, or `None` if they are not as they have to be:
 /// `--port P` and, if wanted, `--until N`, or `--port=P` and `--until=N`, in any order and each at
 /// most once. A number is decimal digits without a sign and without a leading zero. The word `--`
 /// is refused. `NoMemory` says nothing of the words.

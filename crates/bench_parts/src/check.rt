@@ -8,7 +8,7 @@ use reactor_journal::Entry;
 use std::io;
 use std::time::Instant;
 
-/// Checks short journals, or where it is timed those of about 100,000 and 1,000,000 entries.
+/// Checks short journals, or if it is timed those of about 100,000 and 1,000,000 entries.
 pub fn run(rt: &HostRuntime, timed: bool) -> io::Result<()> {
     if !timed {
         return compare(rt, timed, 1_000, 10);

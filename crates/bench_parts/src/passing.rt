@@ -18,13 +18,13 @@ enum Way {
     Queue,
     /// A stream of so many passing modules.
     Stream(u32),
-    /// The same, where it answers with a list.
+    /// The same, if it answers with a list.
     ListingStream(u32),
     /// A passing task on a thread of its own.
     ActiveTask,
 }
 
-/// Passes one message 100 times, or where it is timed a million times.
+/// Passes one message 100 times, or if it is timed a million times.
 pub fn run<R: Runtime + Threads + Wait + Copy + Send + 'static>(
     rt: &R,
     alloc: Global,

@@ -49,7 +49,7 @@ fn post_and_take(alloc: Global, turns: u64) -> u64
     taken
 }
 
-// So many postings are made, each time again where the ring is full.
+// So many postings are made, each time again if the ring is full.
 fn post_many(ring: &Ring, mut poster: Poster, count: u64) -> Poster
     requires ring { poster_ring poster ≡ id_of ring.now }
     requires count { count ≤ 2 ^ 56 }

@@ -6,10 +6,10 @@ use std::io;
 use std::io::Read;
 use std::time::Instant;
 
-/// How often a text is read where that is timed.
+/// How often a text is read if that is timed.
 const TIMES: usize = 5;
 
-/// Says what the text on standard input is, or, where it is timed, reads it five times and prints
+/// Says what the text on standard input is, or, if it is timed, reads it five times and prints
 /// the number of its first bad line, or 0, and the nanoseconds of the fastest time.
 pub fn run(rt: &HostRuntime, timed: bool) -> io::Result<()> {
     let mut text = Vec::new(rt.alloc());
@@ -24,7 +24,7 @@ pub fn run(rt: &HostRuntime, timed: bool) -> io::Result<()> {
     }
 }
 
-/// The number of the first bad line of a text, or 0 where it is a script; None where there was no
+/// The number of the first bad line of a text, or 0 if it is a script; None if there was no
 /// memory.
 fn first_bad(alloc: Global, text: &[u8]) -> Option<u64> {
     match parse_script(alloc, text, 0) {

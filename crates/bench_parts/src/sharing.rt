@@ -10,7 +10,7 @@ use std::sync::Wait;
 use std::thread::Threads;
 use std::time::Instant;
 
-/// Makes a few holds and postings, or where it is timed many.
+/// Makes a few holds and postings, or if it is timed many.
 pub fn run<R: Runtime + Threads + Wait + Sync>(
     rt: &R,
     alloc: Global,

@@ -16,11 +16,11 @@ const SPOKES: usize = 256;
 
 const RESOLUTION: u64 = 100;
 
-/// How many timers expire in each queue where it is timed, in rounds of as many as stand in it at
+/// How many timers expire in each queue if it is timed, in rounds of as many as stand in it at
 /// once.
 const TIMED: u64 = 100_000;
 
-/// Runs 100 timers, or where it is timed 100 to 100,000.
+/// Runs 100 timers, or if it is timed 100 to 100,000.
 pub fn run(rt: &HostRuntime, timed: bool) -> io::Result<()> {
     let sizes: [u64; 4] = [100, 1_000, 10_000, 100_000];
     for size in sizes {

@@ -1,7 +1,7 @@
 //! Times the parts of the framework. Without an argument each part runs once, small, and prints
 //! what it did; with the argument `time` it runs large and prints nanoseconds for each timer,
 //! entry, message and so on. The names of parts (`timers`, `check`, `messages`, `sharing`,
-//! `script`) pick those that run; with none all do, but where it is timed not `script`, which reads
+//! `script`) pick those that run; with none all do, but if it is timed not `script`, which reads
 //! its script from standard input.
 #![tactic(auto)]
 

@@ -1,5 +1,5 @@
 //! What an event costs in the one-thread reactor: to wait for it, to start its upcall, to make it
-//! and to settle it. The handles are reported or notified in turn, 256 for each wait, also where
+//! and to settle it. The handles are reported or notified in turn, 256 for each wait, also if
 //! handles between them were closed, and the journal is handed over in volumes of 65,536 entries,
 //! which are let go. A call that is refused is made once more.
 
@@ -122,7 +122,7 @@ fn gaps_of(by: By) -> Gaps {
     }
 }
 
-/// Serves the events of so many waits, where handlers were registered: at these handles.
+/// Serves the events of so many waits, if handlers were registered: at these handles.
 fn serve(
     core: &mut BenchRows,
     by: By,

@@ -29,7 +29,7 @@ const FEW: u64 = 2_048;
 const TURNS: u32 = 20_000_000;
 
 /// Serves events by pools of 1, 2, 4 and 8 workers, and by the one-thread reactor of the same net,
-/// and prints how each run ended. Where it is timed there are about 1,000,000 events in each run,
+/// and prints how each run ended. If it is timed there are about 1,000,000 events in each run,
 /// and it prints nanoseconds for each; then how many upcalls of about 20 microseconds of work
 /// workers make in a second; and how long the slowest of 10,000 removals, and of 10,000 settlings,
 /// took beside a leader whose net waits up to 10 seconds.

@@ -1,5 +1,5 @@
 //! Times the reactor. Without an argument the one-thread reactor serves few events and prints how
-//! many entries there were, and then the journal of a short run that makes every call; behind that
+//! many entries there were, and then the journal of a short run that makes every call; after that
 //! pools serve few and print how each run ended. With `calls` that journal alone is printed. With
 //! `time` the one-thread reactor serves about 1,000,000 events and prints nanoseconds for each;
 //! with `long` about 1,000,000 of each kind with 4,000 handles, and with `longer` about 10,000,000,

@@ -5,13 +5,13 @@ use Rattle.ev_base.specs.Counts.{Rose}
 use Rattle.ev_base.specs.Bytes.{MovesOn, NothingLeft}
 use Rattle.ev_base.specs.Source.{SourceFacts}
 
--- the source's count of faults rose above the one at the start, where a read of it failed, and is
--- the same where none did
+-- the source's count of faults rose above the one at the start, if a read of it failed, and is
+-- the same if none did
 abbrev pub FaultsSince : Bool → ℕ → ℕ → Type 0
 FaultsSince true start now = Rose start now
 FaultsSince false start now = now ≡ start
 
--- The run took these bytes of the input, whose next is `extra` where one was met behind the limit.
+-- The run took these bytes of the input, whose next is `extra` if one was met past the limit.
 -- The input gave so many, and no more than the limit were taken, whether it tells them or not.
 pub record TakesInput (limit : ℕ) (failed : Bool) (i : SourceFacts) (j : SourceFacts)
     (taken extra : List ℕ) : Type 0 where

@@ -26,12 +26,12 @@ pub record Gave {S : Type 0} (facts : S → SourceFacts) (i : SourceFacts) (boun
   pub takes : TakesInput (limit_of bounded) false i (facts (input_of bounded)) taken []
   pub counts : count_of bounded ≡ length taken
 
--- a byte stands behind the last that may be read
+-- a byte stands after the last that may be read
 pub record IsTooLong (limit : ℕ) (i j : SourceFacts) (taken : List ℕ) : Type 0 where
   pub more : ℕ
   pub takes : TakesInput limit false i j taken (more ∷ [])
 
--- what a read into a buffer gave, behind these bytes
+-- what a read into a buffer gave, after these bytes
 abbrev pub Reads : {S : Type 0} → (S → SourceFacts) → SourceFacts → List ℕ → List ℕ → Part
     → BoundedInput S → Type 0
 Reads facts i taken buffer (part.Bytes n) new = Gave facts i new (taken ++ take n buffer)
@@ -48,7 +48,7 @@ Counts old buffer (part.Bytes n) new =
     (1 ≤ n) × (n ≤ length buffer) × (count_of new ≡ count_of old + n)
 Counts old buffer _ new = count_of new ≡ count_of old
 
--- how reading the whole input ended, and the bytes that were read; where there was no memory some
+-- how reading the whole input ended, and the bytes that were read; if there was no memory some
 -- of them are gone
 abbrev pub ReadsWhole : ℕ → SourceFacts → List ℕ → Ending → SourceFacts → Type 0
 ReadsWhole limit i bytes ending.Over j = IsReadToEnd j × TakesInput limit false i j bytes []
@@ -61,7 +61,7 @@ pub record IsReadWhole (limit : ℕ) (i j : SourceFacts) (text : List ℕ) : Typ
   pub takes : TakesInput limit false i j text []
   pub over : IsReadToEnd j
 
--- some bytes were read, and no read failed; or the read behind them failed; or one byte more than
+-- some bytes were read, and no read failed; or the read after them failed; or one byte more than
 -- the limit was there
 abbrev pub ReadsSome : ℕ → SourceFacts → SourceFacts → Type 0
 ReadsSome limit i j = (taken : List ℕ) × TakesInput limit false i j taken []

@@ -17,7 +17,7 @@ pub enum Part {
     TooLong,
 }
 
-/// A source of which at most `limit` bytes are given. Behind them one byte more is read, to see
+/// A source of which at most `limit` bytes are given. After them one byte more is read, to see
 /// whether it is there.
 #[derive(Drop)]
 pub struct BoundedInput<S> {
@@ -89,7 +89,7 @@ impl<S: Source> BoundedInput<S> {
         }
     }
 
-    // Looks whether a byte stands behind the last that may be given.
+    // Looks whether a byte stands after the last that may be given.
     fn look_behind(&mut self) -> Part
         requires full { count_of self.old ≡ limit_of self.old }
         ensures reads { (i : SourceFacts) (taken buffer : List ℕ) → Gave S.facts i self.old taken

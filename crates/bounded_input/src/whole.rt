@@ -26,7 +26,7 @@ pub enum Ending {
 /// What reading a whole input gave.
 #[derive(Drop)]
 pub struct Whole<S> {
-    /// The bytes, all that the input gave; where there was no memory, some are missing.
+    /// The bytes, all that the input gave; if there was no memory, some are missing.
     pub bytes: Vec<u8>,
     /// How it ended.
     pub ending: Ending,
@@ -49,7 +49,7 @@ pub fn read_whole<S: Source>(alloc: Global, input: S, limit: u64) -> Whole<S>
     }
 }
 
-// Reads on behind the bytes that were read, to the end.
+// Reads on after the bytes that were read, to the end.
 fn read_on<S: Source>(bounded: &mut BoundedInput<S>, bytes: &mut Vec<u8>) -> Ending
     ensures { (i : SourceFacts) → Gave S.facts i bounded.old bytes.old.items
         → ReadsWhole (limit_of bounded.old) i bytes.new.items result

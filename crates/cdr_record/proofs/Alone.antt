@@ -35,7 +35,7 @@ none_first_none_alone t (Bad w) e h =
     ∙ none_alone (left_of t))
 none_first_none_alone t (One n) e h = absurd (h n refl)
 
--- a record stands first, and bytes behind it
+-- a record stands first, and bytes after it
 behind_one : (r : LogRecord) (rest : List ℕ) (v : First) → first_of rest ≡ v → 0 < length rest
     → record_alone (r ∷ records_of rest) (left_of rest) ≡ None
 behind_one r rest More e h =
@@ -59,7 +59,7 @@ more_behind_none_alone t n e h =
     ∙ behind_one (record_in t) (drop n t) (first_of (drop n t)) refl
     (omega (arith, h, length-drop n t))))
 
--- a record stands first, and nothing behind it
+-- a record stands first, and nothing after it
 pub one_is_alone : (t : List ℕ) (n : ℕ) → first_of t ≡ One n → n ≡ length t
     → Some (record_in t) ≡ only_record t
 one_is_alone t n e all =

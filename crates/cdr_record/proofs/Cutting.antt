@@ -42,7 +42,7 @@ left_within-stop k t (One n) e s = absurd s
 
 -- ---- as many turns as there are bytes are enough
 
--- behind a record fewer bytes are left
+-- after a record fewer bytes are left
 pub fewer : (t : List ℕ) (n k : ℕ) → first_of t ≡ One n → length t ≤ suc k → length (drop n t) ≤ k
 fewer t n k e h = let w = one_within t n e in omega (arith, length-drop n t, w.0, w.1)
 
@@ -151,7 +151,7 @@ left_in_turns (suc k) t h = left_by_first t (first_of t) refl
 pub is_left : (t : List ℕ) → IsLeft t (left_of t)
 is_left t = left_in_turns (length t) t (omega arith)
 
--- the list with more behind it is read on from what was left of it
+-- the list with more after it is read on from what was left of it
 pub record GoesOn (t u : List ℕ) : Type 0 where
   pub records : records_of (t ++ u) ≡ records_of t ++ records_of (left_of t ++ u)
   pub left : left_of (t ++ u) ≡ left_of (left_of t ++ u)

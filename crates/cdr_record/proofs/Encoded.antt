@@ -54,7 +54,7 @@ seconds_bits first z f = seconds_bits_by (nat_lt first 2) z f
 
 -- ---- where the fields of a spelling stand
 
--- seven fields of these sizes, and what is behind them
+-- seven fields of these sizes, and what is after them
 pub record FieldsAt (size : ℕ) (t a k p s u m x : List ℕ) : Type 0 where
   pub payload : drop 4 t ≡ a ++ (k ++ (p ++ (s ++ (u ++ (m ++ x)))))
   pub kind : drop 8 t ≡ k ++ (p ++ (s ++ (u ++ (m ++ x))))

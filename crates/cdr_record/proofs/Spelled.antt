@@ -17,7 +17,7 @@ use Rattle.cdr_record.proofs.Growing.{one_shrinks}
 use Rattle.cdr_record.proofs.Cutting.{first_nil, steps_over, stops_at, fewer, one_goes_on}
 use Rattle.cdr_record.proofs.Taking.{completed, none_first}
 
--- where f spells a record, that record is all that stands first in it
+-- if f spells a record, that record is all that stands first in it
 pub spells_first : (f : List ℕ) (r : LogRecord) → Spells f r → first_of f ≡ One (length f)
 spells_first f r s =
     let whole : IsWhole (length f) (octet f) (payload_length f) (fields_length f)

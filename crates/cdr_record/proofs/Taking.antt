@@ -89,13 +89,13 @@ header_is_none old piece rest a n more ea er e =
     cc)
     (cases_lt (length old) 8)
 
--- the record's length stays as bytes are moved behind its header
+-- the record's length stays as bytes are moved after its header
 payload_stays : (rest x more : List ℕ) → 8 ≤ length rest → more ≡ rest ++ x
     → payload_length more ≡ payload_length rest
 payload_stays rest x more h e = ap (λ (f : List ℕ). payload_length f) e
     ∙ word_at-append 4 rest x (omega arith) h
 
--- where more is needed still, the piece is used up
+-- if more is needed still, the piece is used up
 pub body_all : (rest piece more : List ℕ) (a b : ℕ) → a ≤ length piece → 8 ≤ length rest
     → first_of rest ≡ More
     → b ≡ min (8 + payload_length rest - length rest) (length (drop a piece))
@@ -109,7 +109,7 @@ body_all rest piece more a b within header before eb em after =
     let same = payload_stays rest (take b (drop a piece)) more header em in
     omega (arith, size, length-take b (drop a piece), length-drop a piece, short, still, same, eb)
 
--- and where a record is there, it is all that was moved
+-- and if a record is there, it is all that was moved
 pub body_one : (rest piece more : List ℕ) (a b n : ℕ) → 8 ≤ length rest → first_of rest ≡ More
     → b ≡ min (8 + payload_length rest - length rest) (length (drop a piece))
     → more ≡ rest ++ take b (drop a piece)

@@ -1,4 +1,4 @@
--- What the encoder has written, one number behind another.
+-- What the encoder has written, one number after another.
 use Rattle.std.proofs.Common.{◌≡◌, ℕ, ◌+◌, List, [], ◌∷◌, ◌++◌, length, append_assoc, refl, ◌∙◌}
 use Rattle.std.specs.Int.{w32, cast_unsigned}
 use Rattle.cdr_record.specs.declared.record.Order.{Order}

@@ -7,7 +7,7 @@ use Rattle.cdr_record.specs.declared.grammar.First.{First}
 use Rattle.cdr_record.specs.declared.grammar.First.TheVariants as first
 use Rattle.cdr_record.specs.Grammar.{first_of, record_in}
 
--- the records that stand one behind another at the front of a list, at most `most` of them
+-- the records that stand one after another at the front of a list, at most `most` of them
 abbrev pub records_within : ℕ → List ℕ → List LogRecord
 records_within zero t = []
 records_within (suc most) t =
@@ -16,12 +16,12 @@ records_within (suc most) t =
       | _ ↦ []
     ]
 
--- what is left of a list behind at most `most` records at its front
+-- what is left of a list after at most `most` records at its front
 abbrev pub left_within : ℕ → List ℕ → List ℕ
 left_within zero t = t
 left_within (suc most) t = elim (first_of t) [ first.One n ↦ left_within most (drop n t) | _ ↦ t ]
 
--- All records that stand one behind another at the front, and what is left behind them. A record
+-- All records that stand one after another at the front, and what is left after them. A record
 -- has at least one byte, so there are no more records than bytes.
 unfoldable pub records_of : List ℕ → List LogRecord
 records_of t = records_within (length t) t
@@ -64,7 +64,7 @@ decode t = record {
   stop = stop_at (taken_of t) (length (left_of t)) (first_of (left_of t));
 }
 
--- the record of a list that is read as one record, with nothing left behind it
+-- the record of a list that is read as one record, with nothing left after it
 abbrev pub record_alone : List LogRecord → List ℕ → Option LogRecord
 record_alone (entry ∷ []) [] = Some entry
 record_alone _ _ = None

@@ -6,8 +6,8 @@ use Rattle.cdr_record.specs.declared.bad.Bad.{Bad}
 use Rattle.cdr_record.specs.Decoding.{DecoderState, StandsFor, decode, bad_of}
 
 -- The decoder was fed a piece. For each list that it stood for, it stands now for that list and the
--- piece; the records that came are those that the whole has behind those of the list; and a bad
--- record is told exactly where reading the whole stops at one.
+-- piece; the records that came are those that the whole has after those of the list; and a bad
+-- record is told exactly if reading the whole stops at one.
 pub record Feeds (old : DecoderState) (piece : List ℕ) (fed : Fed) (new : DecoderState) : Type 0
   where
     pub stands : (t : List ℕ) → StandsFor old t → StandsFor new (t ++ piece)
@@ -16,7 +16,7 @@ pub record Feeds (old : DecoderState) (piece : List ℕ) (fed : Fed) (new : Deco
     pub bad : (t : List ℕ) → StandsFor old t → fed.bad ≡ bad_of (t ++ piece)
     pub same_bad : new.bad ≡ fed.bad
 
--- The decoder was fed a piece, and the records that came stand now behind those that a list had.
+-- The decoder was fed a piece, and the records that came stand now after those that a list had.
 abbrev pub FeedsTo : DecoderState → List ℕ → List LogRecord → Option Bad → List LogRecord
     → DecoderState → Type 0
 FeedsTo old piece before bad after new =
@@ -26,7 +26,7 @@ FeedsTo old piece before bad after new =
 abbrev pub fresh : DecoderState
 fresh = record { offset = 0; rest = []; bad = None }
 
--- pieces one behind another
+-- pieces one after another
 abbrev pub joined : List (List ℕ) → List ℕ
 joined [] = []
 joined (piece ∷ pieces) = piece ++ joined pieces

@@ -13,7 +13,7 @@
 --     16 to 19    16 to 23     seconds, signed
 --     20 to 23    24 to 27     microseconds, signed
 --     24 to 27    28 to 31     the message's length
---     from 28     from 32      the message, and behind it slack
+--     from 28     from 32      the message, and after it slack
 use Rattle.std.specs.Prelude.{◌≡◌, ◌≤◌, ℕ, ◌+◌, ◌-◌, ◌%◌, ◌==◌, nat_lt, if◌then◌else◌, List, length}
 use Rattle.std.specs.Prelude.{take, drop, slice_index, ℤ}
 use Rattle.std.specs.Int.{Width, w32, w64, byte_len, cast_signed}

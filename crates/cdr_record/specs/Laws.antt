@@ -12,7 +12,7 @@ use Rattle.cdr_record.specs.Decoding.{left_of, unfinished}
 use Rattle.cdr_record.specs.Feeding.{RunsThrough, fresh, joined}
 use Rattle.cdr_record.specs.Spelling.{canon, canon_2}
 
--- a record stands first exactly where that many bytes are there and spell one
+-- a record stands first exactly if that many bytes are there and spell one
 abbrev pub OneIsARecord : Type 0
 OneIsARecord = (t : List ℕ) (n : ℕ) → (first_of t ≡ first.One n)
     ↔ ((n ≤ length t) × ((r : LogRecord) × Spells (take n t) r))
@@ -26,7 +26,7 @@ abbrev pub NoSpellingBeginsAnother : Type 0
 NoSpellingBeginsAnother = (f more : List ℕ) (r s : LogRecord) → Spells f r → Spells (f ++ more) s
     → more ≡ []
 
--- what stands first is not changed by bytes that come behind it
+-- what stands first is not changed by bytes that come after it
 abbrev pub FirstStays : Type 0
 FirstStays = (t more : List ℕ) → ((n : ℕ) → first_of t ≡ first.One n
     → first_of (t ++ more) ≡ first.One n)
@@ -38,7 +38,7 @@ SpellsEach [] [] = Unit {0}
 SpellsEach (f ∷ fs) (r ∷ rs) = Spells f r × SpellsEach fs rs
 SpellsEach _ _ = ⊥
 
--- t is spellings of these records, one behind another, and then a rest at whose front no record
+-- t is spellings of these records, one after another, and then a rest at whose front no record
 -- stands
 abbrev pub IsCutInto : List ℕ → List LogRecord → List ℕ → Type 0
 IsCutInto t records rest =
@@ -70,12 +70,12 @@ abbrev pub DecodesCanon2 : Type 0
 DecodesCanon2 = (r : LogRecord) (order : Order) → HasNumbersOf32Bits r → FitsSigned w64 r.sec
     → length r.text ≤ 65536 → decode (canon_2 r order) ≡ one_record r
 
--- behind a bad record no byte counts
+-- after a bad record no byte counts
 abbrev pub BadEndsReading : Type 0
 BadEndsReading = (t more : List ℕ) (at : ℕ) → (decode t).stop ≡ Malformed at
     → decode (t ++ more) ≡ decode t
 
--- the decoder has a bad record exactly where reading stops at one, with its place and its cause,
+-- the decoder has a bad record exactly if reading stops at one, with its place and its cause,
 -- and else as many bytes as are unfinished
 abbrev pub TellsStop : Type 0
 TellsStop = (decoder : DecoderState) (t : List ℕ) → StandsFor decoder t

@@ -12,12 +12,12 @@ unfoldable pub bytes_of : Order → ℕ → ℕ → List ℕ
 bytes_of Big size n = big_bytes size n
 bytes_of Little size n = little_bytes size n
 
--- the seconds behind an order octet
+-- the seconds after an order octet
 abbrev pub seconds_bytes : ℕ → ℤ → List ℕ
 seconds_bytes first sec = bytes_of (order_of first) (seconds_size first)
     (cast_unsigned (seconds_width first) sec)
 
--- A record behind an order octet, with padding 0 and no slack: the payload is its fields and the
+-- A record after an order octet, with padding 0 and no slack: the payload is its fields and the
 -- message.
 unfoldable pub spelling : ℕ → LogRecord → List ℕ
 spelling first r =
@@ -35,7 +35,7 @@ abbrev pub octet_1 : Order → ℕ
 octet_1 Big = 0
 octet_1 Little = 1
 
--- The canonical spelling of version 1. It is defined where the seconds fit 32 bits.
+-- The canonical spelling of version 1. It is defined if the seconds fit 32 bits.
 abbrev pub canon : LogRecord → Order → List ℕ
 canon r order = spelling (octet_1 order) r
 

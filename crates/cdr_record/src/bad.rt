@@ -15,7 +15,7 @@ pub enum BadWhy {
 /// A bad record in a stream.
 #[derive(Clone, Copy, PartialEq, Eq, Hash, Debug)]
 pub struct Bad {
-    /// How many bytes of the stream stand before its first byte; `u64::MAX` where there are more
+    /// How many bytes of the stream stand before its first byte; `u64::MAX` if there are more
     /// than that.
     pub at: u64,
     /// What is wrong with it.

@@ -115,7 +115,7 @@ impl Decoder {
         }
     }
 
-    /// How many bytes of an unfinished record the decoder keeps: 0 where the stream so far ends
+    /// How many bytes of an unfinished record the decoder keeps: 0 if the stream so far ends
     /// with a record, and after a bad record.
     pub fn rest_len(&self) -> u64
         ensures { result ≡ length self.now.rest }
@@ -124,7 +124,7 @@ impl Decoder {
     }
 
     /// How many bytes of the stream the records took that were given: the place where the
-    /// unfinished record or the bad one begins. It is `u64::MAX` where there are more than that.
+    /// unfinished record or the bad one begins. It is `u64::MAX` if there are more than that.
     pub fn offset(&self) -> u64
         ensures { result ≡ self.now.offset }
     {
@@ -141,7 +141,7 @@ fn most_records(bytes: usize) -> usize
     (bytes / SHORTEST_RECORD).saturating_add(2)
 }
 
-/// How many bytes a step took for whole records, at most `u64::MAX`, and what stands first behind
+/// How many bytes a step took for whole records, at most `u64::MAX`, and what stands first after
 /// them.
 #[derive(Clone, Copy)]
 struct Step {
@@ -149,7 +149,7 @@ struct Step {
     first: First,
 }
 
-/// The bad record at a place, where this stands first there.
+/// The bad record at a place, if this stands first there.
 fn bad_at(at: u64, first: First) -> Option<Bad>
     ensures { result ≡ D.bad_at at first }
 {
@@ -160,7 +160,7 @@ fn bad_at(at: u64, first: First) -> Option<Bad>
 }
 
 /// Takes the records off the front of a list of bytes while one stands there. Gives what is left
-/// behind them, and what stands first there.
+/// after them, and what stands first there.
 fn take_records<'a, L: RecordList>(
     list: &mut L,
     bytes: &'a [u8],
@@ -220,7 +220,7 @@ fn take_whole<L: RecordList>(
     })
 }
 
-/// Moves bytes of a piece behind the rest until that has `wanted`, or the piece ends, and says how
+/// Moves bytes of a piece to the rest until that has `wanted`, or the piece ends, and says how
 /// many.
 fn fill(rest: &mut Vec<u8>, piece: &[u8], wanted: usize) -> Result<usize, AllocError>
     ensures count { IfOk result (λ n. n ≡ min (wanted - length rest.old.items) (length piece.now)) }
@@ -232,7 +232,7 @@ fn fill(rest: &mut Vec<u8>, piece: &[u8], wanted: usize) -> Result<usize, AllocE
     Ok(count)
 }
 
-/// Moves bytes of a piece behind an unfinished record until it is known what stands first there, or
+/// Moves bytes of a piece to an unfinished record until it is known what stands first there, or
 /// the piece ends. Says how many, and what stands first.
 fn complete(rest: &mut Vec<u8>, piece: &[u8]) -> Result<(usize, First), AllocError>
     requires { G.first_of rest.old.items ≡ first.More }

@@ -82,7 +82,7 @@ fn push_double_word(out: &mut Vec<u8>, order: Order, n: u64) -> Result<(), Alloc
     out.extend_from_slice(&bytes)
 }
 
-/// Appends the seconds behind an order octet.
+/// Appends the seconds after an order octet.
 #[tactic(auto, unfolding(crate::specs::Grammar::seconds_size, crate::specs::Grammar::seconds_width))]
 fn push_seconds(out: &mut Vec<u8>, octet: u8, sec: i64) -> Result<(), AllocError>
     requires { octet < 2 → FitsSigned w32 sec }
@@ -96,7 +96,7 @@ fn push_seconds(out: &mut Vec<u8>, octet: u8, sec: i64) -> Result<(), AllocError
     }
 }
 
-/// The record behind an order octet.
+/// The record after an order octet.
 fn spell(alloc: Global, octet: u8, r: &LogRecord) -> Result<Vec<u8>, AllocError>
     requires length { length r.now.text ≤ 65536 }
     requires seconds { octet < 2 → FitsSigned w32 r.now.sec }
@@ -130,8 +130,8 @@ fn octet_of(order: Order) -> u8
 
 /// The canonical spelling of a record in version 1: padding 0 and no slack.
 ///
-/// `TooLong` comes exactly where the message has more than 65,536 bytes, and `SecondsWide` exactly
-/// where the message fits and the seconds do not fit 32 bits.
+/// `TooLong` comes exactly if the message has more than 65,536 bytes, and `SecondsWide` exactly
+/// if the message fits and the seconds do not fit 32 bits.
 pub fn encode(alloc: Global, r: &LogRecord, order: Order) -> Result<Bytes, EncodeRefused>
     ensures ok { IfOk result (λ bytes. bytes ≡ S.canon r.now order) }
 
@@ -141,7 +141,7 @@ pub fn encode(alloc: Global, r: &LogRecord, order: Order) -> Result<Bytes, Encod
     ensures too_long_only { (n : ℕ) → result ≡ Err (EncodeRefused.TooLong n)
         → (65536 < length r.now.text) × (n ≡ length r.now.text) }
 
-    // So are seconds that are too wide, where the message fits.
+    // So are seconds that are too wide, if the message fits.
     ensures seconds_wide { length r.now.text ≤ 65536 → ¬ FitsSigned w32 r.now.sec
         → result ≡ Err (EncodeRefused.SecondsWide r.now.sec) }
     ensures seconds_wide_only { (s : ℤ) → result ≡ Err (EncodeRefused.SecondsWide s)
@@ -163,7 +163,7 @@ pub fn encode(alloc: Global, r: &LogRecord, order: Order) -> Result<Bytes, Encod
 /// The canonical spelling of a record in version 2, whose seconds have 64 bits: padding 0 and no
 /// slack.
 ///
-/// `TooLong` comes exactly where the message has more than 65,536 bytes, and `SecondsWide` never.
+/// `TooLong` comes exactly if the message has more than 65,536 bytes, and `SecondsWide` never.
 pub fn encode_2(alloc: Global, r: &LogRecord, order: Order) -> Result<Bytes, EncodeRefused>
     ensures ok { IfOk result (λ bytes. bytes ≡ S.canon_2 r.now order) }
 

@@ -42,7 +42,7 @@ pub(crate) fn order_of(octet: u8) -> Order
     }
 }
 
-/// How many bytes the seconds take behind an order octet.
+/// How many bytes the seconds take after an order octet.
 #[tactic(auto, unfolding(crate::specs::Grammar::seconds_size, crate::specs::Grammar::seconds_width))]
 pub(crate) fn seconds_size(octet: u8) -> usize
     ensures size { result ≡ G.seconds_size octet }

@@ -3,7 +3,7 @@
 
 ghost use Rattle.cdr_record.specs.Laws as L;
 
-/// A record stands first in a list of bytes exactly where so many bytes are there and spell one.
+/// A record stands first in a list of bytes exactly if so many bytes are there and spell one.
 pub fn one_is_a_record()
     ensures { L.OneIsARecord }
 {}
@@ -23,7 +23,7 @@ pub fn first_stays()
     ensures { L.FirstStays }
 {}
 
-/// Each stream is spellings of the records that it is decoded to, one behind another, and a rest at
+/// Each stream is spellings of the records that it is decoded to, one after another, and a rest at
 /// whose front no record stands, and it is so of no other records.
 pub fn decode_cuts()
     ensures { L.DecodeCuts }
@@ -39,12 +39,12 @@ pub fn decodes_canon_2()
     ensures { L.DecodesCanon2 }
 {}
 
-/// Behind a bad record no byte counts.
+/// After a bad record no byte counts.
 pub fn bad_ends_reading()
     ensures { L.BadEndsReading }
 {}
 
-/// A decoder has a bad record exactly where reading all that it was fed stops at one, with its
+/// A decoder has a bad record exactly if reading all that it was fed stops at one, with its
 /// place and its cause, and else as many bytes as are unfinished.
 pub fn tells_stop()
     ensures { L.TellsStop }

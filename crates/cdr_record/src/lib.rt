@@ -7,7 +7,7 @@
 //! 3 are version 2, whose seconds have 64 bits. Even is big-endian, odd little-endian. Three bytes
 //! of padding follow, and the payload's length in four bytes. The payload has the type and the
 //! process id in four bytes each, the seconds, the microseconds and the message's length in four
-//! bytes each, and the message. Padding, and slack behind the message, may hold anything in what is
+//! bytes each, and the message. Padding, and slack after the message, may hold anything in what is
 //! read.
 #![tactic(auto)]
 

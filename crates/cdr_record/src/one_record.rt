@@ -8,7 +8,7 @@ ghost use Rattle.cdr_record.specs.Decoding as D;
 use crate::grammar::{First, first_in, record_in};
 use crate::record::RecordRef;
 
-/// The record that bytes spell, where they are one record and nothing more. Its message is borrowed
+/// The record that bytes spell, if they are one record and nothing more. Its message is borrowed
 /// from them.
 pub fn only_record(bytes: &[u8]) -> Option<RecordRef<'_>>
     ensures { option_map owned result ≡ D.only_record bytes.now }

@@ -97,7 +97,7 @@ sound_course conn past start (item ∷ items) all s c sound =
     sound_course conn (past ++ c.0) c.1 items all s c.3
     (sound_both past c.0 sound (sound_turn item.upcall start c.0 c.1 c.2.serves))
 
--- ---- where the handler was done or an operation failed, its input was over or a call failed
+-- ---- if the handler was done or an operation failed, its input was over or a call failed
 
 abbrev Cause : List Event → Type 0
 Cause es = (some_of fails es ≡ true) ⊎ (some_of finds_over es ≡ true)

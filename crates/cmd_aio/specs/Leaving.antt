@@ -76,7 +76,7 @@ pub record LeavesServed {H M Q W V K E : Type 0} (m : Meaning H M Q W V AioNote 
   pub given : ran.net ≡ None → ⊥
   pub listened : ran.end ≡ end.ListenFault → ⊥
 
--- The host's count of faults rose where it could not listen, and then there is no net; and else it
+-- The host's count of faults rose if it could not listen, and then there is no net; and else it
 -- is what it was.
 abbrev pub ListensSo : {M : Type 0} → AioEnd → Option M → ℕ → ℕ → Type 0
 ListensSo end.ListenFault net before now = (net ≡ None) × Rose before now

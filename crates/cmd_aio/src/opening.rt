@@ -26,7 +26,7 @@ const MOST: u64 = 1_001;
 /// How many entries of its journal a reactor keeps at least before it lets them go.
 const VOLUME: u64 = 512;
 
-/// A reactor over a new net, with the acceptor of a new listener. Where there is none, what is left
+/// A reactor over a new net, with the acceptor of a new listener. If there is none, what is left
 /// is told, and the listener is closed.
 pub(crate) fn open<E: PeerEnd + Drop, M: Net<End = E>, K: Sink>(
     alloc: Global,

@@ -42,7 +42,7 @@ pub struct AioServed<M, K> {
 /// when that has completed, the next read. A connection is closed at the end of its input, or if an
 /// operation failed.
 ///
-/// `words` are those behind the program's name: `aio --port P [--until N]`. At most 1,000
+/// `words` are those after the program's name: `aio --port P [--until N]`. At most 1,000
 /// connections are live at once; one more is refused. When a connection is closed or refused the
 /// line `{conn} read {R} wrote {W} cancelled {C}` is written: its number from 0, in the order in
 /// which they came, how many bytes were read and written, and how many operations were cancelled.

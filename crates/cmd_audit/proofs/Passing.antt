@@ -28,7 +28,7 @@ all_read given text taken (Some now) moves none =
     sym (moves.0 ∙ ap (λ (l : List ℕ). (taken ++ []) ++ l) none ∙ append-nil (taken ++ [])
     ∙ append-nil taken)
 
--- a byte that is there behind some is one of the text
+-- a byte that is there after some is one of the text
 more_there : (given text taken : List ℕ) (more : ℕ) (now : Option ReaderBytes)
     → MovesOn (Some (record { given = given; left = text })) (taken ++ more ∷ []) now
     → length taken < length text

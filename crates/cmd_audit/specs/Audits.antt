@@ -78,7 +78,7 @@ AuditsText text o p (end.Illegal at) =
 AuditsText text o p end.NoMemory = p ≡ o
 AuditsText text o p _ = ⊥
 
--- how it ends where the check refused the journal
+-- how it ends if the check refused the journal
 abbrev pub ended_by : CheckRefused → AuditEnd
 ended_by (refused.Illegal at) = end.Illegal at
 ended_by refused.NoMemory = end.NoMemory

@@ -12,8 +12,8 @@ use Rattle.cmd_audit.specs.Audits.{Audits, legal_line}
 use Rattle.cmd_audit.specs.declared.auditing.AuditEnd.{AuditEnd}
 use Rattle.cmd_audit.specs.declared.auditing.AuditEnd.TheVariants as end
 
--- The line of a legal journal of so many entries was written, or a front of it where a write
--- failed; or nothing was, where a read failed, the text is longer than the limit, or there was no
+-- The line of a legal journal of so many entries was written, or a front of it if a write
+-- failed; or nothing was, if a read failed, the text is longer than the limit, or there was no
 -- memory. It is neither bad text nor illegal.
 abbrev pub Passes : ℕ → ℕ → ℕ → SourceFacts → SinkFacts → SourceFacts → SinkFacts → AuditEnd
     → Type 0

@@ -47,7 +47,7 @@ pub struct Audited<S, K> {
 }
 
 /// Reads the text of a journal to its end, of which `limit` bytes may be read, checks the journal,
-/// and writes `legal N` and a line feed where it is legal, N its number of entries.
+/// and writes `legal N` and a line feed if it is legal, N its number of entries.
 pub fn audit<S: Source, K: Sink>(alloc: Global, input: S, output: K, limit: u64) -> Audited<S, K>
     ensures { Audits limit (S.facts input) (K.facts output) (S.facts result.input)
         (K.facts result.output) result.end }
@@ -68,7 +68,7 @@ pub fn audit<S: Source, K: Sink>(alloc: Global, input: S, output: K, limit: u64)
     }
 }
 
-/// What is left where nothing was written.
+/// What is left if nothing was written.
 fn refused<S, K>(end: AuditEnd, input: S, output: K) -> Audited<S, K>
     ensures { result ≡ record { end = end; input = input; output = output } }
 {
@@ -93,7 +93,7 @@ fn audit_text<K: Sink>(alloc: Global, text: Vec<u8>, output: K) -> (AuditEnd, K)
     }
 }
 
-/// How it ends where the check refused the journal.
+/// How it ends if the check refused the journal.
 fn end_of(refused: CheckRefused) -> AuditEnd
     ensures { result ≡ ended_by refused }
 {

@@ -48,7 +48,7 @@ left-behind law cut put rest h stuck =
     ∙ (decodes-behind law h.pieces h.records rest h.spells).left
     ∙ (stuck-is-left law rest stuck).all
 
--- where the rest is the beginning of a record or nothing, no record is bad
+-- if the rest is the beginning of a record or nothing, no record is bad
 unfinished-is-sound : (n at : ℕ) → ¬ (unfinished n ≡ Malformed at)
 unfinished-is-sound zero at e = absurd (cc e)
 unfinished-is-sound (suc n) at e = absurd (cc e)
@@ -61,7 +61,7 @@ no-bad law cut put rest h more = λ at e.
     (sym (stop-of (cut ++ rest) rest left
     ∙ ap (stop_at (length (cut ++ rest) - length rest) (length rest)) more) ∙ e)
 
--- bytes are none exactly where their count is 0
+-- bytes are none exactly if their count is 0
 pub empty-or-not : (xs ys : List ℕ) (b : Bool) → b ≡ (length xs == 0) → xs ≡ ys
     → (b ≡ true → ys ≡ []) × (b ≡ false → ys ≢ [])
 empty-or-not [] ys b e s = (λ t. sym s, λ f. absurd (eqb-false 0 0 (sym e ∙ f) refl))

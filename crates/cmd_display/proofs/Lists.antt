@@ -17,7 +17,7 @@ cut-more cut held at count =
     ∙ ap (λ xs. take count (drop at held) ++ xs) (drop-drop count at held))
     ∙ sym (append_assoc cut (take count (drop at held)) (drop (at + count) held))
 
--- what was read stands behind the rest, which was moved to the front
+-- what was read stands after the rest, which was moved to the front
 pub fill-more : (cut rest held part held' : List ℕ) (at : ℕ) → at ≡ 0 → drop at held ≡ rest
     → held' ≡ held ++ part → (cut ++ rest) ++ part ≡ cut ++ drop at held'
 fill-more cut rest held part held' zero z r e =
@@ -38,12 +38,12 @@ pub flat-next : {X : Type 0} (f : X → List ℕ) (items : List X) (k : ℕ) (x 
 flat-next f items k x lt e = let next : suc k ≡ k + 1 = omega arith in
     flat-suc f items k x lt e ∙ ap (λ n. flat_map f (take n items)) next
 
--- what holds anyway holds of an answer where it is Ok
+-- what holds anyway holds of an answer if it is Ok
 pub on-ok-any : {T E X : Type 0} (r : Result T E) → X → OnOk r X
 on-ok-any (Ok x) h = h
 on-ok-any (Err e) h = tt
 
--- of two values that an answer decides between, the first one where it is Ok
+-- of two values that an answer decides between, the first one if it is Ok
 pub where-ok : {T E X : Type 0} (x a b : X) (r : Result T E) {t : T} → r ≡ Ok t
     → x ≡ (if is_ok r then a else b) → x ≡ a
 where-ok x a b (Ok y) is e = e

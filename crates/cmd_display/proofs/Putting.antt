@@ -48,7 +48,7 @@ front-on gives gives' facts first second o put texts more task next (Err e) runs
   writes = w.2;
 }
 
--- where all were put, a front was
+-- if all were put, a front was
 pub front-of : {F G K : Type 0} (gives : F → Gives) (gives' : G → Gives) (facts : K → SinkFacts)
     (first second : Gives) (o : SinkFacts) (put : List MessageState) (pipeline : Pipeline F G K)
     → Shows gives gives' facts first second o put pipeline

@@ -38,7 +38,7 @@ stands-first law t n e =
       most = omega (arith, long, spells.whole, spells.most, seconds_size-most (octet (take n t)));
     }
 
--- ---- records one behind another
+-- ---- records one after another
 
 spells-one-more : (pieces : List (List ℕ)) (records : List LogRecord) (f : List ℕ)
     (entry : LogRecord) → SpellsEach pieces records → Spells f entry

@@ -21,14 +21,14 @@ use Rattle.cmd_display.specs.Shown.{IsCut, message_of, shown_line, shown_of}
 use Rattle.sink_buffer.proofs.Gathering.{takes-all}
 use Rattle.cmd_display.proofs.Records.{IsStuck, decodes-behind, stuck-is-left}
 
--- what was put into the sink behind the bytes of some messages are those of others
+-- what was put into the sink, after the bytes of some messages were, are those of others
 pub gathers-both : {K : Type 0} (facts : K → SinkFacts) (o : SinkFacts) (sink : SinkBuffer K)
     (xs ys : List MessageState) → Gathers facts o sink (text_of xs ++ text_of ys)
     → Gathers facts o sink (text_of (xs ++ ys))
 gathers-both facts o sink xs ys h =
     subst (λ text. Gathers facts o sink text) (sym (flat_map-append bytes_of xs ys)) h
 
--- where a write failed, more can be taken for put
+-- if a write failed, more can be taken for put
 pub gathers-behind : {K : Type 0} (facts : K → SinkFacts) (o : SinkFacts) (sink : SinkBuffer K)
     (put more : List ℕ) → is_broken sink ≡ true → Gathers facts o sink put
     → Gathers facts o sink (put ++ more)
@@ -82,7 +82,7 @@ prefix-through xs ys zs b c = (
       ∙ append_assoc xs b.0 c.0,
 )
 
--- The text that was put into the sink: a front of what is shown of the bytes, and where it was
+-- The text that was put into the sink: a front of what is shown of the bytes, and if it was
 -- whole and no record stands first in the rest, all of it.
 pub record IsText {K : Type 0} (facts : K → SinkFacts) (o : SinkFacts) (bytes : List ℕ)
     (all : Type 0) (sink : SinkBuffer K) : Type 0 where

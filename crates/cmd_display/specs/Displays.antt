@@ -10,7 +10,7 @@ use Rattle.cmd_display.specs.declared.showing.DisplayEnd.{DisplayEnd}
 use Rattle.cmd_display.specs.declared.showing.DisplayEnd.TheVariants as end
 use Rattle.cmd_display.specs.Shown.{shown_of}
 
--- all records were shown, and nothing is left behind them
+-- all records were shown, and nothing is left after them
 pub record IsDone (limit : ℕ) (i : SourceFacts) (o : SinkFacts) (j : SourceFacts)
     (p : SinkFacts) : Type 0 where
   pub taken : List ℕ
@@ -19,7 +19,7 @@ pub record IsDone (limit : ℕ) (i : SourceFacts) (o : SinkFacts) (j : SourceFac
   pub stop : (decode taken).stop ≡ Clean
   pub written : TakesAll o (shown_of taken) p
 
--- reading stops at this place: a bad record stands there, or an unfinished one, behind which the
+-- reading stops at this place: a bad record stands there, or an unfinished one, after which the
 -- input is over
 abbrev pub StopsAtRecord : SourceFacts → List ℕ → ℕ → Type 0
 StopsAtRecord j taken at = ((decode taken).stop ≡ Malformed at)
@@ -37,7 +37,7 @@ pub record IsBadRecord (limit : ℕ) (i : SourceFacts) (o : SinkFacts) (j : Sour
   pub stop : StopsAtRecord j taken at
   pub written : TakesAll o (shown_of taken) p
 
--- A read failed behind bytes in which no record is bad: a front of what is shown of them was
+-- A read failed after bytes in which no record is bad: a front of what is shown of them was
 -- written, unless a write failed too.
 pub record IsReadFault (limit : ℕ) (i : SourceFacts) (o : SinkFacts) (j : SourceFacts)
     (p : SinkFacts) : Type 0 where

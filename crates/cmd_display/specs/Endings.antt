@@ -14,7 +14,7 @@ format_gives messages = map formatted messages
 abbrev pub separate_gives : Gives
 separate_gives messages = map separated messages
 
--- how it ends where reading was not at fault: a failed write first, then want of memory
+-- how it ends if reading was not at fault: a failed write first, then want of memory
 abbrev pub ending_by : Bool → Bool → DisplayEnd → DisplayEnd
 ending_by true whole found = end.WriteFault
 ending_by false false found = end.NoMemory
@@ -26,7 +26,7 @@ found_at_end place true = end.Done
 found_at_end place false = end.BadRecord place
 
 -- How it ends, by why no more records were read, whether a write failed, whether all came out of
--- the tasks, how many bytes were cut, and whether none is left behind them: a failed read stands
+-- the tasks, how many bytes were cut, and whether none is left after them: a failed read stands
 -- before all.
 abbrev pub ending_of : Stop → Bool → Bool → ℕ → Bool → DisplayEnd
 ending_of stop.Failed broken whole place none_left = end.ReadFault

@@ -1,4 +1,4 @@
--- Two active tasks one behind the other, and the sink behind them (C++NPv2 chapter 9: streams of
+-- Two active tasks one after the other, and the sink after them (C++NPv2 chapter 9: streams of
 -- modules with active tasks).
 use Rattle.std.specs.Prelude.{◌≡◌, ℕ, Bool, true, false, List, [], ◌++◌, flat_map}
 use Rattle.ev_base.specs.Sink.{SinkFacts}
@@ -43,8 +43,8 @@ pub record ShowsFront {F G K : Type 0} (gives : F → Gives) (gives' : G → Giv
   pub follows : Begins fed texts
   pub writes : Prints gives' facts second o fed pipeline.second
 
--- Where these messages follow what was put into the second task, a front of both was put; else what
--- was put before. Where it was whole all were put.
+-- If these messages follow what was put into the second task, a front of both was put; else what
+-- was put before. If it was whole all were put.
 pub record PutsLast {G K : Type 0} (gives : G → Gives) (facts : K → SinkFacts) (second : Gives)
     (o : SinkFacts) (fed messages : List MessageState) (follow whole : Bool)
     (task : Second G K) : Type 0 where
@@ -54,9 +54,9 @@ pub record PutsLast {G K : Type 0} (gives : G → Gives) (facts : K → SinkFact
   pub writes : Prints gives facts second o put task
   pub all : whole ≡ true → (follow ≡ true) × (put ≡ fed ++ messages)
 
--- The second task has ended. Where these messages follow what was put before, a front of both was
+-- The second task has ended. If these messages follow what was put before, a front of both was
 -- put; else what was put before. What came out was put into the sink, where nothing is held back,
--- and is a front of what it gives for that. Where it was whole it is all.
+-- and is a front of what it gives for that. If it was whole it is all.
 pub record WritesLast {K : Type 0} (facts : K → SinkFacts) (second : Gives) (o : SinkFacts)
     (fed messages : List MessageState) (follow whole : Bool) (sink : SinkBuffer K) : Type 0 where
   pub put : List MessageState
@@ -70,7 +70,7 @@ pub record WritesLast {K : Type 0} (facts : K → SinkFacts) (second : Gives) (o
 
 -- Both tasks have ended. What came out of the second was put into the sink, where nothing is held
 -- back; it is a front of what it gives for a front of what the first gives for these messages, or a
--- front of them, and where it was whole, it is all.
+-- front of them, and if it was whole, it is all.
 pub record HasEnded {K : Type 0} (facts : K → SinkFacts) (first second : Gives) (o : SinkFacts)
     (put : List MessageState) (whole : Bool) (sink : SinkBuffer K) : Type 0 where
   pub front : List MessageState
@@ -83,7 +83,7 @@ pub record HasEnded {K : Type 0} (facts : K → SinkFacts) (first second : Gives
   pub nothing_held : is_broken sink ≡ false → held_of sink ≡ []
   pub all : whole ≡ true → (front ≡ put) × (fed ≡ first front) × (lines ≡ second fed)
 
--- Whatever messages were put: all of them, or, where one was lost for want of memory, a front of
+-- Whatever messages were put: all of them, or, if one was lost for want of memory, a front of
 -- them.
 abbrev pub ArePut : {F G K : Type 0} → (F → Gives) → (G → Gives) → (K → SinkFacts) → Gives → Gives
     → SinkFacts → List MessageState → Bool → Pipeline F G K → Type 0

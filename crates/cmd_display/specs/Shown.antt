@@ -35,7 +35,7 @@ shown_of bytes = flat_map shown_line (decode bytes).records
 abbrev pub message_of : List ℕ → MessageState
 message_of bytes = record { priority = 0; blocks = block_of bytes ∷ [] }
 
--- these bytes spell records, one behind another, and these are the messages of their bytes
+-- these bytes spell records, one after another, and these are the messages of their bytes
 pub record IsCut (cut : List ℕ) (put : List MessageState) : Type 0 where
   pub pieces : List (List ℕ)
   pub records : List LogRecord
@@ -44,8 +44,8 @@ pub record IsCut (cut : List ℕ) (put : List MessageState) : Type 0 where
   pub messages : put ≡ map message_of pieces
 
 -- The bytes of the input were cut so far. It stopped there: at the end of the input, where the rest
--- is the beginning of a record or nothing, or at a bad record; at a failed read or a byte behind
--- the limit, behind a rest of the first kind; for want of memory; or because a write failed.
+-- is the beginning of a record or nothing, or at a bad record; at a failed read or a byte past
+-- the limit, after a rest of the first kind; for want of memory; or because a write failed.
 abbrev pub StopsAt : {S : Type 0} → (S → SourceFacts) → SourceFacts → Window S → List ℕ → Stop
     → Type 0
 StopsAt facts i window cut stop.Over =

@@ -1,4 +1,4 @@
-//! Two active tasks one behind the other, and the sink behind them.
+//! Two active tasks one after the other, and the sink after them.
 ghost use Rattle.std.specs.Prelude.{◌≡◌, ◌≤◌, ◌++◌, [], List, length, OnOk, OnErr, IfOk, IfErr};
 ghost use Rattle.ev_base.specs.Sink.{SinkFacts};
 ghost use Rattle.sink_buffer.specs.Gathers.{Gathers, is_broken};
@@ -89,7 +89,7 @@ impl<F: Task + Send + 'static, G: Task + Send + 'static, K: Sink> Pipeline<F, G,
         self.second.spares.message()
     }
 
-    /// A list of no messages, in memory that is used again, where there is some.
+    /// A list of no messages, in memory that is used again, if there is some.
     pub(crate) fn list(&mut self) -> Vec<Message>
         ensures none { result.items ≡ [] }
         ensures shows { (first second : Gives) (o : SinkFacts) (put : List MessageState)
@@ -116,7 +116,7 @@ impl<F: Task + Send + 'static, G: Task + Send + 'static, K: Sink> Pipeline<F, G,
     }
 
     /// Ends both tasks, and tells whether all came out that was to come. `all` says whether every
-    /// message was put; where one was lost, what comes out of the first task is lost too.
+    /// message was put; if one was lost, what comes out of the first task is lost too.
     pub(crate) fn end<R: Threads + Wait>(self, rt: &R, all: bool) -> (SinkBuffer<K>, bool)
         ensures ends { (first second : Gives) (o : SinkFacts) (put : List MessageState)
             → ArePut F.gives G.gives K.facts first second o put all self

@@ -1,4 +1,4 @@
-//! The second of two active tasks, and the sink behind it.
+//! The second of two active tasks, and the sink after it.
 ghost use Rattle.std.specs.Prelude.{◌≡◌, ◌≤◌, ◌++◌, ◌∷◌, [], ℕ, List, length, true, false, OnOk};
 ghost use Rattle.std.specs.Prelude.{OnErr};
 ghost use Rattle.ev_base.specs.Sink.{SinkFacts};
@@ -101,7 +101,7 @@ impl<G: Task + Send + 'static, K: Sink> Second<G, K> {
         Ok(())
     }
 
-    /// Puts the last messages, where they may follow what was put, and tells whether all were put.
+    /// Puts the last messages, if they may follow what was put, and tells whether all were put.
     fn put_last<R: Wait>(&mut self, rt: &R, messages: Messages, follow: bool) -> bool
         ensures puts { (second : Gives) (o : SinkFacts) (fed : List MessageState)
             → Prints G.gives K.facts second o fed self.old
@@ -117,7 +117,7 @@ impl<G: Task + Send + 'static, K: Sink> Second<G, K> {
         }
     }
 
-    /// Puts the last messages into the task, where they may follow what was put, ends it, and
+    /// Puts the last messages into the task, if they may follow what was put, ends it, and
     /// writes what comes out. It tells whether all came out; what did not was lost for want of
     /// memory.
     pub(crate) fn end<R: Threads + Wait>(

@@ -35,11 +35,11 @@ const TOGETHER: usize = 64;
 /// here.
 #[derive(Clone, Copy, PartialEq, Eq, Debug)]
 pub enum DisplayEnd {
-    /// All records of the input were written, and nothing was left behind them.
+    /// All records of the input were written, and nothing was left after them.
     Done,
     /// A read failed.
     ReadFault,
-    /// A write failed, behind which nothing was written.
+    /// A write failed, after which nothing was written.
     WriteFault,
     /// There was no memory for a record or its text.
     NoMemory,
@@ -91,8 +91,8 @@ enum Cut {
     NoMemory,
 }
 
-/// Writes the text of each record of an input and a line feed, in order, where `limit` bytes of the
-/// input are read at most. The bytes of each record are a message, which goes through a task that
+/// Writes the text of each record of an input and a line feed, in order. At most `limit` bytes of
+/// the input are read. The bytes of each record are a message, which goes through a task that
 /// formats it and one that ends it with a line feed; both run on threads of their own, and are
 /// finished whatever comes.
 pub fn display<R: Threads + Wait + Copy + Send + 'static, S: Source, K: Sink>(
@@ -150,7 +150,7 @@ fn run<R: Threads + Wait, S: Source, K: Sink>(
 }
 
 /// How it ended, by why no more records were read, whether a write failed, whether all came out of
-/// the tasks, how many bytes were cut, and whether none is left behind them.
+/// the tasks, how many bytes were cut, and whether none is left after them.
 fn ending(stop: Stop, broken: bool, whole: bool, place: u64, none_left: bool) -> DisplayEnd
     requires { stop ≡ Stop.Broken → broken ≡ true }
     ensures { result ≡ ending_of stop broken whole place none_left }
@@ -299,7 +299,7 @@ fn cut_record<S: Source, F: Task + Send + 'static, G: Task + Send + 'static, K: 
     Ok(message)
 }
 
-/// The bytes of a record as a message of one block, in the memory of another where there is one.
+/// The bytes of a record as a message of one block, in the memory of another if there is one.
 fn message_of(alloc: Global, spare: Option<Message>, bytes: &[u8]) -> Result<Message, NoMemory>
     requires { length bytes.now ≤ 1048576 }
     ensures { IfOk result (λ message. message ≡ S.message_of bytes.now) }

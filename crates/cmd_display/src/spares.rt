@@ -21,12 +21,12 @@ impl Spares {
         }
     }
 
-    /// Keeps a message for its memory, where there is memory for its place.
+    /// Keeps a message for its memory, if there is memory for its place.
     pub(crate) fn keep(&mut self, message: Message) {
         let _ = self.messages.push(message);
     }
 
-    /// Keeps a list for its memory, where there is no other.
+    /// Keeps a list for its memory, if there is no other.
     pub(crate) fn keep_list(&mut self, list: Vec<Message>) {
         if self.list.capacity() == 0 {
             self.list = list;
@@ -38,7 +38,7 @@ impl Spares {
         self.messages.pop()
     }
 
-    /// A list of no messages, in memory that is used again, where there is some.
+    /// A list of no messages, in memory that is used again, if there is some.
     pub(crate) fn list(&mut self) -> Vec<Message>
         ensures { result.items ≡ [] }
     {

@@ -80,7 +80,7 @@ impl<S: Source> Window<S> {
         self.at += count;
     }
 
-    /// Reads on, behind the bytes that are not cut yet. After another answer than `More` it is to
+    /// Reads on, after the bytes that are not cut yet. After another answer than `More` it is to
     /// be read no more.
     pub(crate) fn fill(&mut self) -> Filled
         ensures fills { (i : SourceFacts) (cut : List ℕ) → Windows S.facts i self.old cut

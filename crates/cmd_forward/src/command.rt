@@ -86,7 +86,7 @@ where
     }
 }
 
-// What is left where no connection was begun.
+// What is left if no connection was begun.
 fn unbegun<M, S, K>(status: Status, input: S, output: K) -> Forwarded<M, S, K>
     ensures numbers { HasNumbers status result }
     ensures unbegun { IsUnbegun input output result }
@@ -100,7 +100,7 @@ fn unbegun<M, S, K>(status: Status, input: S, output: K) -> Forwarded<M, S, K>
     }
 }
 
-// Tells the totals of a run where all was sent.
+// Tells the totals of a run in which all was sent.
 fn tell<M, S, K: Sink>(ran: Ran<M, S>, output: K) -> Forwarded<M, S, K>
     ensures { IsTold K.facts ran output result }
 {

@@ -2,7 +2,7 @@
 //! nothing.
 ghost use Rattle.cmd_forward.specs.Laws.{SoundRunsAreDone};
 
-/// Where the words call the command, no count of faults rose, the connection was made in time, the
+/// If the words call the command, no count of faults rose, the connection was made in time, the
 /// net could report to the end and the input is clean and not too long, all is sent: the status is
 /// 0, or 6 for want of memory.
 pub fn sound_runs_are_done<M, S, K, E>()

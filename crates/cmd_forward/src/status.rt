@@ -69,7 +69,7 @@ impl Status {
         }
     }
 
-    /// The number that goes with it: the offset of a bad record, how many bytes were read where
+    /// The number that goes with it: the offset of a bad record, how many bytes were read if
     /// there were too many, the moment at which a connection timed out, else 0.
     pub fn number(self) -> u64
         ensures { result ≡ number_of (2 ^ 40) self }
@@ -147,7 +147,7 @@ fn by_service(said: ForwardNote, failed: bool) -> Status
     }
 }
 
-// For what the service ended. Where its peer failed, a bad record or a failed read comes first.
+// For what the service ended. If its peer failed, a bad record or a failed read comes first.
 fn cause_of(stop: Option<ForwardEnding>, how: ForwardEnding) -> ForwardEnding
     ensures { result ≡ cause_of stop how }
 {

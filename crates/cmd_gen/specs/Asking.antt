@@ -20,7 +20,7 @@ asked_for n = record {
   volume = 2 ^ 62;
 }
 
--- its terms: those of the script and of the volumes, since the output is written only behind the
+-- its terms: those of the script and of the volumes, since the output is written only after the
 -- run
 abbrev pub terms_for : ℕ → ℕ → VolumesFacts ServerNote → Terms
 terms_for n seed v = terms_of_script n None (generated n seed) unseen v

@@ -24,7 +24,7 @@ pub record IsUngenerated {K V : Type 0} (output : K) (volumes : V) (left : Gener
     pub output_is : left.output ≡ output
     pub volumes_are : left.volumes ≡ volumes
 
--- What a run over the generated script leaves, where the volumes told v before it: one journal, of
+-- What a run over the generated script leaves, if the volumes told v before it: one journal, of
 -- which the last entries are held. The run came to it, and it ended as its run did; and with a fault
 -- of the volumes their count of faults rose.
 pub record RunsGenerated {K V : Type 0} (G : Ghosts ScriptEnd) (facts : V → VolumesFacts ServerNote)

@@ -26,7 +26,7 @@ abbrev pub full_lines : ℕ → ℕ → List ℕ
 full_lines n seed =
     four_lines n (125 * n) (bytes_of_connections (steps_of (generated n seed))) (126 * n)
 
--- What was written of some lines, by how it ended: all of them, a front of them where a write
+-- What was written of some lines, by how it ended: all of them, a front of them if a write
 -- failed, and else nothing.
 abbrev pub LeavesText : GenerateEnd → SinkFacts → List ℕ → SinkFacts → Type 0
 LeavesText end.Done o text p = TakesAll o text p
@@ -34,7 +34,7 @@ LeavesText end.WriteFault o text p = BreaksOff o text p
 LeavesText end.NoMemory o text p = p ≡ o
 LeavesText end.VolumeFault o text p = p ≡ o
 
--- How it ended, by how its run did, which handed so many entries over: a summary is made where
+-- How it ended, by how its run did, which handed so many entries over: a summary is made if
 -- nothing could be reported any more, and of a whole journal alone.
 abbrev pub EndsSummary : GenerateEnd → Ending → ℕ → Type 0
 EndsSummary end.Done how first = (how ≡ ending.Over) × (first ≡ 0)
@@ -43,7 +43,7 @@ EndsSummary end.NoMemory how first =
     (how ≡ ending.Over → 1 ≤ first) × (how ≡ ending.VolumeFault → ⊥)
 EndsSummary end.VolumeFault how first = how ≡ ending.VolumeFault
 
--- how it ended where a run ended so, which left these entries and handed so many over, and what was
+-- how it ended if a run ended so, which left these entries and handed so many over, and what was
 -- written of their summary
 pub record WritesSummary (how : Ending) (first : ℕ) (o : SinkFacts)
     (entries : List (Entry ServerNote)) (ended : GenerateEnd) (p : SinkFacts) : Type 0 where

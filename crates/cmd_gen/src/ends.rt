@@ -7,7 +7,7 @@ use reactor_model::Journal;
 pub enum GenerateEnd {
     /// Nothing could be reported any more. All of the summary was written.
     Done,
-    /// A write of the summary failed, behind which nothing was written.
+    /// A write of the summary failed, after which nothing was written.
     WriteFault,
     /// There was no memory, or entries were handed over, so that the summary could not be made.
     /// Nothing was written.

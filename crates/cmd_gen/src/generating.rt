@@ -19,7 +19,7 @@ use std::thread::Threads;
 
 /// Generates the script of so many connections, from 1 to 1,000, and a seed, from 0 to
 /// 4,294,967,295, and runs the logging server over a net that plays it, with four workers. The four
-/// lines of the summary of its journal are written at the end, where the run is done and the whole
+/// lines of the summary of its journal are written at the end, if the run is done and the whole
 /// journal is held.
 ///
 /// For want of memory for the script, its text or the timers nothing is served.
@@ -65,7 +65,7 @@ pub fn generate<R: Threads + Wait + Sync, K: Sink, V: Volumes<ServerNote> + Send
     }
 }
 
-/// What is left where there was no memory before anything was served.
+/// What is left if there was no memory before anything was served.
 fn unserved<K, V>(alloc: Global, output: K, volumes: V) -> Generated<K, V>
     ensures end { result.end ≡ GenerateEnd.NoMemory }
     ensures unserved { IsUngenerated output volumes result }

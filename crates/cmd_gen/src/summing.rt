@@ -10,7 +10,7 @@ use log_handler::ServerNote;
 use reactor_model::Entry;
 use run_summary::Summary;
 
-/// Writes the summary of a run that ended so, left these entries and handed so many over, where it
+/// Writes the summary of a run that ended so, left these entries and handed so many over, if it
 /// is done and handed none over. Else nothing is written.
 pub(crate) fn sum_up<K: Sink>(
     ending: Ending,
@@ -33,7 +33,7 @@ pub(crate) fn sum_up<K: Sink>(
     }
 }
 
-/// Writes the summary of these entries, where none was handed over before them.
+/// Writes the summary of these entries, if none was handed over before them.
 fn sum_up_held<K: Sink>(first: u64, entries: &[Entry<ServerNote>], output: K) -> (GenerateEnd, K)
     ensures { WritesSummary Ending.Over first (K.facts output) entries.now result.0
         (K.facts result.1) }

@@ -5,7 +5,7 @@ use Rattle.std.specs.Str.{bytes_eq}
 use Rattle.clap.specs.Lexer.{long_of, long_of_rest, short_of, short_of_rest, strip_byte}
 use Rattle.cmd_line.specs.Given.{Text, behind, may_be_text, name_and_text, option_of}
 
--- a word behind two hyphens, by whether its first bytes are such
+-- a word after two hyphens, by whether its first bytes are such
 two_first : (s t : Bool) (a b : ℕ) (rest : Text) → (a == 45) ≡ s → (b == 45) ≡ t
     → bytes_eq (a ∷ b ∷ rest) (codes "--") ≡ false
     → option_map name_and_text (option_and_then (behind 45) (cond s (Some (b ∷ rest)) None))

@@ -239,7 +239,7 @@ takes_text line name word rows has =
     (valued_found line name has)
     ∙ rw self refl
 
--- what a word does where an option waits
+-- what a word does when an option waits
 waiting_turn : (top : Text) (line : Line) (name word : Text) (rows : List Row) (before : List Entry)
     (rest : List Text) → has_name name line.valued ≡ true → Shows rows before → IsWord word
     → AreWords rest

@@ -1,4 +1,4 @@
--- What a parser finds where it takes the words, and where it refuses them.
+-- What a parser finds when it takes the words, and when it refuses them.
 use Rattle.std.proofs.Common.{◌≡◌, ◌∙◌, Bool, true, false, ◌||◌, ◌&&◌, not, cond, List, [], ◌∷◌}
 use Rattle.std.proofs.Common.{◌++◌, map, find, fold, option_map, option_and_then, Some, None, refl}
 use Rattle.std.proofs.Common.{ap, ap₂, codes}
@@ -20,7 +20,7 @@ use Rattle.cmd_line.proofs.Turns.{held, idle_at, rows_in, settles}
 use Rattle.cmd_line.proofs.Readings.{faults}
 use Rattle.cmd_line.proofs.Letters.{neither}
 
--- ---- faults behind the walk: there are none
+-- ---- faults after the walk: there are none
 
 either_way : {X : Type 0} (b : Bool) (x : X) → cond b x x ≡ x
 either_way true x = refl
@@ -134,7 +134,7 @@ has_flag-more (r ∷ rows) flag name = go (bytes_eq r.id name) (has_flag-more ro
 
 -- ---- defaults
 
--- what is looked at stays where the rows of these flags come behind
+-- what is looked at stays if the rows of these flags come after
 abbrev pub Keeps : {X : Type 0} → (List Row → X) → List Text → Type 0
 Keeps look [] = Unit {0}
 Keeps look (flag ∷ flags) = ((rows : List Row) → look (rows ++ false_row flag ∷ []) ≡ look rows)

@@ -73,7 +73,7 @@ bundle_refused line [] rows pending char is =
     absurd (cc (none, is))
 bundle_refused line (x ∷ flags) rows pending char is = rw (is, by_short line char) tt
 
--- where the option that is settled has a fault, so has each option word
+-- if the option that is settled has a fault, so has each option word
 pub long_refused : (top : Text) (line : Line) (waiting : Waiting) (name : Text) (text : Option Text)
     (word : Text) (h : Held) → Refused (settles line h)
     → Refused (turn_of top line waiting (Some (name, text)) word h)
@@ -99,7 +99,7 @@ long_refused top line waiting name text word h fault =
     go false true None = first_refused _ [] (first_refused (settles line h) _ fault)
     go false false text = tt
 
--- where nothing waits, a word that is no option is no word of the line
+-- if nothing waits, a word that is no option is no word of the line
 pub plain_refused : (top : Text) (line : Line) (word : Text) (rows : List Row)
     (pending : Option (Text × List Text)) → IsText word
     → Refused (turn_of top line idle None word (held rows pending))
@@ -115,7 +115,7 @@ plain_refused top line word rows pending letters = go (short_of word) letters
         (bundle_refused line flags rows pending (letters flags refl).0 (letters flags refl).1)
     go None letters = rw (by_index line 1) tt
 
--- ---- a word where no option waits
+-- ---- a word when no option waits
 
 -- what the word does to the walk, with what it does to the reading
 pub data Turned (line : Line) (fault : Kinds) (now : Walk) (before : List Entry) (next : Reading)

@@ -26,12 +26,12 @@ pub record Entry : Type 0 where
 
 -- ---- words
 
--- what stands behind a first byte
+-- what stands after a first byte
 abbrev pub behind : ℕ → Text → Option Text
 behind byte [] = None
 behind byte (b ∷ rest) = if b == byte then Some rest else None
 
--- what stands before the first `=` (61), and what stands behind it, if there is one
+-- what stands before the first `=` (61), and what stands after it, if there is one
 abbrev pub name_and_text : Text → Text × Option Text
 name_and_text word = (
   before_first (λ b. b == 61) word,
@@ -58,7 +58,7 @@ is_given name entries = list_any (λ e. bytes_eq e.name name) entries
 abbrev pub with_entry : Text → Text → List Entry → List Entry
 with_entry name text entries = entries ++ record { name = name; text = text } ∷ []
 
--- how the words behind a place are read: by the options that were given before it, and the option
+-- how the words after a place are read: by the options that were given before it, and the option
 -- that waits there for its text, if one does
 abbrev pub Reading : Type 0
 Reading = List Entry → Option Text → Option (List Entry)
@@ -73,7 +73,7 @@ abbrev pub flag_read : Text → Option Text → List Entry → Reading → Optio
 flag_read name (Some text) before next = None
 flag_read name None before next = next (with_entry name (codes "true") before) None
 
--- a word where no option waits: an option of the line that was not given before
+-- a word when no option waits: an option of the line that was not given before
 abbrev pub option_read : Line → Option (Text × Option Text) → List Entry → Reading
     → Option (List Entry)
 option_read line None before next = None
@@ -83,7 +83,7 @@ option_read line (Some option) before next =
     else if has_name option.0 line.flags then flag_read option.0 option.1 before next
     else None
 
--- the options that were given at the end of the words. Where an option waits, the next word is its
+-- the options that were given at the end of the words. If an option waits, the next word is its
 -- text
 unfoldable pub given_behind : Line → List Text → Reading
 given_behind line [] before None = Some before
@@ -93,7 +93,7 @@ given_behind line (word ∷ rest) before None =
 given_behind line (word ∷ rest) before (Some name) =
     if may_be_text word then given_behind line rest (with_entry name word before) None else None
 
--- the options that the words give, where the words are options of this line and nothing else
+-- the options that the words give, if the words are options of this line and nothing else
 abbrev pub given : Line → List Text → Option (List Entry)
 given line words = given_behind line words [] None
 

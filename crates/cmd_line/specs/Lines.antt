@@ -76,7 +76,7 @@ generate_of (connections ∷ seed ∷ []) = do
   Some (Generate connections seed)
 generate_of _ = None
 
--- the command that the first word names, with the words behind it
+-- the command that the first word names, with the words after it
 abbrev pub command_named : Text → List Text → Option Command
 command_named name words =
     if bytes_eq name (codes "one") then alone One words
@@ -99,6 +99,6 @@ is_dashes word = bytes_eq word (codes "--")
 abbrev pub has_dashes : List Text → Bool
 has_dashes words = list_any is_dashes words
 
--- the command that the words behind the program's name call. The word `--` is in none
+-- the command that the words after the program's name call. The word `--` is in none
 unfoldable pub command_of : List Text → Option Command
 command_of words = if has_dashes words then None else command_from words

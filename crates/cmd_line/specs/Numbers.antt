@@ -3,7 +3,7 @@ use Rattle.std.specs.Prelude.{ℕ, nat_le, ◌&&◌, if◌then◌else◌, List, 
 use Rattle.std.specs.Str.{bytes_eq}
 use Rattle.std.specs.Str.Parse.{digits_value}
 
--- the number that the word writes, where it lies between these: decimal digits without a sign and
+-- the number that the word writes, if it lies between these: decimal digits without a sign and
 -- without a leading zero, `0` alone excepted
 unfoldable pub number_in : ℕ → ℕ → List ℕ → Option ℕ
 number_in least most word =

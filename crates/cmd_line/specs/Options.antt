@@ -15,7 +15,7 @@ infixl 10 ◌>>=◌
 abbrev pub ◌>>=◌ : {A B : Type 0} → Option A → (A → Option B) → Option B
 o >>= f = option_and_then f o
 
--- what the option's text says, and this where the option was not given
+-- what the option's text says, and this if the option was not given
 abbrev pub value_or : {X : Type 0} → X → (Text → Option X) → Option Text → Option X
 value_or default read None = Some default
 value_or default read (Some text) = read text
@@ -33,14 +33,14 @@ timers_named text =
     else if bytes_eq text (codes "wheel") then Some queue.Wheel
     else None
 
--- the form of the output, where at most one is asked for
+-- the form of the output, if at most one is asked for
 abbrev pub form_of : (grouped journal : Bool) → Option Form
 form_of false false = Some Plain
 form_of true false = Some Grouped
 form_of false true = Some Journal
 form_of true true = None
 
--- the options by their texts: the ranges, and what stands where one was not given
+-- the options by their texts: the ranges, and what stands if one was not given
 abbrev pub options_of : (workers most idle until timers : Option Text) → Form → Option Options
 options_of workers most idle until timers form = do
   workers ← value_or 1 (number_in 1 64) workers

@@ -1,4 +1,4 @@
--- How `clap` reads the words behind `replay` and `serve`. Only clauses of this crate's own
+-- How `clap` reads the words after `replay` and `serve`. Only clauses of this crate's own
 -- functions speak of it.
 use Rattle.std.specs.Prelude.{◌≡◌, true, false, Bool, List, [], ◌∷◌, ◌++◌, map, codes, Option, Some}
 use Rattle.std.specs.Prelude.{MatchOption}

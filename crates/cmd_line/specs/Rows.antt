@@ -13,7 +13,7 @@ use Rattle.cmd_line.specs.declared.options.Timers.TheVariants as timers
 abbrev pub called : List ℕ → Option Command
 called line = command_of (slice_split (λ b. b == 32) line)
 
--- the options where none is given
+-- the options if none is given
 abbrev pub defaults : Options
 defaults = record {
   workers = 1;

@@ -42,12 +42,12 @@ pub enum Command {
 }
 
 impl Command {
-    /// The command that these words call, which stand behind the program's name, or `None` where
+    /// The command that these words call, which stand after the program's name, or `None` if
     /// they call none.
     ///
-    /// The first word is the command's name. Behind `replay` and `serve` stand options, `--name
+    /// The first word is the command's name. After `replay` and `serve` stand options, `--name
     /// VALUE` or `--name=VALUE`, and flags, `--name`, in any order and each at most once; `serve`
-    /// has a port. Behind `gen` stand the two numbers. A number is decimal digits without a sign
+    /// has a port. After `gen` stand the two numbers. A number is decimal digits without a sign
     /// and without a leading zero. The word `--` is refused everywhere.
     #[tactic(auto, unfolding(crate::specs::Lines::command_of))]
     pub fn of(alloc: Global, words: &[String]) -> Result<Option<Command>, NoMemory>
@@ -77,7 +77,7 @@ fn has_dashes(words: &[String]) -> bool
     false
 }
 
-// The command of this name, with the words behind it.
+// The command of this name, with the words after it.
 fn named(alloc: Global, name: &str, words: &[String]) -> Result<Option<Command>, NoMemory>
     requires { has_dashes (map string_bytes words.now) ≡ false }
     ensures command { IfOk result (λ command. command ≡ command_named name.now
@@ -108,7 +108,7 @@ fn alone(command: Command, words: &[String]) -> Option<Command>
     }
 }
 
-// `replay` with the words behind it.
+// `replay` with the words after it.
 fn replay(alloc: Global, words: &[String]) -> Result<Option<Command>, NoMemory>
     requires { has_dashes (map string_bytes words.now) ≡ false }
     ensures command { IfOk result (λ command. command ≡ replay_of (map string_bytes words.now)) }
@@ -130,7 +130,7 @@ fn replay_by(matches: &ArgMatches) -> Option<Command>
     Some(Command::Replay(options))
 }
 
-// `serve` with the words behind it.
+// `serve` with the words after it.
 fn serve(alloc: Global, words: &[String]) -> Result<Option<Command>, NoMemory>
     requires { has_dashes (map string_bytes words.now) ≡ false }
     ensures command { IfOk result (λ command. command ≡ serve_of (map string_bytes words.now)) }
@@ -155,7 +155,7 @@ fn serve_by(matches: &ArgMatches) -> Option<Command>
     })
 }
 
-// `gen` with the words behind it.
+// `gen` with the words after it.
 fn generate(words: &[String]) -> Option<Command>
     ensures command { result ≡ generate_of (map string_bytes words.now) }
     ensures ranges { IfSome result IsInRange }

@@ -8,7 +8,7 @@ use itoa::Buffer;
 /// The greatest number of 32 bits.
 pub(crate) const GREATEST_U32: u64 = 4_294_967_295;
 
-/// The number that the word writes, where it lies between these.
+/// The number that the word writes, if it lies between these.
 pub fn number_in(word: &str, least: u64, most: u64) -> Option<u64>
     ensures value { result ≡ number_in least most word.now }
     ensures within { IfSome result (IsWithin least most) }

@@ -35,9 +35,9 @@ pub enum Timers {
 /// How connections are served.
 #[derive(Clone, Copy, PartialEq, Eq, Debug)]
 pub struct Options {
-    /// How many threads lead: 1 to 64, and 1 where the words don't say.
+    /// How many threads lead: 1 to 64, and 1 if the words don't say.
     pub workers: u64,
-    /// How many connections may be open at once: 1 to 4,096, and 1,000 where the words don't say.
+    /// How many connections may be open at once: 1 to 4,096, and 1,000 if the words don't say.
     pub most: u64,
     /// After how many milliseconds without input a connection is closed, if it is: 1 to
     /// 4,294,967,295.
@@ -47,7 +47,7 @@ pub struct Options {
     pub until: Option<u64>,
     /// What is written. A server writes plain lines.
     pub form: Form,
-    /// The queue of timers: a list where the words don't say.
+    /// The queue of timers: a list if the words don't say.
     pub timers: Timers,
 }
 
@@ -71,7 +71,7 @@ pub(crate) fn read_options(matches: &ArgMatches, form: Form) -> Option<Options>
     })
 }
 
-/// The form of the output, where no two are asked for.
+/// The form of the output, if no two are asked for.
 pub(crate) fn read_form(matches: &ArgMatches) -> Option<Form>
     ensures { result ≡ form_of (has_flag (text_in matches.now (codes "grouped"))) (has_flag (text_in matches.now (codes "journal"))) }
 {
@@ -90,7 +90,7 @@ pub fn text_of<'a>(matches: &ArgMatches<'a>, name: &str) -> Option<&'a str>
     matches.get_str(name)
 }
 
-// The number from 1 to `most` that an option gives, or this where it is not given.
+// The number from 1 to `most` that an option gives, or this if it is not given.
 fn read_or(matches: &ArgMatches, name: &str, most: u64, default: u64) -> Option<u64>
     requires least { 1 ≤ default }
     requires greatest { default ≤ most }
@@ -114,7 +114,7 @@ fn read_if(matches: &ArgMatches, name: &str, most: u64) -> Option<Option<u64>>
     }
 }
 
-// The queue that `--timers` names, or the list where it is not given.
+// The queue that `--timers` names, or the list if it is not given.
 fn read_timers(matches: &ArgMatches) -> Option<Timers>
     ensures { result ≡ value_or Timers.List timers_named (text_in matches.now (codes "timers")) }
 {

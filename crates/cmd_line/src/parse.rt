@@ -10,7 +10,7 @@ use clap::{Arg, ArgAction, ArgMatches, Command};
 use ev_types::NoMemory;
 use std::alloc::{AllocError, Global};
 
-/// Parses the words behind `replay`.
+/// Parses the words after `replay`.
 pub(crate) fn parse_replay(
     alloc: Global,
     words: &[String],
@@ -20,7 +20,7 @@ pub(crate) fn parse_replay(
     parse_words(replay(alloc)?, words)
 }
 
-/// Parses the words behind `serve`.
+/// Parses the words after `serve`.
 pub(crate) fn parse_serve(
     alloc: Global,
     words: &[String],
@@ -30,7 +30,7 @@ pub(crate) fn parse_serve(
     parse_words(serve(alloc)?, words)
 }
 
-/// Parses the words by this command line: None is answered exactly where they are not as it says.
+/// Parses the words by this command line: None is answered exactly if they are not as it says.
 pub fn parse_words<'a>(
     command: Command<'a>,
     words: &'a [String],

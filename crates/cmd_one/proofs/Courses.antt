@@ -27,7 +27,7 @@ close_again q = cc
 keep_again : Keep ≡ Again → ⊥
 keep_again q = cc
 
--- where reading goes on, it stopped at no bad record
+-- if reading goes on, it stopped at no bad record
 kept_none : (stop : Stop) → answer_to stop ≡ Again → kept_at stop ≡ None
 kept_none Clean q = refl
 kept_none (Partial n) q = refl

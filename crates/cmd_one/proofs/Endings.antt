@@ -61,7 +61,7 @@ grows old new bytes start told by =
     by_new None by = absurd by
     by_new (Some text) by = ap Some by
 
--- the lines of the first entries, where those of as many or more are in a text
+-- the lines of the first entries, if those of as many or more are in a text
 front-of : (before more : List (Entry ServerNote)) (whole : ℕ) (text : List ℕ)
     → length before ≤ whole → IsPrefixOf (journal_lines (take whole (before ++ more))) text
     → IsPrefixOf (journal_lines before) text
@@ -120,7 +120,7 @@ module _ {K : Type 0} (facts : K → SinkFacts) (t : Terms) (o : SinkFacts)
 
 -- ---- what a status says
 
--- behind a malformed record no byte counts
+-- after a malformed record no byte counts
 same_stop : (taken more : List ℕ) (s : Stop) → (decode taken).stop ≡ s → IsMalformed s
     → decode taken ≡ decode (taken ++ more)
 same_stop taken more Clean e m = absurd m
@@ -196,7 +196,7 @@ one_more : (extra : Option ℕ) → option_to_list extra ≢ [] → (more : ℕ)
 one_more None some = absurd (some refl)
 one_more (Some more) some = (more, refl)
 
--- The connection closed itself, and a wait was made behind that.
+-- The connection closed itself, and a wait was made after that.
 pub record ClosesItself {failed : Bool} {i j : SourceFacts} {h : List (Entry ServerNote)}
     (run : ComesTo most_input failed i j h) (lost : Bool) : Type 0 where
   pub own : reason_of (past_of run.closes.before) 0 ≡ Own
@@ -411,7 +411,7 @@ module _ (i : SourceFacts) (o : SinkFacts) (j : SourceFacts) (p : SinkFacts)
         | Halted e ↦ absurd (omega (arith, q, e))
       ]
 
-  -- with status 11 a byte was met behind the limit
+  -- with status 11 a byte was met past the limit
   at_eleven : (failed broken too_long lost : Bool) (why : Option Halt)
       (k : Knows failed broken too_long lost why)
       → code_of (status_of failed broken too_long lost why) ≡ 11 → k.run.extra ≢ []
@@ -510,7 +510,7 @@ nothing_broken o p same one_failed =
       one_failed = one_failed;
     }
 
--- all of these bytes were written or, where a write failed, a front of them
+-- all of these bytes were written or, if a write failed, a front of them
 abbrev IsWritten : Bool → SinkFacts → List ℕ → SinkFacts → Type 0
 IsWritten false o bytes p = TookAll o bytes p
 IsWritten true o bytes p = TookFront o bytes p

@@ -25,14 +25,14 @@ IsTakenAndHeld (Some before) (Some after) held journal =
 IsTakenAndHeld (Some before) None held journal = ⊥
 IsTakenAndHeld None after held journal = ⊥
 
--- The journal of a run is told where the volumes tell what they took, before the run and after it;
--- and where nothing was handed over, so that all entries are held.
+-- The journal of a run is told if the volumes tell what they took, before the run and after it;
+-- and if nothing was handed over, so that all entries are held.
 abbrev pub IsTold : VolumesFacts ServerNote → VolumesFacts ServerNote → ℕ → List (Entry ServerNote)
     → List (Entry ServerNote) → Type 0
 IsTold v w first held journal = IsTakenAndHeld v.taken w.taken held journal
     ⊎ ((first ≡ 0) × (journal ≡ held))
 
--- So many entries were handed over to the volumes in a run, where they tell what they took.
+-- So many entries were handed over to the volumes in a run, if they tell what they took.
 abbrev pub AreHandedOver : {N : Type 0} → Option (List (Entry N)) → Option (List (Entry N)) → ℕ
     → Type 0
 AreHandedOver (Some before) (Some after) first = length after ≡ length before + first
@@ -64,7 +64,7 @@ pub record OpensNothing (i j : SourceFacts) (code : ℕ) (journal : List (Entry 
     pub code_is : (code ≡ 4) ⊎ (code ≡ 6)
 
 -- The connection was served until it was closed. With status 0 it closed itself where reading
--- stops; a read failed with status 3 and no other; and with status 11 a byte was met behind the
+-- stops; a read failed with status 3 and no other; and with status 11 a byte was met past the
 -- limit.
 pub record ServesConnection (limit : ℕ) (i j : SourceFacts) (code : ℕ)
     (journal : List (Entry ServerNote)) : Type 0 where
@@ -91,13 +91,13 @@ abbrev pub BreaksLate : SinkFacts → List (Entry ServerNote) → SinkFacts → 
 BreaksLate o journal p = (took : TookFront o (journal_lines journal) p)
     × WroteUntilLast journal took.front
 
--- all lines of the journal were written or, where a write failed, a front of them
+-- all lines of the journal were written or, if a write failed, a front of them
 abbrev pub HasWritten : Bool → SinkFacts → List (Entry ServerNote) → SinkFacts → Type 0
 HasWritten false o journal p = TookAll o (journal_lines journal) p
 HasWritten true o journal p = BreaksLate o journal p
 
 -- What the journal of a run says, by the status with which it ended: the output has its lines, or a
--- front of them where a write failed.
+-- front of them if a write failed.
 pub record StandsFor (limit : ℕ) (i : SourceFacts) (o : SinkFacts) (j : SourceFacts) (p : SinkFacts)
     (code : ℕ) (journal : List (Entry ServerNote)) : Type 0 where
   pub over : (journal ≡ []) ⊎ IsWholeRun journal

@@ -32,14 +32,14 @@ lines_of bytes word = record_lines 0 (decode bytes).records ++ closing_line 0 wo
 abbrev pub IsPiece : ServerNote → Type 0
 IsPiece said = (took : ℕ) × (records : List LogRecord) × (said ≡ note.Piece 0 took records)
 
--- no read failed, and no byte was met behind the limit
+-- no read failed, and no byte was met past the limit
 abbrev pub IsSound : Bool → List ℕ → Type 0
 IsSound failed extra = (failed ≡ false) × (extra ≡ [])
 
--- What stands behind the word with which the connection was closed, which took these bytes, met
--- `extra` behind the limit, and noted the records of `decoded`: `end` and `partial` only where the
--- input was read to its end and reading stops so, `malformed` only where reading stops there,
--- `failed` only where a read failed or a byte was met behind the limit, and `stopped` where the run
+-- What stands after the word with which the connection was closed, which took these bytes, met
+-- `extra` past the limit, and noted the records of `decoded`: `end` and `partial` only if the
+-- input was read to its end and reading stops so, `malformed` only if reading stops there,
+-- `failed` only if a read failed or a byte was met past the limit, and `stopped` if the run
 -- was halted. For want of memory the records of the last bytes may lack.
 abbrev pub IsClosedWith : SourceFacts → Bool → List ℕ → List ℕ → List ℕ → EndKind → Type 0
 IsClosedWith j failed taken extra decoded end.End =
@@ -74,8 +74,8 @@ IsWordFor Own word = word ≢ end.Stopped
 IsWordFor Removed word = (word ≡ end.NoMemory) ⊎ (word ≡ end.Stopped)
 IsWordFor Refused word = ⊥
 
--- The closing of the connection stands behind these entries, for the reason that they tell, and
--- behind it stand these.
+-- The closing of the connection stands after these entries, for the reason that they tell, and
+-- after it stand these.
 pub record IsClosedIn (journal : List (Entry ServerNote)) (word : EndKind) : Type 0 where
   pub before : List (Entry ServerNote)
   pub rest : List (Entry ServerNote)
@@ -103,7 +103,7 @@ IsMalformed (Partial n) = ⊥
 IsMalformed (Malformed at) = Unit {0}
 
 -- The connection closed itself where reading stops: at the end of the input, or at a malformed
--- record, behind which no byte counts. Behind its closing one wait was made, and then the reactor
+-- record, after which no byte counts. After its closing one wait was made, and then the reactor
 -- was stopped.
 pub record EndsAsRead {limit : ℕ} {failed : Bool} {i j : SourceFacts}
     {journal : List (Entry ServerNote)} (run : ComesTo limit failed i j journal) : Type 0 where

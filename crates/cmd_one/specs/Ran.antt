@@ -15,7 +15,7 @@ use Rattle.cmd_one.specs.declared.status.Status.TheVariants.{Done, ReadFault, Wr
 use Rattle.cmd_one.specs.declared.status.Status.TheVariants.{TooLong, VolumeFault}
 
 -- The status of a run whose connection was opened, the least of those of its faults: whether a read
--- failed, whether a write failed, whether a byte was met behind the limit, why it was halted, and
+-- failed, whether a write failed, whether a byte was met past the limit, why it was halted, and
 -- whether the connection was closed for want of memory.
 abbrev pub status_without_fault : Bool → Bool → Option Halt → Status
 status_without_fault too_long true why = NoMemory

@@ -16,7 +16,7 @@ use Rattle.cmd_one.specs.declared.status.Status.{Status}
 use Rattle.cmd_one.specs.declared.status.Status.TheVariants.{Done, ReadFault, WriteFault, NoMemory}
 use Rattle.cmd_one.specs.declared.status.Status.TheVariants.{TooLong, VolumeFault}
 
--- where the bytes are told, all that were left are read as these are
+-- if the bytes are told, all that were left are read as these are
 abbrev pub DecodesLeft : Option ReaderBytes → List ℕ → Type 0
 DecodesLeft None taken = Unit {0}
 DecodesLeft (Some bytes) taken = decode taken ≡ decode bytes.left
@@ -40,7 +40,7 @@ pub record HasNoLines (i j : SourceFacts) (text : List ℕ) : Type 0 where
   pub is : text ≡ []
 
 -- Done: the lines of all input, and how it ended. The input was read to its end, unless it has a
--- malformed record, behind which no byte counts. Nothing failed, neither of the volumes.
+-- malformed record, after which no byte counts. Nothing failed, neither of the volumes.
 pub record IsDone (limit : ℕ) (i : SourceFacts) (o : SinkFacts) (j : SourceFacts) (p : SinkFacts)
     (before now : ℕ) : Type 0 where
   pub taken : List ℕ

@@ -54,7 +54,7 @@ pub fn one<S: Source, K: Sink, V: Volumes<ServerNote>>(
     }
 }
 
-/// What is left where there was no memory to begin.
+/// What is left if there was no memory to begin.
 fn give_up<S: Source, K: Sink, V: Volumes<ServerNote>>(left: Unopened<S, K, V>) -> Ran<S, K, V>
     ensures { (input : S) (output : K) → LeavesUnopened S.facts K.facts input output left
         → RunsOne S.facts K.facts V.facts (2 ^ 40) (S.facts input) (K.facts output)

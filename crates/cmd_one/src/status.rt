@@ -15,7 +15,7 @@ pub enum Status {
     Done,
     /// A read failed, for which the connection was closed.
     ReadFault,
-    /// A write failed, behind which nothing was written.
+    /// A write failed, after which nothing was written.
     WriteFault,
     /// There was no memory.
     NoMemory,
@@ -51,7 +51,7 @@ impl Status {
         }
     }
 
-    /// The number that goes with it: how many bytes were read, where there were too many, else 0.
+    /// The number that goes with it: how many bytes were read, if there were too many, else 0.
     pub fn number(self) -> u64
         ensures { result ≡ number_of (2 ^ 40) self }
     {

@@ -10,7 +10,7 @@ use Rattle.task_server.specs.declared.rule.Log.{Log}
 use Rattle.task_server.specs.declared.rule.Numbered.{Numbered}
 use Rattle.cmd_pool.specs.PutItems.{AreItemsOf, IsItemOf, PutsBefore}
 
--- the item of a number is the first of what is left behind as many
+-- the item of a number is the first of what is left after as many
 pub first_left : {X : Type 0} (xs rest : List X) (i : ℕ) (x : X) → drop i xs ≡ x ∷ rest
     → (slice_get xs i ≡ Some x) × (drop (suc i) xs ≡ rest)
 first_left [] rest zero x e = cc

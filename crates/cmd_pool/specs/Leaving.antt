@@ -50,7 +50,7 @@ pub record WritesKept (run : PoolEnd) (first : ℕ) (o : SinkFacts) (lines : Lis
 
 -- ---- the run
 
--- a run may be told of so whose server ended so: a failed write and want of memory may come behind
+-- a run may be told of so whose server ended so: a failed write and want of memory may come after
 -- any ending
 abbrev pub MayEnd : PoolEnd → Ending → Type 0
 MayEnd end.Done ending.Over = Unit {0}
@@ -135,7 +135,7 @@ pub record LeavesPool {H M Q W V K E : Type 0} (m : Meaning H M Q W V ServerNote
   pub lines : TookLines served.end o (lines_by_connection served.journal.entries)
       (sink served.output)
 
--- The host's count of faults rose where it could not listen, and then there is no net; and else it
+-- The host's count of faults rose if it could not listen, and then there is no net; and else it
 -- is what it was.
 abbrev pub ListensSo : {M : Type 0} → PoolEnd → Option M → ℕ → ℕ → Type 0
 ListensSo end.ListenFault net before now = (net ≡ None) × Rose before now

@@ -1,4 +1,4 @@
--- Lines that stand in a text, one behind another.
+-- Lines that stand in a text, one after another.
 use Rattle.std.specs.Prelude.{◌≡◌, ◌≤◌, ◌-◌, ℕ, List, ◌++◌, drop, length, take}
 use Rattle.cdr_record.specs.declared.record.LogRecord.{LogRecord}
 use Rattle.cdr_record.specs.declared.record.RecordRef.{RecordRef}

@@ -5,7 +5,7 @@ use Rattle.server_run.specs.declared.asked.Asked.{Asked}
 use Rattle.cmd_pool.specs.declared.words.PoolOptions.{PoolOptions}
 
 -- The terms: 1,000 connections and the acceptor may be live; a wait goes on for 1,000 milliseconds
--- at most; the journal goes by turns alone behind its first entry, the registration of the
+-- at most; the journal goes by turns alone after its first entry, the registration of the
 -- acceptor; no connection is closed for being quiet. They leave open what the host lays down.
 abbrev pub pool_terms : Terms
 pool_terms = record (open_terms 1001) {

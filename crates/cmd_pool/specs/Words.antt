@@ -15,7 +15,7 @@ pool_line = record {
   flags = [];
 }
 
--- what they say by their texts: the ranges, and what stands where one was not given
+-- what they say by their texts: the ranges, and what stands if one was not given
 abbrev pub options_by : Texts → Option PoolOptions
 options_by text = do
   port ← port_of (text (codes "port"))
@@ -24,7 +24,7 @@ options_by text = do
   until ← value_if (number_in 1 4294967295) (text (codes "until"))
   Some (record { port = port; workers = workers; writers = writers; until = until })
 
--- what the words behind the command's name ask for
+-- what the words after the command's name ask for
 unfoldable pub options_of : List Text → Option PoolOptions
 options_of words = given pool_line words >>= λ entries. options_by (text_of entries)
 
@@ -32,7 +32,7 @@ abbrev pub pool_from : List Text → Option PoolOptions
 pool_from [] = None
 pool_from (name ∷ words) = if bytes_eq name (codes "pool") then options_of words else None
 
--- what the words behind the program's name ask for, if they call the command. The word `--` is in
+-- what the words after the program's name ask for, if they call the command. The word `--` is in
 -- none
 unfoldable pub pool_of : List Text → Option PoolOptions
 pool_of words = if has_dashes words then None else pool_from words

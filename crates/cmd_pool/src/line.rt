@@ -1,4 +1,4 @@
-//! Lines that a writer made, one behind another in one text.
+//! Lines that a writer made, one after another in one text.
 ghost use Rattle.std.specs.Prelude.{◌≡◌, ◌⊎◌, ◌++◌, ◌∷◌, [], true, All, IfOk, IfSome};
 ghost use Rattle.std.proofs.Props.{props};
 ghost use Rattle.cdr_record.specs.Borrowed.{owned};
@@ -62,7 +62,7 @@ impl Line {
     }
 }
 
-/// Lines, one behind another in one text. The message of each stands in its line, or behind it if
+/// Lines, one after another in one text. The message of each stands in its line, or after it if
 /// the line has it with escapes.
 #[derive(Drop)]
 pub(crate) struct Lines {

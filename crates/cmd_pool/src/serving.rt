@@ -71,7 +71,7 @@ where
     }
 }
 
-/// Runs the server over what a host gave: a new net, its listener, and what wakes the net. Where
+/// Runs the server over what a host gave: a new net, its listener, and what wakes the net. If
 /// there is no memory for the timers or the pool the listener and the waker are dropped.
 fn serve_given<
     R: Threads + Wait + Copy + Send + Sync + 'static,

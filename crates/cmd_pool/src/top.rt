@@ -44,7 +44,7 @@ pub struct Pooled<M, K> {
 /// used if it is that of its record, and else it is made there. So what is written rests on the
 /// journal alone.
 ///
-/// `words` are those behind the program's name: `pool --port P [--workers N] [--writers M]
+/// `words` are those after the program's name: `pool --port P [--workers N] [--writers M]
 /// [--until N]`. At most 1,000 connections are live at once, and a wait goes on for one second at
 /// most. Without `--until` the run goes on until the net has nothing to report any more.
 pub fn pool_main<R: Threads + Wait + Copy + Send + Sync + 'static, H: Host, K: Sink>(

@@ -19,9 +19,9 @@ use std::alloc::{AllocError, Global};
 pub struct PoolOptions {
     /// The port that is listened to: 1 to 65,535.
     pub port: u16,
-    /// How many threads lead: 1 to 64, and 1 where the words don't say.
+    /// How many threads lead: 1 to 64, and 1 if the words don't say.
     pub workers: u64,
-    /// How many threads make lines: 1 to 16, and 2 where the words don't say.
+    /// How many threads make lines: 1 to 16, and 2 if the words don't say.
     pub writers: u64,
     /// After how many connections that were closed or refused the run ends, if it does: 1 to
     /// 4,294,967,295.
@@ -58,7 +58,7 @@ fn has_dashes(words: &[String]) -> bool
     false
 }
 
-// What the words behind the command's name ask for.
+// What the words after the command's name ask for.
 fn read_options(alloc: Global, words: &[String]) -> Result<Option<PoolOptions>, NoMemory>
     requires { has_dashes (map string_bytes words.now) ≡ false }
     ensures options { IfOk result (λ options. options ≡ options_of (map string_bytes words.now)) }
@@ -101,7 +101,7 @@ fn options_by(matches: &ArgMatches) -> Option<PoolOptions>
     })
 }
 
-// The number from 1 to `most` that an option gives, or this where it is not given.
+// The number from 1 to `most` that an option gives, or this if it is not given.
 fn read_or(matches: &ArgMatches, name: &str, most: u64, default: u64) -> Option<u64>
     requires least { 1 ≤ default }
     requires greatest { default ≤ most }

@@ -75,7 +75,7 @@ module _ (G : Ghosts ScriptEnd) (t : Terms) (asked : Asked) (groups : List Scrip
   all-of ending.VolumeFault (inl q) r none = absurd cc
   all-of ending.VolumeFault (inr q) r none = absurd cc
 
--- a run that was ended so left the journal of one, and did all where no notice was asked for
+-- a run that was ended so left the journal of one, and did all if no notice was asked for
 pub run-of : {G : Ghosts ScriptEnd} (t : Terms) (asked : Asked) (groups : List ScriptGroup)
     (journal : List (Entry ServerNote)) (how : Ending) → (how ≡ ending.Over)
     ⊎ (how ≡ ending.Notified) → EndedSo G t asked groups how journal

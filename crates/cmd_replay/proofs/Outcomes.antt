@@ -1,4 +1,4 @@
--- What is left where nothing was served, and where a text was.
+-- What is left if nothing was served, and if a text was.
 use Rattle.std.proofs.Common.{◌≡◌, ◌∙◌, ◌≤◌, ◌+◌, arith, inl, inr, ℕ, List, [], length, drop}
 use Rattle.std.proofs.Common.{Option, Some, None, refl, sym, ap, subst, lit≤}
 use Rattle.std.specs.Prelude.{option_map}
@@ -81,7 +81,7 @@ unled-in G sink facts Plain t asked groups = unled (with_lines G sink facts) t a
 unled-in G sink facts Grouped t asked groups = unled (unwatched G facts) t asked groups
 unled-in G sink facts Journal t asked groups = unled (with_text G sink facts) t asked groups
 
--- where there was no memory for a run, nothing was written, and the journal is empty
+-- if there was no memory for a run, nothing was written, and the journal is empty
 pub runs-none : {K V : Type 0} {G : Ghosts ScriptEnd} (sink : K → SinkFacts)
     (facts : V → VolumesFacts ServerNote) (form : Form) (asked : Asked) (groups : List ScriptGroup)
     (output : K) (volumes : V) (played : Played K V)

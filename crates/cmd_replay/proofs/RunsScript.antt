@@ -252,7 +252,7 @@ runs-script {K} {W} {V} {Q} {G} m sink form asked groups o v served how output l
       written = written;
     }
 
--- ---- text that is written behind the run
+-- ---- text that is written after the run
 
 unfailed : (how : Ending) → (how ≡ ending.Over) ⊎ (how ≡ ending.Notified)
     → how ≡ ending.VolumeFault → ⊥

@@ -34,7 +34,7 @@ script_meaning G watched faults is_broken whole volumes =
     meaning (servers {G = G} script_end_facts ScriptEndKeeps) script_net_facts script_net_keeps
     (Shows timers_of) (HasPlaces spare_of) IsPlaced watched faults is_broken whole volumes
 
--- the same where its watch writes the lines of the notes, or the text of the journal, and where
+-- the same if its watch writes the lines of the notes, or the text of the journal, and if
 -- nobody watches
 abbrev pub with_lines : {K V : Type 0} → (G : Ghosts ScriptEnd) → (K → SinkFacts)
     → (V → VolumesFacts ServerNote)

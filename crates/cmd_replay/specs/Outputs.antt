@@ -20,19 +20,19 @@ text_in Grouped most journal = lines_by_connection journal
 text_in Journal most journal = text_so_far most journal
 
 -- What a run wrote that ended so and wrote as it went: all of the text of its journal, or a front
--- of it where a write failed.
+-- of it if a write failed.
 abbrev pub WritesAlong : ReplayEnd → SinkFacts → List ℕ → SinkFacts → Type 0
 WritesAlong end.WriteFault o text p = TookFront o text p
 WritesAlong _ o text p = TookAll o text p
 
--- What a run wrote that ended so and writes once it is done: all, or a front where a write failed;
--- and nothing where it was not done.
+-- What a run wrote that ended so and writes once it is done: all, or a front if a write failed;
+-- and nothing if it was not done.
 abbrev pub WritesBehind : ReplayEnd → SinkFacts → List ℕ → SinkFacts → Type 0
 WritesBehind end.Done o text p = TookAll o text p
 WritesBehind end.WriteFault o text p = TookFront o text p
 WritesBehind _ o text p = p ≡ o
 
--- text that is grouped is made of the whole journal, and so is written behind the run
+-- text that is grouped is made of the whole journal, and so is written after the run
 abbrev pub WritesText : Form → ReplayEnd → SinkFacts → List ℕ → SinkFacts → Type 0
 WritesText Plain ended o text p = WritesAlong ended o text p
 WritesText Grouped ended o text p = WritesBehind ended o text p

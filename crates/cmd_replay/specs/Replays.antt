@@ -28,7 +28,7 @@ use Rattle.cmd_replay.specs.declared.ends.Played.{Played}
 use Rattle.cmd_replay.specs.declared.ends.ReplayEnd.{ReplayEnd}
 use Rattle.cmd_replay.specs.declared.ends.ReplayEnd.TheVariants as end
 
--- how many entries a volume has at least: as many as its keeper says, but all where the text is
+-- how many entries a volume has at least: as many as its keeper says, but all if the text is
 -- grouped, which is made of the whole journal
 abbrev pub volume_in : Form → ℕ → ℕ
 volume_in Grouped size = 2 ^ 62
@@ -68,7 +68,7 @@ pub record IsOfText (script : ScriptContent) (groups : List ScriptGroup) : Type 
   pub is_text : IsScriptText text groups
   pub has : HasGroups script 0 groups
 
--- With which ending of the run a replay may end so. That a volume was not taken is told only where
+-- With which ending of the run a replay may end so. That a volume was not taken is told only if
 -- nothing else ended the run, and want of memory not in its place.
 abbrev pub EndsReplay : ReplayEnd → Ending → ℕ → ℕ → Type 0
 EndsReplay end.Done how before now = (how ≡ ending.Over) ⊎ (how ≡ ending.Notified)
@@ -79,14 +79,14 @@ EndsReplay (end.BadText line) how before now = ⊥
 EndsReplay end.ReadFault how before now = ⊥
 EndsReplay end.TooLong how before now = ⊥
 
--- The terms of a run: those of its script, of the volumes, and of the output where it is written to
+-- The terms of a run: those of its script, of the volumes, and of the output if it is written to
 -- as the run goes.
 abbrev pub terms_in : Form → Asked → List ScriptGroup → SinkFacts → VolumesFacts ServerNote → Terms
 terms_in Plain asked groups o v = terms_of_script asked.connections asked.idle groups o v
 terms_in Grouped asked groups o v = terms_of_script asked.connections asked.idle groups unseen v
 terms_in Journal asked groups o v = terms_of_script asked.connections asked.idle groups o v
 
--- What became of the text of a run that ended so and writes behind it, where it holds the entries
+-- What became of the text of a run that ended so and writes after it, if it holds the entries
 -- from this number on: of a run that was done and handed none over, all of the text or a front of
 -- it was written; and else nothing.
 abbrev pub WritesHeld : ReplayEnd → ℕ → SinkFacts → List ℕ → ReplayEnd → SinkFacts → Type 0
@@ -107,7 +107,7 @@ RanIn G sink facts Grouped t asked groups how journal =
 RanIn G sink facts Journal t asked groups how journal =
     RanSo G (with_text G sink facts) t asked groups how journal
 
--- What a run over a script leaves whose journal is written in this form, where the output told o
+-- What a run over a script leaves whose journal is written in this form, if the output told o
 -- and the volumes v before it: one journal, of which the last entries are held. The run came to it
 -- and ended in a way with which a replay ends so; and its text was written.
 pub record RunsScript {K V : Type 0} (G : Ghosts ScriptEnd) (sink : K → SinkFacts)

@@ -64,12 +64,12 @@ FailsNet _ = ⊥
 
 -- The journal of a run over a script that ended so: it is legal, was stopped, and each handle that
 -- was opened was closed; it began with the registration of the acceptor, if a handler was
--- registered at all, and before its end it goes by turns alone; behind its end each handler that a
--- turn installs is registered or refused directly behind that turn, where one `Closed` may stand
--- between; notifications are for the acceptor, and stand only where a notice was asked for; it
+-- registered at all, and before its end it goes by turns alone; after its end each handler that a
+-- turn installs is registered or refused directly after that turn, but one `Closed` may stand
+-- between; notifications are for the acceptor, and stand only if a notice was asked for; it
 -- follows the script, and no handler was refused for a fault; each connection that it notes as
 -- accepted took a front of its bytes, noted the records of these, and was closed once, with a word
--- that has its cause. Where no notice was asked for and nothing could be reported any more, it ran
+-- that has its cause. If no notice was asked for and nothing could be reported any more, it ran
 -- over the whole script.
 pub record IsScriptRun (G : Ghosts ScriptEnd) (t : Terms) (asked : Asked)
     (groups : List ScriptGroup) (how : Ending) (journal : List (Entry ServerNote)) : Type 0 where
@@ -91,7 +91,7 @@ pub record IsScriptRun (G : Ghosts ScriptEnd) (t : Terms) (asked : Asked)
       → RunsOver {H = ServerHandler ScriptEnd G} (servers script_end_facts ScriptEndKeeps) t
       asked.idle groups journal
 
--- One worker leaves the serial journal of the script, where nothing could be reported any more;
+-- One worker leaves the serial journal of the script, if nothing could be reported any more;
 -- and, without an idle time, few entries.
 pub record IsOfOneWorker (asked : Asked) (groups : List ScriptGroup) (how : Ending)
     (journal : List (Entry ServerNote)) : Type 0 where
@@ -103,7 +103,7 @@ pub record IsOfOneWorker (asked : Asked) (groups : List ScriptGroup) (how : Endi
 -- What a run has done that was over with its whole script, however many workers ran it: each
 -- connection of the script was accepted; no group of it is left, and no step but those of ends that
 -- were closed or refused; each connection that was closed as read to its end has taken all its
--- bytes. Where no idle time was asked for, there was room for all connections, and none was closed
+-- bytes. If no idle time was asked for, there was room for all connections, and none was closed
 -- for want of memory, the lines of the journal, connection after connection, are the grouped text
 -- of the script.
 pub record DoesAll (asked : Asked) (groups : List ScriptGroup)
@@ -121,7 +121,7 @@ pub record DoesAll (asked : Asked) (groups : List ScriptGroup)
 
 -- What the journal is, by how the run ended. At a wait that was answered Over, it is that of a run,
 -- which did all that the script has, if no notice was asked for. By its notice, it is that of a
--- run. Else it is so too, or empty, where there was no memory for a reactor.
+-- run. Else it is so too, or empty, if there was no memory for a reactor.
 abbrev pub EndedSo : Ghosts ScriptEnd → Terms → Asked → List ScriptGroup → Ending
     → List (Entry ServerNote) → Type 0
 EndedSo G t asked groups ending.Over journal = IsScriptRun G t asked groups ending.Over journal

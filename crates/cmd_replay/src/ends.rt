@@ -21,9 +21,9 @@ pub enum ReplayEnd {
     },
     /// A read failed. Nothing was served.
     ReadFault,
-    /// A write failed, behind which nothing was written.
+    /// A write failed, after which nothing was written.
     WriteFault,
-    /// There was no memory. Text that is grouped was not written then; nor is it where entries were
+    /// There was no memory. Text that is grouped was not written then; nor is it if entries were
     /// handed over, of which it is made too.
     NoMemory,
     /// As many bytes as the limit were read, and one more was there. Nothing was served.
@@ -52,7 +52,7 @@ pub struct Played<K, V> {
 pub struct Replayed<S, K, V> {
     /// The source that was handed in.
     pub input: S,
-    /// What the run over the script leaves, or, where nothing was served, an empty journal and all
+    /// What the run over the script leaves, or, if nothing was served, an empty journal and all
     /// that was handed in.
     pub played: Played<K, V>,
 }

@@ -178,7 +178,7 @@ pub(crate) fn run_grouped<R: Threads + Wait + Sync, K: Sink, V: Volumes<ServerNo
     }
 }
 
-/// Writes the lines of a run that ended so, connection after connection, where it is done and no
+/// Writes the lines of a run that ended so, connection after connection, if it is done and no
 /// entry was handed over. Else, and for want of memory, nothing is written.
 fn write_held<K: Sink>(
     alloc: Global,

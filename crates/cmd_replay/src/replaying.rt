@@ -22,7 +22,7 @@ use std::thread::Threads;
 /// Reads the text of a script to its end, of which `limit` bytes may be read, and runs the logging
 /// server over a net that plays it. What the journal says is written to the output in the form that
 /// the options name, and its entries are handed over to the keeper of volumes, in volumes of at
-/// least as many entries as it says, but not before the end where the form is `Grouped`.
+/// least as many entries as it says, but not before the end if the form is `Grouped`.
 ///
 /// Nothing is served before the last line of the text was read and found good.
 pub fn replay<R: Threads + Wait + Sync, S: Source, K: Sink + Send, V: Volumes<ServerNote> + Send>(
@@ -52,7 +52,7 @@ pub fn replay<R: Threads + Wait + Sync, S: Source, K: Sink + Send, V: Volumes<Se
     Replayed { input, played }
 }
 
-/// Runs over the script of a text, where it is one. The text is let go before that.
+/// Runs over the script of a text, if it is one. The text is let go before that.
 fn replay_text<R: Threads + Wait + Sync, K: Sink + Send, V: Volumes<ServerNote> + Send>(
     rt: &R,
     alloc: Global,
@@ -103,7 +103,7 @@ pub fn run_script<R: Threads + Wait + Sync, K: Sink + Send, V: Volumes<ServerNot
     }
 }
 
-/// What is left where nothing was served.
+/// What is left if nothing was served.
 fn unserved<K, V>(alloc: Global, end: ReplayEnd, output: K, volumes: V) -> Played<K, V>
     ensures end { result.end ≡ end }
     ensures unserved { IsUnplayed output volumes result }

@@ -133,7 +133,7 @@ pub record LeavesHost {H M Q W K V E : Type 0} (m : Meaning H M Q W V ServerNote
   pub run : RunsWhereGiven m t asked o served.net served.end journal
   pub lines : OutputTook served.end o (journal_lines journal) (sink served.output)
 
--- The host's count of faults rose where it could not listen, and then there is no net; and else it
+-- The host's count of faults rose if it could not listen, and then there is no net; and else it
 -- is what it was.
 abbrev pub ListensSo : {M : Type 0} → HostEnd → Option M → ℕ → ℕ → Type 0
 ListensSo end.ListenFault net before now = (net ≡ None) × Rose before now

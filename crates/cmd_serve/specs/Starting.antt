@@ -9,7 +9,7 @@ use Rattle.server_run.specs.declared.asked.Asked.{Asked}
 
 -- The terms of these options, for an output and volumes that tell these facts at the start: one
 -- handler more than connections may be live, for the acceptor; a wait goes on for 1,000
--- milliseconds at most; the journal goes by turns alone behind its first entry, the registration of
+-- milliseconds at most; the journal goes by turns alone after its first entry, the registration of
 -- the acceptor. They leave open what the host lays down.
 abbrev pub terms_of : Options → SinkFacts → VolumesFacts ServerNote → Terms
 terms_of options output volumes = record (open_terms (options.most + 1)) {

@@ -10,7 +10,7 @@ use reactor_model::{Journal, Watch};
 use server_run::{Ending, Served};
 use std::alloc::Global;
 
-/// How a run over a host ended. Of several causes the first in this order is told; where the host
+/// How a run over a host ended. Of several causes the first in this order is told; if the host
 /// does not listen there is no other.
 #[derive(Clone, Copy, PartialEq, Eq, Debug)]
 pub enum HostEnd {
@@ -34,11 +34,11 @@ pub struct HostServed<M, K, V> {
     /// How it ended.
     pub end: HostEnd,
     /// The entries of the journal that were not handed over to the volumes, from number `first` on.
-    /// Where no reactor was made there are none.
+    /// If no reactor was made there are none.
     pub journal: Journal<ServerNote>,
     /// How many entries were handed over.
     pub first: u64,
-    /// The net that the host gave, where it listened.
+    /// The net that the host gave, if it listened.
     pub net: Option<M>,
     /// The sink that was handed in.
     pub output: K,
@@ -93,7 +93,7 @@ pub(crate) fn told_end(whole: bool, end: HostEnd) -> HostEnd
     if whole { end } else { HostEnd::WriteFault }
 }
 
-/// What is left where no run was begun.
+/// What is left if no run was begun.
 pub(crate) fn unserved<M, K, V>(
     alloc: Global,
     end: HostEnd,

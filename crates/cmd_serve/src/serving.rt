@@ -38,7 +38,7 @@ const MOST_WAIT: u64 = 1_000;
 /// second at most. Without `until` in the options it goes on until the net has nothing to report
 /// any more.
 ///
-/// `ListenFault` comes exactly where the host could not listen. Then nothing was done.
+/// `ListenFault` comes exactly if the host could not listen. Then nothing was done.
 pub fn serve_host<
     R: Clock + Threads + Wait + Copy + Send + Sync + 'static,
     H: Host,
@@ -176,7 +176,7 @@ fn serve_behind<
     }
 }
 
-/// Runs the server over what a host gave: a new net, its listener, and what wakes the net. Where
+/// Runs the server over what a host gave: a new net, its listener, and what wakes the net. If
 /// there is no memory for the timers the listener and the waker are dropped.
 fn serve_net<
     R: Threads + Wait + Sync,

@@ -1,4 +1,4 @@
--- Turns of a connector, one behind another.
+-- Turns of a connector, one after another.
 use Rattle.std.proofs.Common.{◌≡◌, List, [], ◌∷◌, ◌++◌, Bool, true, false, refl, sym, subst, ap}
 use Rattle.ev_base.specs.ev_types.specs.declared.upcall.Upcall.{Upcall}
 use Rattle.ev_base.specs.ev_types.specs.declared.upcall.Upcall.TheVariants.{Input, Output, Except}
@@ -8,7 +8,7 @@ use Rattle.reactor_model.specs.Handling.{NoClose, GoesOn}
 use Rattle.connector.specs.declared.note.ConnectNote.{ConnectNote}
 use Rattle.connector.specs.Connecting.{Progress, Turns, TurnsBy, Course}
 
--- a course and more turns behind it
+-- a course and more turns after it
 pub course_more : {N : Type 0} (start : Progress N) (had items : List (Item (ConnectNote N)))
     (p q : Progress N) → Course start had p → Course p items q → Course start (had ++ items) q
 course_more {N} start [] items p q first next =
@@ -52,7 +52,7 @@ turn_open false (Timeout timer) p q item h goes open_ =
 turn_open false (Notice kind) p q item h goes open_ =
     same_open p q (ap (λ r. r.live) h.leaves) open_
 
--- where no answer was Close, no answer of the service was
+-- if no answer was Close, no answer of the service was
 pub course_open : {N : Type 0} (start p : Progress N) (had : List (Item (ConnectNote N)))
     → NoClose start.live → Course start had p → NoClose had → NoClose p.live
 course_open start p [] none course open_ = same_open start p (ap (λ r. r.live) course) none

@@ -26,7 +26,7 @@ use Rattle.connector.specs.Connectors.{LetsServe, DoesTurn, DoesWaiting, DoesCon
 use Rattle.connector.specs.Connectors.{service_of, is_connected}
 use Rattle.connector.proofs.Courses.{course_more, course_one, course_open}
 
--- ---- what an end tells behind a question, and behind a turn of the service
+-- ---- what an end tells after a question, and after a turn of the service
 
 counts_more : (n tries : ℕ) → Counts n tries → Counts (counted n) (suc tries)
 counts_more n tries h = omega arith

@@ -1,4 +1,4 @@
--- What the turns of a connector come to, one behind another.
+-- What the turns of a connector come to, one after another.
 use Rattle.std.proofs.Common.{◌≡◌, ◌∙◌, ◌+◌, ℕ, suc, arith, List, [], ◌∷◌, ◌++◌, Bool, true, false}
 use Rattle.std.proofs.Common.{cond, refl, sym, subst, ap}
 use Rattle.std.specs.List.{flat_map}

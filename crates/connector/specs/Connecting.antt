@@ -111,7 +111,7 @@ TurnsBy false up before item after = Awaits up before item after
 abbrev pub Turns : {N : Type 0} → Progress N → Item (ConnectNote N) → Progress N → Type 0
 Turns before item after = TurnsBy before.connected item.upcall before item after
 
--- turns one behind another, each from where the one before left it
+-- turns one after another, each from where the one before left it
 abbrev pub Course : {N : Type 0} → Progress N → List (Item (ConnectNote N)) → Progress N → Type 0
 Course start [] p = p ≡ start
 Course {N} start (item ∷ items) p =

@@ -38,7 +38,7 @@ live_by item _ = []
 abbrev pub live_in : {N : Type 0} → Item (ConnectNote N) → List (Item N)
 live_in item = live_by item item.note
 
--- What a turn notes, behind a turn that noted that the connection is made, or behind none.
+-- What a turn notes, after a turn that noted that the connection is made, or after none.
 abbrev pub NotesSo : {N : Type 0} → Bool → Item (ConnectNote N) → ConnectNote N → Type 0
 NotesSo made item note.Waiting = item.answer ≡ Keep
 NotesSo made item note.Connected = (made ≡ false) × (item.upcall ≡ Output) × (item.answer ≡ Again)
@@ -48,7 +48,7 @@ NotesSo made item (note.TimedOut now) =
     (made ≡ false) × IsTimeout item.upcall × (now ≡ item.moment) × (item.answer ≡ Close)
 NotesSo made item note.Shut = ⊥
 
--- one turn, behind these
+-- one turn, after these
 pub record IsTold {N : Type 0} (before : List (Item (ConnectNote N)))
     (item : Item (ConnectNote N)) : Type 0 where
   pub made : Bool
@@ -56,7 +56,7 @@ pub record IsTold {N : Type 0} (before : List (Item (ConnectNote N)))
   pub notes : NotesSo made item item.note
   pub times_out : IsTimeout item.upcall → made ≡ false → item.note ≡ note.TimedOut item.moment
 
--- The connection is noted as made once at most, and exactly where the last question was answered
+-- The connection is noted as made once at most, and exactly if the last question was answered
 -- so; each turn of output up to that one asked once; the turns of the service are those that are
 -- noted as live; and each turn notes what it should.
 pub record TurnsTellSo {N : Type 0} (had : List (Item (ConnectNote N))) (p : Progress N) : Type 0

@@ -1,4 +1,4 @@
--- How a run of one connector begins, and what is left where it does not.
+-- How a run of one connector begins, and what is left if it does not.
 use Rattle.std.proofs.Common.{ℕ, ◌≡◌, ◌+◌, ⊎_elim, List, [], ◌∷◌, refl, sym, ap, ◌∙◌, subst}
 use Rattle.std.proofs.Common.{arith, Option, Some, None}
 use Rattle.std.specs.Prelude.{Err}

@@ -78,7 +78,7 @@ stops_alive {N} s entries handler going are handle alive none stops =
 
 -- ---- ends
 
--- no mark is behind the last wait
+-- no mark is after the last wait
 last_within : (told : List Waited) → last_over told ≤ length told
 last_within [] = omega arith
 last_within (waited.Over moment ∷ earlier) = omega arith
@@ -119,7 +119,7 @@ module _ {H E N : Type 0} (means : Handling H E N) (t : Terms) where
     gone = r.0.1;
   }
 
-  -- the net's ends, where one handler was closed and none refused
+  -- the net's ends, if one handler was closed and none refused
   leaves_one : (all past : List (Entry N)) (said : N) (net : NetFacts E) (turns : List (Item N))
       → NetStands means t all [] net → count is_closed past ≡ 0 → count is_refused all ≡ 0
       → ((ends : List (ℕ × E)) → AreRetired means t all ends
@@ -139,7 +139,7 @@ module _ {H E N : Type 0} (means : Handling H E N) (t : Terms) where
             same g.gone;
       }
 
--- no entry of a legal history closed or refused a handler, where its summary counts none
+-- no entry of a legal history closed or refused a handler, if its summary counts none
 counted : {N : Type 0} (most : ℕ) (h : List (Entry N)) → Legal h most → (sum h).closed ≡ 0
     → count is_closed (past_of h) ≡ 0
 counted most h legal none = sym (told most (past_of h) legal).closed ∙ none
@@ -264,7 +264,7 @@ last_is_over (waited.Reports now many ∷ earlier) q some =
 last_is_over (waited.Quiet now ∷ earlier) q some = absurd (omega (arith, q, last_within earlier))
 last_is_over (waited.Failed ∷ earlier) q some = absurd (omega (arith, q, last_within earlier))
 
--- where the mark is the number of the last wait
+-- if the mark is the number of the last wait
 pub last_waited : {N : Type 0} (marks : WaitMarks) (past later : List (Entry N))
     (calls : Option (List Call)) → marks.made ≡ count is_polled past
     → MarksStand marks later (told_answers calls) → marks.over ≡ count is_polled past

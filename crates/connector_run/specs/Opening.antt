@@ -36,7 +36,7 @@ abbrev pub connect_refusal : RegisterRefused → OpenRefused
 connect_refusal register.NetFailed = NotAttached
 connect_refusal _ = NoMemory
 
--- the net's count of failed attaches rose where the end was not attached
+-- the net's count of failed attaches rose if the end was not attached
 abbrev pub OpenHasCause : OpenRefused → ℕ → ℕ → Type 0
 OpenHasCause NotAttached before now = Rose before now
 OpenHasCause NoMemory before now = Unit {0}

@@ -21,7 +21,7 @@ EndsSo m t wait ended.Over over first h =
 EndsSo m t wait ended.NetFault over first h = IsAlive wait h
 EndsSo m t wait ended.NoMemory over first h = IsAlive wait h
 
--- the net's count of failed waits rose where a wait failed
+-- the net's count of failed waits rose if a wait failed
 abbrev pub HasCause : Ended → ℕ → ℕ → Type 0
 HasCause ended.NetFault before now = Rose before now
 HasCause _ before now = Unit {0}

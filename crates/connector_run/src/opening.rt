@@ -30,7 +30,7 @@ pub enum OpenRefused {
     NoMemory,
 }
 
-/// What is left where there is no run.
+/// What is left if there is no run.
 pub struct Unopened<E, M> {
     /// Why there is none.
     pub why: OpenRefused,

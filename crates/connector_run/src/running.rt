@@ -70,8 +70,8 @@ where
 }
 
 /// Stops a reactor with no upcall on its way, and takes it apart. Its net has retired one end, that
-/// of the connector, and turned none away. Where the connector had closed itself, the journal ends
-/// with the note of its last turn. Where the last wait was answered that nothing can be reported
+/// of the connector, and turned none away. If the connector had closed itself, the journal ends
+/// with the note of its last turn. If the last wait was answered that nothing can be reported
 /// any more, the net tells so, if it tells its calls.
 pub fn finish<E: DialEnd, V: Service<End = E> + Drop, M: Net<End = E>>(
     core: ConnectCore<E, V, M>,

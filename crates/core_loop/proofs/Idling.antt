@@ -1,4 +1,4 @@
--- That no upcall is on its way behind each call.
+-- That no upcall is on its way after each call.
 use Rattle.std.proofs.Common.{ℕ, ◌≡◌, Bool, true, false, List, [], ◌∷◌, ◌++◌, length, sym, ap, ◌∙◌}
 use Rattle.std.proofs.Common.{subst, refl, Option, Some, None}
 use Rattle.std.specs.Option.{is_some}

@@ -1,4 +1,4 @@
--- How a history goes on behind each call, and behind several.
+-- How a history goes on after each call, and after several.
 use Rattle.std.proofs.Common.{ℕ, ◌≡◌, ◌≤◌, ◌<◌, ◌+◌, ◌⊎◌, ⊎_elim, inl, inr, Bool, true, false, not}
 use Rattle.std.proofs.Common.{List, [], ◌∷◌, ◌++◌, length, refl, sym, ap, ◌∙◌, subst, arith, map}
 use Rattle.std.proofs.Common.{Option, Some, None, filter, rules}
@@ -182,7 +182,7 @@ module _ {H E N : Type 0} (means : Handling H E N) (t : Terms) where
   runs_once until ended over first h entries g step is ends =
       record { steps = entries ∷ []; reaches = (h, refl, step, is); ends = ends }
 
-  -- what stands behind a volume that was not taken says nothing more of the history
+  -- what stands after a volume that was not taken says nothing more of the history
   pub failed_so : (until : Option ℕ) (why : RunEnd) (before now over first : ℕ)
       (h g : List (Entry N)) → FailsVolume before why now → StaysBelow until h g
       → EndedSo means t until (Some why) over h first g
@@ -320,7 +320,7 @@ module _ {H M Q' W V N E : Type 0} (m : Meaning H M Q' W V N E) (t : Terms) wher
       goes_same h _ F new (subst (λ (c : Core H M Q' W V N E). Stands m t c F h) (sym handed.1)
       stands) none refl
 
-  -- a volume was handed over where one was due
+  -- a volume was handed over if one was due
   pub handed_over : (F : ℕ) (h : List (Entry N)) (n : ℕ) (old new : Core H M Q' W V N E)
       → NoneOpen h → Stands m t old F h → HandsOver m t F h n old new
       → GoesOn m t h (λ first g. g ≡ h) new
@@ -376,7 +376,7 @@ module _ {H M Q' W V N E : Type 0} (m : Meaning H M Q' W V N E) (t : Terms) wher
       (runs_once m.means t until None over a.first h a.so.0 a.history (inr a.so.1) a.so.2
       (λ few. step_counted until closed false a.first h a.history a.so is))
 
-  -- a wait behind which there is no upcall to make, since nothing can be reported any more; any
+  -- a wait after which there is no upcall to make, since nothing can be reported any more; any
   -- other wait; and one that was refused
   pub step_over : (until : Option ℕ) (over : ℕ) (h : List (Entry N)) (between : List (Entry N))
       → between ≡ h → (new : Core H M Q' W V N E)
@@ -421,7 +421,7 @@ module _ {H M Q' W V N E : Type 0} (m : Meaning H M Q' W V N E) (t : Terms) wher
             stands.settled.none_waits;
       }
 
-  -- it was stopped, where it was not before
+  -- it was stopped, if it was not before
   pub record Stopped (F : ℕ) (h : List (Entry N)) (core : Core H M Q' W V N E) : Type 0 where
     pub entries : List (Entry N)
     pub stops : StopAppends (sum h) (sum h).ended entries

@@ -1,4 +1,4 @@
--- What holds while the one upcall that was made is on its way, and behind its settling.
+-- What holds while the one upcall that was made is on its way, and after its settling.
 use Rattle.std.proofs.Common.{ℕ, ◌≡◌, ◌≤◌, Bool, false, List, [], ◌∷◌, ◌++◌, length, refl, sym, ap}
 use Rattle.std.proofs.Common.{◌∙◌, subst, Option, Some, None, arith, true, ⊎_elim}
 use Rattle.std.proofs.lemmas.Bool.{false≢true}
@@ -66,7 +66,7 @@ no_pick m old new (Ok (Some x)) t F h st is gave = cc
 no_pick m old new (Ok None) t F h st is gave = (gave t F h st).0
 no_pick m old new (Err x) t F h st is gave = cc
 
--- where nothing was started there is no upcall to make
+-- if nothing was started there is no upcall to make
 pub has_none : {H M Q W V N E : Type 0} (m : Meaning H M Q W V N E) (old new : Core H M Q W V N E)
     (result : Result (Option (Job H N E)) StartRefused) (i : IsIdle m old) → result ≡ Ok None
     → StartGave m old result new → HasNoUpcall m new
@@ -85,7 +85,7 @@ has_none m old new result i is gave = (
 pub both_ways : (b : Bool) → b ≡ true → b ≡ false → ⊥
 both_ways b is off = false≢true (sym off ∙ is)
 
--- where an upcall was started there was one to make
+-- if an upcall was started there was one to make
 pub had_one : {H M Q W V N E : Type 0} (m : Meaning H M Q W V N E) (old new : Core H M Q W V N E)
     (result : Result (Option (Job H N E)) StartRefused) (job : Job H N E) → result ≡ Ok (Some job)
     → StartGave m old result new → HasNoUpcall m old → ⊥
@@ -105,7 +105,7 @@ pub one_open : (moment : ℕ) (w : Option WaitingEvent) → length (opens_from m
 one_open moment None = omega arith
 one_open moment (Some w) = omega arith
 
--- where no upcall is on its way, one is behind the start of one
+-- if no upcall is on its way, one is after the start of one
 pub one_started : {N : Type 0} → (h : List (Entry N)) (event : ℕ) → (sum h).opens ≡ []
     → length (sum (h ++ Started event ∷ [])).opens ≤ 1
 one_started {N = N} h event none =
@@ -119,7 +119,7 @@ one_started {N = N} h event none =
       ap (λ os. length (os ++ opens_from (sum h).moment (waiting_event (sum h) event))) none,
     )
 
--- behind the start of an idle reactor one upcall is on its way
+-- after the start of an idle reactor one upcall is on its way
 pub goes_out : {H M Q W V N E : Type 0} (m : Meaning H M Q W V N E) (old new : Core H M Q W V N E)
     (result : Result (Option (Job H N E)) StartRefused) (job : Job H N E) (done : Done H N E)
     {bound : Option (Option ℕ)} (i : IsIdleOn m bound old) → result ≡ Ok (Some job)
@@ -189,7 +189,7 @@ none_of : {A : Type 0} (xs : List A) → length xs ≤ 0 → xs ≡ []
 none_of [] le = refl
 none_of (x ∷ xs) le = absurd (omega (arith, le))
 
--- behind the settling of the one upcall that was on its way, none is
+-- after the settling of the one upcall that was on its way, none is
 pub none_left : {H M Q W V N E : Type 0} (m : Meaning H M Q W V N E) (old new : Core H M Q W V N E)
     (done : Done H N E) (settled : _) (t : Terms) (F : ℕ) (h : List (Entry N))
     (fits : DoneFits m.means t (past_of h) done) → length (sum h).opens ≤ 1

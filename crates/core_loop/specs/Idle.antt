@@ -44,7 +44,7 @@ abbrev pub StaysIdle : {H M Q W V N E : Type 0} → Meaning H M Q W V N E → Co
 StaysIdle m old new = (bound : Option (Option ℕ)) → IsIdleOn m bound old → IsIdleOn m bound new
 
 -- It stays idle on terms that have this limit of waits. So each wait of a net that tells its calls
--- was asked for this limit, or for less where a deadline came first.
+-- was asked for this limit, or for less if a deadline came first.
 abbrev pub StaysWithin : {H M Q W V N E : Type 0} → Meaning H M Q W V N E → Option ℕ
     → Core H M Q W V N E → Core H M Q W V N E → Type 0
 StaysWithin m most old new = IsIdleOn m (Some most) old → IsIdleOn m (Some most) new
@@ -70,7 +70,7 @@ abbrev pub IsOut : {H M Q W V N E : Type 0} → Meaning H M Q W V N E → Core H
     → Done H N E → Type 0
 IsOut m core done = IsOutOn m None core done
 
--- it stands so while the upcall is out, or stands idle where there is none
+-- it stands so while the upcall is out, or stands idle if there is none
 abbrev pub IsOutOrIdleOn : {H M Q W V N E : Type 0} → Meaning H M Q W V N E → Option (Option ℕ)
     → Core H M Q W V N E → Option (Done H N E) → Type 0
 IsOutOrIdleOn m bound core (Some done) = IsOutOn m bound core done
@@ -107,7 +107,7 @@ abbrev pub WasOver : {H M Q W V N E : Type 0} → Meaning H M Q W V N E → Core
 WasOver m core = (i : IsIdle m core) × (over_of core ≡ count is_polled (past_of i.history))
     × HasNoPick (past_of i.history)
 
--- What stands behind the end of a step of a loop over a net whose count of failed waits was this
+-- What stands after the end of a step of a loop over a net whose count of failed waits was this
 -- before. Want of memory alone needs no cause.
 abbrev pub StepEndsSo : {H M Q W V N E : Type 0} → Meaning H M Q W V N E → Option ℕ → ℕ → RunEnd
     → Core H M Q W V N E → Type 0
@@ -121,20 +121,20 @@ StepEndsSo m until waits end.Broken core = ⊥
 StepEndsSo m until waits end.VolumeFault core = ⊥
 StepEndsSo m until waits end.NoMemory core = Unit {0}
 
--- behind a volume that was not taken, where the volumes' count of faults was this before
+-- after a volume that was not taken, if the volumes' count of faults was this before
 abbrev pub FailsVolume : ℕ → RunEnd → ℕ → Type 0
 FailsVolume before end.VolumeFault now = Rose before now
 FailsVolume before end.NoMemory now = Unit {0}
 FailsVolume before _ now = ⊥
 
--- its watch failed: where the terms name the count of faults at the start, it rose since
+-- its watch failed: if the terms name the count of faults at the start, it rose since
 pub record HasBroken {H M Q W V N E : Type 0} (m : Meaning H M Q W V N E)
     (core : Core H M Q W V N E) : Type 0 where
   pub told : m.is_broken (watch_of core) ≡ true
   pub rose : From m core (λ t F h. (before : ℕ) → t.output_faults ≡ Some before
       → Rose before (m.faults (watch_of core)))
 
--- behind the end of a loop
+-- after the end of a loop
 abbrev pub EndsSo : {H M Q W V N E : Type 0} → Meaning H M Q W V N E → Option ℕ → ℕ → ℕ → RunEnd
     → Core H M Q W V N E → Type 0
 EndsSo m until waits faults end.VolumeFault core = Rose faults (m.volumes (volumes_of core)).faults

@@ -52,7 +52,7 @@ pub record IsWait {N : Type 0} (entries : List (Entry N)) : Type 0 where
   pub is : entries ≡ entry.Polled now ∷ (map due_of timers ++ map ready_of reports)
 
 -- A turn: the `Started` of the upcall that was next and its `Returned`, then the `Closed` of its
--- handler where its handle is not alive any more, and what its act appends. The upcall fits what
+-- handler if its handle is not alive any more, and what its act appends. The upcall fits what
 -- its handler had, and the act is one that the turn may carry. `before` and `after` are the net's
 -- counts of failed attaches.
 pub record IsTurn {H E N : Type 0} (means : Handling H E N) (t : Terms)
@@ -124,7 +124,7 @@ TurnedSo {N = N} means (Ok (Some closed)) t before first h =
 TurnedSo means (Ok None) t before first h = (h ≡ before) × HasNoPick (past_of h)
 TurnedSo means (Err why) t before first h = h ≡ before
 
--- a wait was made, and where nothing can be reported any more the reactor's last mark is its number
+-- a wait was made, and if nothing can be reported any more the reactor's last mark is its number
 pub record IsWaited {N : Type 0} (found : Polled) (over : ℕ)
     (before h : List (Entry N)) : Type 0 where
   pub entries : List (Entry N)
@@ -162,7 +162,7 @@ abbrev pub StaysBelow : {N : Type 0} → Option ℕ → List (Entry N) → List 
 StaysBelow until before h =
     is_enough until (closed_of before) ≡ false → is_enough until (closed_of h) ≡ false
 
--- The last step was a turn, behind which as many handlers were closed or refused as are asked for,
+-- The last step was a turn, after which as many handlers were closed or refused as are asked for,
 -- and not before it. Its entries are held.
 pub record EndsEnough {H E N : Type 0} (means : Handling H E N) (t : Terms) (until : Option ℕ)
     (before : List (Entry N)) (first : ℕ) (h : List (Entry N)) : Type 0 where
@@ -214,8 +214,8 @@ pub record RunsSo {H E N : Type 0} (means : Handling H E N) (until : Option ℕ)
 
 -- ---- the end
 
--- It was stopped and taken apart, where it was not stopped before with the removal of the handlers
--- that were alive. Its parts stand for a history that begins with the one that it stood for.
+-- It was stopped and taken apart; if it was not stopped before, the handlers that were alive were
+-- removed. Its parts stand for a history that begins with the one that it stood for.
 pub record LeavesFrom {H M Q W V N E : Type 0} (m : Meaning H M Q W V N E) (armed : Q → List Timer)
     (t : Terms) (F : ℕ) (before : List (Entry N)) (parts : Parts N M Q W V) : Type 0 where
   pub entries : List (Entry N)

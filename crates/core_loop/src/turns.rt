@@ -69,7 +69,7 @@ pub fn register<
 }
 
 /// Makes the next upcall and settles it, and tells how many handlers were closed or refused until
-/// then. None comes exactly where there is no upcall to make.
+/// then. None comes exactly if there is no upcall to make.
 pub fn turn<
     H: EventHandler,
     M: Net<End = H::End>,
@@ -102,7 +102,7 @@ pub fn turn<
     }
 }
 
-/// Waits once, at most `most_ms` milliseconds (`Core::poll`), where there is no upcall to make.
+/// Waits once, at most `most_ms` milliseconds (`Core::poll`), if there is no upcall to make.
 pub fn poll<
     H: EventHandler,
     M: Net<End = H::End>,
@@ -153,7 +153,7 @@ pub fn post<
     core.post(handle, kind, from, seq)
 }
 
-/// Hands a volume of the journal over where one is due.
+/// Hands a volume of the journal over if one is due.
 fn hand_over<
     H: EventHandler,
     M: Net<End = H::End>,
@@ -188,7 +188,7 @@ fn is_enough(until: Option<u64>, closed: u64) -> bool
     }
 }
 
-/// Makes a turn, or waits where there is none to make. Tells why the loop ends, if it does.
+/// Makes a turn, or waits if there is none to make. Tells why the loop ends, if it does.
 fn step<
     H: EventHandler,
     M: Net<End = H::End>,
@@ -221,7 +221,7 @@ fn step<
     }
 }
 
-/// Looks whether the watch failed, hands a volume over where one is due, and makes one step. Tells
+/// Looks whether the watch failed, hands a volume over if one is due, and makes one step. Tells
 /// why the loop ends, if it does.
 fn advance<
     H: EventHandler,
@@ -252,7 +252,7 @@ fn advance<
     }
 }
 
-/// Makes turns, and waits, at most `most_ms` milliseconds, where there is none to make, until
+/// Makes turns, and waits, at most `most_ms` milliseconds, if there is none to make, until
 /// `until` handlers were closed or refused, nothing can be reported any more, the reactor is
 /// stopped, or something fails. The history goes on by those turns and waits alone, and a run that
 /// ends at `Enough` ends with the turn that brought it there, whose entries are held.
@@ -301,7 +301,7 @@ fn stop<
     core.stop();
 }
 
-/// Takes a reactor apart, stopped first where it was not.
+/// Takes a reactor apart, stopped first if it was not.
 pub fn close<
     H: EventHandler,
     M: Net<End = H::End>,

@@ -1,4 +1,4 @@
--- How a list is parted in place: what passes a test goes behind what does not.
+-- How a list is parted in place: what passes a test goes after what does not.
 use Rattle.std.proofs.Common.{ℕ, ◌≡◌, ◌+◌, ◌-◌, ◌<◌, ◌≤◌, Bool, true, false, not, cond, List, []}
 use Rattle.std.proofs.Common.{◌∷◌, ◌++◌, length, take, drop, get_or, refl, sym, ap, ◌∙◌, arith}
 use Rattle.std.proofs.lemmas.List.{append_assoc, take_at, drop_at, append-nil, take_all, drop_all}

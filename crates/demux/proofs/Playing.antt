@@ -108,7 +108,7 @@ retires_end n handle end = record {
   turned_away = refl;
 }
 
--- a filter keeps no more than there was, and fewer where an element does not pass
+-- a filter keeps no more than there was, and fewer if an element does not pass
 pub filter_bound : {X : Type 0} (p : X → Bool) (xs : List X) → length (filter p xs) ≤ length xs
 filter_bound p xs = let both = length-filter_both p (λ x. not (p x)) (λ x. refl) xs in omega arith
 

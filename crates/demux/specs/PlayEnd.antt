@@ -31,6 +31,6 @@ play_end_facts end = record {
   offering = None;
 }
 
--- it keeps its story, where the terms have one of it
+-- it keeps its story, if the terms have one of it
 abbrev pub play_end_keeps : Terms → PlayEnd → Type 0
 play_end_keeps t end = KeepsStory t (play_end_facts end)

@@ -32,7 +32,7 @@ pub record PlayContent : Type 0 where
   -- the calls that it made
   pub calls : List Call
 
--- the moment behind so many waits: that of the last of them, 0 before the first
+-- the moment after so many waits: that of the last of them, 0 before the first
 abbrev pub reached : ℕ → List ℕ → ℕ
 reached waits moments = slice_index (0 ∷ moments) waits
 
@@ -95,7 +95,7 @@ new_play moments planned = record {
 abbrev pub is_attached : ℕ → List Watched → Bool
 is_attached handle watched = list_any (λ w. w.handle.0 == handle) watched
 
--- Its handle was retired behind the wait that a report was laid down for, or was retired and is not
+-- Its handle was retired after the wait that a report was laid down for, or was retired and is not
 -- attached now.
 abbrev pub is_gone : Bool → List Retired → ℕ × Report → Bool
 is_gone attached retired planned =
@@ -143,8 +143,8 @@ answer_at now [] = Quiet now
 answer_at now (report ∷ reports) = Reports now (length (report ∷ reports))
 
 -- Wait number k answers at moment number k, whatever its limit is. It gives the reports that were
--- laid down for it or held back before, and are wanted now. Behind the last moment each wait
--- answers Over at that moment, or at 0 where there is none.
+-- laid down for it or held back before, and are wanted now. After the last moment each wait
+-- answers Over at that moment, or at 0 if there is none.
 abbrev pub PlaysWait : Option ℕ → PlayContent → Option ℕ → Waited → PlayContent → Type 0
 PlaysWait (Some moment) old most answer new =
     (answer ≡ answer_at moment (given_by_wait old))

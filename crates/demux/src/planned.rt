@@ -9,7 +9,7 @@ ghost use Rattle.demux.specs.PlayNet.{answer_at, kept_at, given_at, left_at};
 use crate::watched::{Retired, Watched, mask_has};
 use ev_base::{Report, Waited};
 
-// The moment behind so many waits.
+// The moment after so many waits.
 pub(crate) fn reached(moments: &[u64], waits: usize) -> u64
     requires { waits ≤ length moments.now }
     ensures { result ≡ reached waits moments.now }
@@ -57,7 +57,7 @@ fn is_given(wait: usize, watched: &[Watched], planned: &(usize, Report)) -> bool
     planned.0 <= wait && wants(watched, &planned.1)
 }
 
-// The answer at a moment where there are so many reports.
+// The answer at a moment if there are so many reports.
 pub(crate) fn answer_at(now: u64, given: &[(usize, Report)]) -> Waited
     ensures { result ≡ answer_at now (reports_of given.now) }
 {
@@ -94,8 +94,8 @@ fn bring(planned: &mut [(usize, Report)], from: usize, to: usize)
     planned[to..from + 1].rotate_right(1);
 }
 
-// Moves the reports that are given at a wait behind the others, each part in its order, and tells
-// how many the others are.
+// Moves the reports that are given at a wait to the places after the others, each part in its
+// order, and tells how many the others are.
 fn part(wait: usize, watched: &[Watched], planned: &mut Vec<(usize, Report)>) -> usize
     ensures len { vec_len planned.new ≡ vec_len planned.old }
     ensures left { result ≡ length (left_at wait watched.now planned.old.items) }
@@ -112,8 +112,8 @@ fn part(wait: usize, watched: &[Watched], planned: &mut Vec<(usize, Report)>) ->
     left
 }
 
-// Sorts the reports as a wait does: drops those to be dropped, and moves those to be given behind
-// the others. It tells how many the others are.
+// Sorts the reports as a wait does: drops those to be dropped, and moves those to be given to the
+// places after the others. It tells how many the others are.
 pub(crate) fn sort_out(
     wait: usize,
     watched: &[Watched],

@@ -17,14 +17,14 @@ use std::marker::Model;
 /// Its wait number k, from 0, answers at moment number k in milliseconds, whatever the limit of the
 /// wait is. It gives, in the order in which they were laid down, the reports for this wait and
 /// those that were held back from earlier waits, if their handle is attached with their kind in its
-/// mask. Behind the last moment each wait answers `Over` at that moment, or at 0 where there is
+/// mask. After the last moment each wait answers `Over` at that moment, or at 0 if there is
 /// none. Reports are not merged. Those of a handle that was retired are dropped.
 #[derive(Drop)]
 pub struct PlayNet {
     moments: Vec<u64>,
     // The number of the next wait, which stays at the number of moments.
     waits: usize,
-    // The reports that wait to be given, and behind them those of the last wait.
+    // The reports that wait to be given, and after them those of the last wait.
     planned: Vec<(usize, Report)>,
     // How many wait.
     waiting: usize,
@@ -84,7 +84,7 @@ impl PlayNet {
         }
     }
 
-    /// The end that was retired under a handle, or `None` where there is none.
+    /// The end that was retired under a handle, or `None` if there is none.
     pub fn retired(&self, handle: Handle) -> Option<&PlayEnd>
         ensures { option_map (λ end. end.now) result ≡ retired_of handle.0 self.now.retired }
     {

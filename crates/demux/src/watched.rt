@@ -35,7 +35,7 @@ pub(crate) fn mask_has(mask: Mask, kind: Kind) -> bool
 ghost use Rattle.std.specs.Prelude.{length, option_map};
 ghost use Rattle.demux.specs.PlayNet.{masked, with_mask, retired_of};
 
-// An attached end, with this mask where it has this handle.
+// An attached end, with this mask if it has this handle.
 fn masked(watched: Watched, handle: Handle, mask: Mask) -> Watched
     ensures { result ≡ masked handle.0 mask watched }
 {

@@ -20,7 +20,7 @@ attached_in (SetsMask handle mask ∷ calls) = attached_in calls
 attached_in (Retires handle ∷ calls) = without handle (attached_in calls)
 attached_in (TurnsAway serial ∷ calls) = attached_in calls
 
--- the mask of a handle, where that is attached
+-- the mask of a handle, if that is attached
 abbrev pub mask_in : ℕ → List Call → Option Mask
 mask_in h [] = None
 mask_in h (Waits most answer reports ∷ calls) = mask_in h calls

@@ -13,7 +13,7 @@ is_end got.Pause = false
 is_end got.Over = true
 is_end got.Failed = true
 
--- where it is watched it has not ended; where it cannot be watched it has ended, or the system
+-- if it is watched it has not ended; if it cannot be watched it has ended, or the system
 -- refused for another cause, which is handed on
 abbrev pub EndsAtOnce : {E : Type 0} → Result (Unit {0}) E → Result Bool E → Type 0
 EndsAtOnce (Ok u) (Ok ended) = ended ≡ false
@@ -33,7 +33,7 @@ is_over (Quiet now) = false
 is_over (Over now) = true
 is_over Failed = false
 
--- A wait with this control answers Over exactly where its end was found by then. An end that was
+-- A wait with this control answers Over exactly if its end was found by then. An end that was
 -- found before is not forgotten; and no net without a control gets one.
 pub record EndsWith (old : Option Control) (answer : Waited) (new : Option Control) : Type 0 where
   pub over : is_over answer ≡ has_ended new

@@ -33,7 +33,7 @@ GotWithin got.Over buffer = Unit {0}
 GotWithin got.Failed buffer = Unit {0}
 
 -- What a read that was answered so did to the bytes that the reader had left: it gave the next of
--- them; or it left them, and where it is the end there was none.
+-- them; or it left them, and if it is the end there was none.
 abbrev pub GotFrom : Option (List ℕ) → List ℕ → Got → Option (List ℕ) → Type 0
 GotFrom old buffer (got.Bytes n) new = Consumes old new (take n buffer)
 GotFrom old buffer got.Pause new = Keeps old new

@@ -34,7 +34,7 @@ mio_net_facts n = record {
 abbrev pub mio_net_keeps : {R : Type 0} → Terms → MioNet R → Type 0
 mio_net_keeps t n = NoOffers t
 
--- standard input as its control, where it has one
+-- standard input as its control, if it has one
 abbrev pub control_of : {R : Type 0} → MioNet R → Option Control
 control_of n = n.control
 

@@ -21,7 +21,7 @@ const LOOKS: u32 = 500;
 #[derive(Drop)]
 struct Retired {
     streams: Mutex<VecDeque<TcpStream>>,
-    // Whether there are any, so that nobody has to look further where there are none.
+    // Whether there are any, so that nobody has to look further if there are none.
     has_any: AtomicBool,
     // Is rung with each that is retired, and with each owner that leaves.
     bell: Doorbell,
@@ -39,8 +39,8 @@ impl Retired {
         })
     }
 
-    // Keeps a connection where there is a place for it and nobody takes one just now, and else
-    // closes it. Where another waits already the thread is to go on.
+    // Keeps a connection if there is a place for it and nobody takes one just now, and else
+    // closes it. If another waits already the thread is to go on.
     fn keep(&self, stream: TcpStream) {
         let Some(mut streams) = self.streams.try_lock() else {
             return;
@@ -58,7 +58,7 @@ impl Retired {
         }
     }
 
-    // Takes the next one, but not where another thread does.
+    // Takes the next one, but not if another thread does.
     fn try_next(&self) -> Option<TcpStream> {
         let mut streams = self.streams.try_lock()?;
         let stream = streams.pop_front();
@@ -94,7 +94,7 @@ pub(crate) struct Closer {
 }
 
 impl Closer {
-    /// Starts one, where there is memory for it and a thread to be had.
+    /// Starts one, if there is memory for it and a thread to be had.
     pub(crate) fn start<R: Threads + Wait + Copy + Send + 'static>(
         rt: R,
         alloc: Global,

@@ -44,7 +44,7 @@ impl Control {
         self.ended
     }
 
-    /// Passes over bytes, where the events say that there are some, or finds the end. It makes one
+    /// Passes over bytes, if the events say that there are some, or finds the end. It makes one
     /// read, which does not wait then, and asks for a new event, so that no byte is forgotten.
     pub(crate) fn take(&mut self, registry: &Registry, events: &Events)
         ensures stays { self.old.ended ≡ true → self.new.ended ≡ true }
@@ -77,7 +77,7 @@ fn is_end(got: Got) -> bool
     }
 }
 
-// Whether it is at its end from the start, by what the system says where it is to be watched. A
+// Whether it is at its end from the start, by what the system says when it is to be watched. A
 // file cannot be: nobody else can say when more will come.
 fn ends_at_once(watched: io::Result<()>) -> io::Result<bool>
     ensures { EndsAtOnce watched result }

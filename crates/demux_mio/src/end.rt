@@ -46,7 +46,7 @@ struct EndState {
 }
 
 impl MioEnd {
-    /// The end of a socket that made no call. Where there is no memory for it the socket is closed.
+    /// The end of a socket that made no call. If there is no memory for it the socket is closed.
     pub(crate) fn new(alloc: Global, socket: Socket, listener: bool) -> Result<MioEnd, NoMemory>
         ensures fresh { IfOk result (λ end. IsFresh (mio_end_facts end)) }
         ensures listener { IfOk result (λ end. (mio_end_facts end).listener ≡ listener) }
@@ -69,7 +69,7 @@ impl MioEnd {
         })
     }
 
-    /// The port that it has on this side, where the system tells it. So who listens on port 0
+    /// The port that it has on this side, if the system tells it. So who listens on port 0
     /// learns which was free.
     pub fn port(&self) -> Option<u16> {
         self.state.socket.port()
@@ -89,7 +89,7 @@ impl MioEnd {
         self.state.socket.unwatch();
     }
 
-    /// Gives up its connection, where it has one. A listener is closed.
+    /// Gives up its connection, if it has one. A listener is closed.
     pub(crate) fn into_stream(self) -> Option<TcpStream> {
         let MioEnd { state } = self;
         let EndState {
@@ -109,7 +109,7 @@ impl MioEnd {
     }
 }
 
-/// Takes the next connection into the end that was made for it. Where there was no memory to make
+/// Takes the next connection into the end that was made for it. If there was no memory to make
 /// one, the system is not asked, so the connection waits on, and the accept has failed.
 fn next_end(socket: &mut Socket, made: Result<MioEnd, NoMemory>) -> Taken<MioEnd>
     requires { IfOk made IsNewConnection }

@@ -58,7 +58,7 @@ struct Opened {
 impl<R: Sockets + Clock + Copy> MioHost<R> {
     ghost use Rattle.demux_mio.specs.Hosts.{mio_host_faults, mio_host_ports};
 
-    /// A host that made no call. Its nets close a connection where its end is retired.
+    /// A host that made no call. Its nets close a connection when its end is retired.
     pub fn new(rt: R) -> MioHost<R>
         ensures { mio_host_faults result ≡ 0 }
     {
@@ -84,7 +84,7 @@ impl<R: Sockets + Clock + Copy> MioHost<R> {
     /// From now on its nets watch standard input too. Once that is at its end their waits answer
     /// Over; bytes that come there are passed over. A pipe, a FIFO, a socket and a terminal are
     /// watched with the sockets, without a thread. A file cannot be watched, and counts as at its
-    /// end from the start. Where standard input is closed, or cannot be watched for another cause,
+    /// end from the start. If standard input is closed, or cannot be watched for another cause,
     /// each `listen` fails. Nobody else may read it meanwhile: a read that was to find bytes could
     /// wait then.
     pub fn set_control(&mut self, input: Stdin)
@@ -121,8 +121,8 @@ impl<R: Sockets + Clock + Threads + Wait + Copy + Send + 'static> MioHost<R> {
 
     /// A host that made no call, with a thread that closes the connections whose ends were retired.
     /// So a reactor does not keep its token for that, which takes longer than to read from one. It
-    /// is worth a thread where several lead in turn, and many connections are short. Where there is
-    /// no memory for it, or no thread, the host is as `new` makes it. The thread ends behind the
+    /// is worth a thread if several lead in turn, and many connections are short. If there is
+    /// no memory for it, or no thread, the host is as `new` makes it. The thread ends after the
     /// host and the nets that it made.
     pub fn with_closer(rt: R, alloc: Global) -> MioHost<R>
         ensures { mio_host_faults result ≡ 0 }

@@ -15,17 +15,17 @@
 //!   so until a call of that kind pauses. A report that the mask holds back is given once the mask
 //!   has its kind, if the socket is still ready then. Reports beyond 256 of a wait come with the
 //!   next.
-//! - That a read pauses behind four in a row that gave bytes, and that the end is reported again at
+//! - That a read pauses after four in a row that gave bytes, and that the end is reported again at
 //!   the next wait. So no stream keeps others, new connections or timers waiting.
-//! - That an accept that failed, as where no descriptor is left, is owed again: its listener is
+//! - That an accept that failed, as when no descriptor is left, is owed again: its listener is
 //!   reported again 100 ms later. So neither is it lost nor does it spin. Want of memory for the
 //!   new end goes the same way, which no test shows.
-//! - That the end of standard input is found where a host has it as a control, and that bytes which
+//! - That the end of standard input is found if a host has it as a control, and that bytes which
 //!   come there do not stop a server. It is watched with the sockets, and read once for each report.
 //!   That a wait answers Over exactly from then on is proved.
 //! - That a waker ends a wait. It costs a call of the system only while the net is in a wait; else
 //!   the next wait returns at once.
-//! - That the connection of a retired end is closed: at once, or, where the host has a closer,
+//! - That the connection of a retired end is closed: at once, or, if the host has a closer,
 //!   soon: by its thread, or by the next wait. So a reactor does not keep its token meanwhile. At
 //!   most 64 wait for that; one more is closed at once.
 //! - That a write to a peer that is gone fails and raises no signal: the standard library sends

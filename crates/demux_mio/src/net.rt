@@ -23,10 +23,10 @@ const MOST_EVENTS: usize = 128;
 /// The last moment.
 const LAST_MOMENT: u64 = 1 << 62;
 
-/// How often a wait looks at the system before it sleeps, where sleeps were cut short lately.
+/// How often a wait looks at the system before it sleeps, if sleeps were cut short lately.
 const LOOKS: u32 = 16;
 
-/// Behind a sleep that was cut short, so many waits look before they sleep.
+/// After a sleep that was cut short, so many waits look before they sleep.
 const LOOKING_WAITS: u32 = 16;
 
 /// After how many milliseconds an accept that failed is tried again.
@@ -133,15 +133,15 @@ impl<R: Clock + Copy> MioNet<R> {
         }
     }
 
-    /// How long to wait at most, where the caller names a limit or none.
+    /// How long to wait at most, whether the caller names a limit or none.
     fn limit(&self, most_ms: Option<u64>) -> Option<Duration> {
         let until_retry = self.retry.map(|retry| retry.saturating_sub(self.last));
         let limit_ms = limit_of(self.watching.is_owing(), until_retry, most_ms);
         limit_ms.map(Duration::from_millis)
     }
 
-    /// Waits at the system, but not where somebody woke the net. Before it sleeps it closes what
-    /// was retired, and looks some times where a sleep was cut short by a wake lately, which costs
+    /// Waits at the system, but not if somebody woke the net. Before it sleeps it closes what
+    /// was retired, and looks some times if a sleep was cut short by a wake lately, which costs
     /// both threads more than the looks.
     fn wait_for_events(&mut self, limit: Option<Duration>) -> io::Result<()>
         ensures facts { mio_net_facts self.new ≡ mio_net_facts self.old }
@@ -161,7 +161,7 @@ impl<R: Clock + Copy> MioNet<R> {
         self.sleep(limit)
     }
 
-    /// Closes what was retired: where the closer sleeps at once, since to wake it takes as long,
+    /// Closes what was retired: at once if the closer sleeps, since to wake it takes as long,
     /// and else, beside it, while there are no events and the wait is to last. Tells whether there
     /// are events.
     fn close_retired(&mut self, limit: Option<Duration>) -> io::Result<bool>
@@ -206,7 +206,7 @@ impl<R: Clock + Copy> MioNet<R> {
         Ok(false)
     }
 
-    /// Sleeps at the system, but not where somebody woke the net.
+    /// Sleeps at the system, but not if somebody woke the net.
     fn sleep(&mut self, limit: Option<Duration>) -> io::Result<()>
         ensures facts { mio_net_facts self.new ≡ mio_net_facts self.old }
         ensures asked { asked_of self.new ≡ asked_of self.old }
@@ -224,7 +224,7 @@ impl<R: Clock + Copy> MioNet<R> {
         outcome
     }
 
-    /// Notes when the listeners are tried again, where an accept failed.
+    /// Notes when the listeners are tried again, if an accept failed.
     fn note_failed_accepts(&mut self)
         ensures facts { mio_net_facts self.new ≡ mio_net_facts self.old }
         ensures asked { asked_of self.new ≡ asked_of self.old }
@@ -250,7 +250,7 @@ impl<R: Clock + Copy> MioNet<R> {
         }
     }
 
-    /// Whether the end of the control was found, where there is one.
+    /// Whether the end of the control was found, if there is one.
     fn has_ended(&self) -> bool
         ensures { result ≡ has_ended (control_of self.now) }
     {

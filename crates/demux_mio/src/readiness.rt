@@ -10,8 +10,8 @@ use std::sync::atomic::{AtomicBool, Ordering};
 /// paused last. The net that watches it notes what the system says; its end, which may be in a call
 /// in another thread, takes it back.
 ///
-/// An end takes a kind back before it tries the call and notes it again where the call did not
-/// pause. So what becomes ready behind a call that pauses is noted behind that too, and stays.
+/// An end takes a kind back before it tries the call and notes it again if the call did not
+/// pause. So what becomes ready after a call that pauses is noted after that too, and stays.
 #[derive(Drop)]
 pub(crate) struct Readiness {
     read: AtomicBool,

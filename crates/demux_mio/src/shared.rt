@@ -34,7 +34,7 @@ impl Shared {
         }
     }
 
-    /// An accept failed, as where too many files are open.
+    /// An accept failed, as when too many files are open.
     pub(crate) fn note_failed_accept(&self) {
         self.accept_failed.store(true, Ordering::SeqCst);
     }
@@ -44,7 +44,7 @@ impl Shared {
         self.accept_failed.swap(false, Ordering::SeqCst)
     }
 
-    /// A wait begins. It may last only where nobody woke the net since the last one ended.
+    /// A wait begins. It may last only if nobody woke the net since the last one ended.
     pub(crate) fn begin_wait(&self) -> bool {
         self.waits.store(true, Ordering::SeqCst);
         !self.woken.swap(false, Ordering::SeqCst)
@@ -73,7 +73,7 @@ impl Shared {
     }
 
     /// The wait that is under way, or else the next, is not to last. The system is called only
-    /// where a wait is under way that nobody woke yet: a wait that begins meanwhile sees that it is
+    /// if a wait is under way that nobody woke yet: a wait that begins meanwhile sees that it is
     /// woken, or is seen here to have begun.
     pub(crate) fn wake(&self) {
         if !self.woken.swap(true, Ordering::SeqCst) && self.waits.load(Ordering::SeqCst) {

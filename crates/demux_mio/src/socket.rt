@@ -85,7 +85,7 @@ impl Socket {
         self.opened = Opened::Stream(stream);
     }
 
-    /// The port that it is bound to, where the system tells it.
+    /// The port that it is bound to, if the system tells it.
     pub(crate) fn port(&self) -> Option<u16> {
         let address = match &self.opened {
             Opened::Nothing => return None,
@@ -110,7 +110,7 @@ impl Socket {
         Ok(())
     }
 
-    /// Ends that it is watched, where it was.
+    /// Ends that it is watched, if it was.
     pub(crate) fn unwatch(&mut self) {
         if let Some(place) = self.place.take() {
             let registry = &place.shared.registry;
@@ -151,7 +151,7 @@ impl Socket {
         }
     }
 
-    /// Gives up its connection, where it has one. A listener is closed.
+    /// Gives up its connection, if it has one. A listener is closed.
     pub(crate) fn into_stream(self) -> Option<TcpStream> {
         let Socket {
             opened,
@@ -164,7 +164,7 @@ impl Socket {
         }
     }
 
-    /// Reads once. Behind so many reads in a row that gave bytes one pauses, and the net reports
+    /// Reads once. After so many reads in a row that gave bytes one pauses, and the net reports
     /// the socket again.
     pub(crate) fn read(&mut self, buf: &mut [u8]) -> Got
         requires { 0 < length buf.old }
@@ -185,7 +185,7 @@ impl Socket {
         got
     }
 
-    /// Whether the reads in a row are so many that the next pauses. Where nobody would report the
+    /// Whether the reads in a row are so many that the next pauses. If nobody would report the
     /// socket again none does.
     fn ends_row(&mut self) -> bool
         ensures { self.new.in_a_row < 4 }
@@ -268,7 +268,7 @@ pub(crate) fn without_delay(stream: TcpStream) -> TcpStream {
     stream
 }
 
-/// Reads once. Where the reader knows its bytes, it gives the next of them.
+/// Reads once. If the reader knows its bytes, it gives the next of them.
 pub(crate) fn read_once<R: Read>(reader: &mut R, buf: &mut [u8]) -> Got
     requires { 0 < length buf.old }
     ensures within { GotWithin result buf.new }
@@ -277,7 +277,7 @@ pub(crate) fn read_once<R: Read>(reader: &mut R, buf: &mut [u8]) -> Got
     got_of(read_again(reader, buf))
 }
 
-// Writes once. Where the writer knows its bytes, they grow by those that it took.
+// Writes once. If the writer knows its bytes, they grow by those that it took.
 fn write_once<W: Write>(writer: &mut W, piece: &[u8]) -> Sent
     ensures within { SentWithin result piece.now }
     ensures bytes { SentTo (W.contents writer.old) piece.now result (W.contents writer.new) }

@@ -141,7 +141,7 @@ impl Watching {
         }
     }
 
-    // Has a later wait give a report, where that is not owed already.
+    // Has a later wait give a report, if that is not owed already.
     fn owe(&mut self, handle: Handle, kind: Kind)
         ensures { self.new ≡ self.old }
     {
@@ -215,7 +215,7 @@ impl Watching {
         }
     }
 
-    // Notes what an event says of the socket of a handle, where that is watched, and tells which of
+    // Notes what an event says of the socket of a handle, if that is watched, and tells which of
     // the kinds are wanted.
     fn note(&self, handle: Handle, event: &Event) -> Mask
         ensures read { result.read ≡ true → IsWanted self.now
@@ -229,7 +229,7 @@ impl Watching {
         }
     }
 
-    // Gives a report that is wanted, where there is room, or owes it.
+    // Gives a report that is wanted, if there is room, or owes it.
     fn give(&mut self, report: Report, reports: &mut Vec<Report>)
         requires wanted { IsWanted self.old report }
         requires few { length reports.old.items ≤ 256 }

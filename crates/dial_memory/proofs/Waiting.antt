@@ -25,7 +25,7 @@ none_some q = cc
 some_same : {A : Type 0} {a b : A} → ◌≡◌ {A = Option A} (Some a) (Some b) → a ≡ b
 some_same q = cc
 
--- the moment that is next, and those behind it
+-- the moment that is next, and those after it
 next_is : (moments : List ℕ) (next m : ℕ) → slice_get moments next ≡ Some m
     → drop next moments ≡ m ∷ drop (suc next) moments
 next_is [] next m e = absurd (none_some e)

@@ -11,7 +11,7 @@ use Rattle.dial_memory.specs.Moments.{came_of, first_writer}
 use Rattle.dial_memory.specs.declared.mem_dial_end.MemDialEnd.{MemDialEnd}
 use Rattle.dial_memory.specs.declared.mem_dial_net.MemDialNet.{MemDialNet}
 
--- an entry with this mask where it has this handle
+-- an entry with this mask if it has this handle
 abbrev pub masked : ℕ → Mask → ℕ × Mask → ℕ × Mask
 masked handle mask entry = if entry.0 == handle then (handle, mask) else entry
 
@@ -45,7 +45,7 @@ abbrev pub came_now : MemDialNet → Option ℕ → Came
 came_now net most = came_of net.moments.items net.next net.now net.held net.gone
     (first_writer net.watched.items) most
 
--- that many reports to the end of a handle, and none where there is none
+-- that many reports to the end of a handle, and none if there is none
 abbrev pub reports_to : Option ℕ → ℕ → List Report
 reports_to None many = []
 reports_to (Some handle) many = replicate many (report_to handle)

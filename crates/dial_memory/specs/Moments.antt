@@ -29,7 +29,7 @@ abbrev pub given_now : Option ℕ → ℕ → ℕ
 given_now None held = 0
 given_now (Some handle) held = min held most_reports
 
--- What a new report comes to: it is given, or held back while nobody wants it, or dropped where its
+-- What a new report comes to: it is given, or held back while nobody wants it, or dropped if its
 -- end is gone for good.
 abbrev pub given_new : Bool → Option ℕ → ℕ
 given_new false (Some handle) = 1
@@ -44,7 +44,7 @@ abbrev pub answer_with : ℕ → ℕ → Waited
 answer_with now zero = Quiet now
 answer_with now (suc n) = Reports now (suc n)
 
--- 1. Where reports that were held back can be given, they are, at the present moment.
+-- 1. If reports that were held back can be given, they are, at the present moment.
 abbrev pub of_held : ℕ → ℕ → ℕ → ℕ → Came
 of_held given next now held = record {
   answer = Reports now given;
@@ -54,7 +54,7 @@ of_held given next now held = record {
   held = held - given;
 }
 
--- 2. Else, where no moment is left, nothing can be reported any more. 3. Else, where the next
+-- 2. Else, if no moment is left, nothing can be reported any more. 3. Else, if the next
 --    moment comes later than the wait may last, nothing is reported when the time is up. 4. Else
 --    the moment comes, with its report.
 abbrev pub of_moment : Option ℕ → ℕ → ℕ → ℕ → Bool → Option ℕ → Option ℕ → Came

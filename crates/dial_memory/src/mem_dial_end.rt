@@ -13,7 +13,7 @@ use std::alloc::Global;
 ///
 /// Call number k of `finish`, from 0, answers `finishes[k]`, and later ones pause. Write number k
 /// takes at most `takes[k]` bytes, where 0 pauses, and later ones take all; those whose numbers
-/// stand in `fails` fail. No write takes more than the room that is left, and one pauses where none
+/// stand in `fails` fail. No write takes more than the room that is left, and one pauses if none
 /// is. Each read pauses.
 #[derive(Drop)]
 pub struct MemDialEnd {
@@ -38,7 +38,7 @@ impl MemDialEnd {
     ghost use Rattle.dial_memory.specs.DialEnds.{is_new_end};
 
     /// An end that made no call, with room for so many bytes that it is given. `NoMemory` comes
-    /// where there is no memory for the room.
+    /// if there is no memory for the room.
     pub fn new(
         alloc: Global,
         room: usize,

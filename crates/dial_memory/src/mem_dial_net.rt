@@ -15,9 +15,9 @@ use std::alloc::Global;
 /// A demultiplexer that reports, at each moment that was laid down, that one end may be written.
 ///
 /// A wait gives the reports that were held back and are wanted now, at most 256, at the present
-/// moment, which is 0 at first. Where there is none, and no moment is left, it answers `Over`.
-/// Where the next moment comes later than the wait may last, the time passes and the answer is
-/// `Quiet`. Else that moment comes: its report is given where an end is attached that wants to
+/// moment, which is 0 at first. If there is none, and no moment is left, it answers `Over`.
+/// If the next moment comes later than the wait may last, the time passes and the answer is
+/// `Quiet`. Else that moment comes: its report is given if an end is attached that wants to
 /// write, held back while none is, and dropped once an end was taken back for good. Moments are
 /// milliseconds. It never fails, and only `reserve` takes memory.
 #[derive(Drop)]
@@ -82,7 +82,7 @@ impl MemDialNet {
         }
     }
 
-    /// The end that was retired last under a handle, or `None` where there is none.
+    /// The end that was retired last under a handle, or `None` if there is none.
     pub fn retired(&self, handle: Handle) -> Option<&MemDialEnd>
         ensures { option_map (λ end. end.now) result
             ≡ retired_of handle.0 (ends_retired self.entry.now) }

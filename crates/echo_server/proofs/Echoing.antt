@@ -45,7 +45,7 @@ gives (Some old) None before more given moves = absurd moves
 gives (Some old) (Some new) before more given moves =
     moves.1 ∙ ap (λ (xs : List ℕ). xs ++ more) given
 
--- what was written, behind a write that took more
+-- what was written, after a write that took more
 grows : (old new : Option (List ℕ)) (back more : List ℕ) → IsWritten old back → GrowsBy old more new
     → IsWritten new (back ++ more)
 grows None None back more w g = tt
@@ -168,7 +168,7 @@ writes before w answer written after none over wr = by wr.took wr.facts wr.write
           closed = λ _. refl;
         })
 
--- a read gave a piece, where none waited
+-- a read gave a piece, if none waited
 abbrev read_gives : (n : ℕ) (buffer : List ℕ) (e f : EndFacts) (w : WentBack [] e)
     → EndGives e buffer n f → WentBack (take n buffer) f
 read_gives n buffer e f w g =
@@ -190,7 +190,7 @@ read_gives n buffer e f w g =
           w.written;
     }
 
--- what went back where none wait
+-- what went back if none wait
 abbrev emptied : (waiting : List ℕ) (e : EndFacts) → waiting ≡ [] → WentBack waiting e
     → WentBack [] e
 emptied waiting e none w = record {

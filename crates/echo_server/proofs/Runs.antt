@@ -213,7 +213,7 @@ module _ {H M Q W V N E : Type 0} (m : Meaning H M Q W V N E) where
             none;
       }
 
-  -- the marks of the root tell what stands behind the answer
+  -- the marks of the root tell what the answer comes from
   pub pool_ends : (time : ℕ) (old core : Core H M Q W V N E) (v w : View (Entry N) DeskTerms)
       (s : RingView) (list : List (Entry N)) (r : Ran)
       → IsRoot (run_terms time) list (core_marks m old) v
@@ -251,7 +251,7 @@ module _ {H M Q W V N E : Type 0} (m : Meaning H M Q W V N E) where
   unposted_opened idle core back same stands = subst (IsUnposted m) (sym same)
       (run_terms idle, 0, first_entry ∷ [], stands, refl)
 
-  -- where the root knows of no posting, none was drained
+  -- if the root knows of no posting, none was drained
   pub none_recorded : (core : Core H M Q W V N E) (v : View (Entry N) DeskTerms) (s : RingView)
       → IsClosed m v s core → known_postings s ≤ 0 → IsUnposted m core
   none_recorded core v s closed none = (

@@ -109,7 +109,7 @@ pub record ReadsOnce (before : State) (answer : Answer) (read written : ℕ) (af
     pub reads : EndReads before.facts buffer gave facts
     pub takes : TakesRead gave buffer facts before answer read written after
 
--- at input it reads, but only where none wait; where it may write it does so where some wait
+-- at input it reads, but only if none wait; when it may write it does so if some wait
 abbrev pub ServesInput : Bool → State → Answer → ℕ → ℕ → State → Type 0
 ServesInput true before answer read written after = ReadsOnce before answer read written after
 ServesInput false before answer read written after = DoesNothing before answer read written after
@@ -119,7 +119,7 @@ ServesOutput true before answer read written after = DoesNothing before answer r
 ServesOutput false before answer read written after =
     (read ≡ 0) × WritesOnce before answer written after
 
--- at a timeout it closes itself where no byte went either way since the one before
+-- at a timeout it closes itself if no byte went either way since the one before
 abbrev pub ServesTimeout : Bool → State → Answer → ℕ → ℕ → State → Type 0
 ServesTimeout true before answer read written after =
     DoesNothing (record before { moved = false }) answer read written after
@@ -145,7 +145,7 @@ read_in item = elim item.note [ note.Moved read written ↦ read | _ ↦ 0 ]
 abbrev pub written_in : Item EchoNote → ℕ
 written_in item = elim item.note [ note.Moved read written ↦ written | _ ↦ 0 ]
 
--- these bytes were written and no others, where it is told
+-- these bytes were written and no others, if it is told
 abbrev pub IsWritten : Option (List ℕ) → List ℕ → Type 0
 IsWritten None bytes = Unit {0}
 IsWritten (Some written) bytes = written ≡ bytes
@@ -159,7 +159,7 @@ pub record WentBack (waiting : List ℕ) (e : EndFacts) : Type 0 where
   pub written : IsWritten e.written back
 
 -- What stands behind how it ended, if it did so itself: `End` at the end of its input, all of which
--- went back; `Failed` where a call failed. While it goes on its input is not at its end.
+-- went back; `Failed` if a call failed. While it goes on its input is not at its end.
 abbrev pub EndedSo : Option Ending → List ℕ → EndFacts → Type 0
 EndedSo None waiting e = e.over ≡ false
 EndedSo (Some end.End) waiting e = (e.over ≡ true) × (waiting ≡ [])
@@ -175,7 +175,7 @@ pub record Echoes (had : List (Item EchoNote)) (s : State) : Type 0 where
   pub noted_read : s.facts.gave ≡ sum_by read_in had
   pub noted_written : length went.back ≡ sum_by written_in had
   pub ended : EndedSo s.ended s.waiting s.facts
-  -- it ended itself exactly where its last answer was Close
+  -- it ended itself exactly if its last answer was Close
   pub goes_on : NoClose had → s.ended ≡ None
   pub closed : EndsInClose had → IsSome s.ended
 

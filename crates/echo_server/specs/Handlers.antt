@@ -59,7 +59,7 @@ pub record IsTurn {E : Type 0} {G : Ghosts E} (answer : Answer) (said : EchoNote
   pub notes : turn.note ≡ said
   pub acts : turn.act ≡ act
 
--- a turn that offers the handler of a connection over this end, where it stands at its start, to be
+-- a turn that offers the handler of a connection over this end, at its start, to be
 -- read and with a timer
 pub record OffersConnection {E : Type 0} {G : Ghosts E} (tells : E → EndFacts) (idle : ℕ) (end : E)
     (turn : Turn (EchoHandler E G) EchoNote E) : Type 0 where
@@ -147,7 +147,7 @@ abbrev pub end_of : {E : Type 0} {G : Ghosts E} → EchoHandler E G → E
 end_of (Listen acceptor) = listener_of acceptor
 end_of (Talk connection) = end_of_connection connection
 
--- where the terms have an idle time, it is that of an acceptor's connections
+-- if the terms have an idle time, it is that of an acceptor's connections
 pub record ListenerFits {E : Type 0} {G : Ghosts E} (tells : E → EndFacts)
     (keeps : Terms → E → Type 0) (t : Terms) (acceptor : EchoAcceptor E G) : Type 0 where
   pub listener : (tells (listener_of acceptor)).listener ≡ true
@@ -172,7 +172,7 @@ abbrev pub HandlerGone : {E : Type 0} → (E → EndFacts) → (Terms → E → 
 HandlerGone tells keeps t end had reason said =
     ListenerGone tells keeps t end said ⊎ ConnectionGone tells keeps t end had reason said
 
--- a connection is offered to be read, with a timer, which is that of the idle time where the terms
+-- a connection is offered to be read, with a timer, which is that of the idle time if the terms
 -- have one
 pub record MayOffer (t : Terms) (mask : Mask) (timer : Option (ℕ × ℕ)) : Type 0 where
   pub reads : mask ≡ read_alone

@@ -81,7 +81,7 @@ abbrev pub IsUnposted : {H M Q W V N E : Type 0} → Meaning H M Q W V N E → C
 IsUnposted m core = StandsWith m (λ t h. filter is_notice h ≡ []) core
 
 -- Of the bytes that an end gave, in order, the first were written to it, and nothing else was; and
--- where its input was at its end, all of them.
+-- if its input was at its end, all of them.
 pub record WasEchoed (e : EndFacts) : Type 0 where
   pub waiting : List ℕ
   pub went : WentBack waiting e

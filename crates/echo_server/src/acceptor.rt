@@ -22,7 +22,7 @@ pub struct EchoAcceptor<E: PeerEnd> {
 }
 
 impl<E: PeerEnd> EchoAcceptor<E> {
-    /// An acceptor over a listener. Its connections are closed where no byte went either way
+    /// An acceptor over a listener. Its connections are closed if no byte went either way
     /// between one time that their timer comes due and the next; it comes due each time that so
     /// many milliseconds have gone by, from 1 to 4,294,967,295.
     pub fn new(end: E, idle: u64) -> EchoAcceptor<E>

@@ -15,8 +15,8 @@ use crate::{EchoNote, Ending};
 use reactor::{Answer, Got, Handle, Mask, Net, NetFailed, PeerEnd, Sent, Upcall, Why};
 
 /// The handler of one connection: it reads a piece, writes it back, and reads no more until all of
-/// it was taken. It closes itself at the end of its input, where a call fails, and at a timeout
-/// behind which no byte went either way since the one before.
+/// it was taken. It closes itself at the end of its input, if a call fails, and at a timeout
+/// if no byte went either way since the one before.
 pub struct EchoConnection<E: PeerEnd> {
     peer: Peer<E>,
     waiting: Waiting,
@@ -75,7 +75,7 @@ impl<E: PeerEnd> EchoConnection<E> {
         }
     }
 
-    /// Reads a piece where none waits, and writes it back as far as it is taken now.
+    /// Reads a piece if none waits, and writes it back as far as it is taken now.
     fn read_piece(&mut self) -> Step
         ensures reads { ServesInput (none_wait (waiting_in self.old)) (state_of E.tells self.old)
             result.answer result.read result.written (state_of E.tells self.new) }
@@ -110,7 +110,7 @@ impl<E: PeerEnd> EchoConnection<E> {
         }
     }
 
-    /// Writes the bytes that wait, behind a read of so many.
+    /// Writes the bytes that wait, after a read of so many.
     fn write_back(&mut self, read: u64) -> Step
         requires some { none_wait (waiting_in self.old) ≡ false }
         ensures writes { WritesOnce (state_of E.tells self.old) result.answer result.written
@@ -137,7 +137,7 @@ impl<E: PeerEnd> EchoConnection<E> {
         }
     }
 
-    /// Closes where no byte went either way since the last timeout.
+    /// Closes if no byte went either way since the last timeout.
     fn check_idle(&mut self) -> Step
         ensures idle { ServesTimeout self.old.moved (state_of E.tells self.old) result.answer
             result.read result.written (state_of E.tells self.new) }

@@ -54,8 +54,8 @@ fn talk<E: PeerEnd>(connection: &mut EchoConnection<E>, up: Upcall) -> Turn<Echo
     turn_of(answer, EchoNote::Moved { read, written }, act)
 }
 
-/// Which mask a connection asks for behind a turn with this answer, before which bytes waited or
-/// not, and behind which they do.
+/// Which mask a connection asks for after a turn with this answer, before which bytes waited or
+/// not, and after which they do.
 fn mask_after(answer: Answer, waited: bool, waits: bool) -> Option<Mask>
     ensures { result ≡ mask_after answer waited waits }
 {

@@ -38,7 +38,7 @@ pub enum OpenRefused {
 }
 
 /// A reactor over a new net, with the acceptor of a new listener. Its connections have this idle
-/// time, from 1 to 4,294,967,295 milliseconds. Where there is none, the net comes back and the
+/// time, from 1 to 4,294,967,295 milliseconds. If there is none, the net comes back and the
 /// listener is closed.
 pub fn open<E: PeerEnd + Drop, M: Net<End = E>>(
     alloc: Global,
@@ -101,7 +101,7 @@ fn refusal(refused: RegisterRefused) -> OpenRefused
 
 /// Stops a reactor with no upcall on its way, closes its handlers, and takes it apart. Of the bytes
 /// that each connection's end gave, in order, the first were written to it, and nothing else was;
-/// and where its input was at its end, all of them.
+/// and if its input was at its end, all of them.
 pub fn finish<E: PeerEnd, M: Net<End = E>>(core: EchoCore<E, M>) -> EchoParts<M>
     requires { IsIdle ⟦<EchoCore<E, M> as Means>⟧.m core }
     ensures leaves { LeavesParts ⟦<EchoCore<E, M> as Means>⟧.m ⟦<SortedTimers as TimerQueue>⟧.timers

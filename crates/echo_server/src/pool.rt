@@ -9,7 +9,7 @@ use std::alloc::Global;
 use std::sync::Wait;
 use std::thread::Threads;
 
-/// Runs a reactor that was opened, with 1 to 64 workers, each on a thread of its own where one can
+/// Runs a reactor that was opened, with 1 to 64 workers, each on a thread of its own if one can
 /// be started (POSA2, Leader/Followers), until nothing can be reported any more and there is no
 /// upcall to make. It posts no notification. Gives the reactor back.
 pub fn run_pool<

@@ -23,7 +23,7 @@ drop_past xs ys at over =
     let P : ℕ → Type 0 = λ n. drop (at - length xs) ys ≡ drop n (xs ++ ys) in
     subst P e (sym (drop-append-add xs ys (at - length xs)))
 
--- behind the last byte of a piece stands the next piece
+-- after the last byte of a piece stands the next piece
 pub given_of-past : (pieces : List (Vec ℕ Global)) (piece : Vec ℕ Global) (next at : ℕ)
     → next < length pieces → get_or pieces next piece ≡ piece → length piece.items ≤ at →
     given_of (suc next) (at - length piece.items) pieces ≡ given_of next at pieces
@@ -74,7 +74,7 @@ has-byte (first ∷ pieces) piece zero at within found below =
 has-byte (first ∷ pieces) piece (suc next) at within found below =
     has-byte pieces piece next at (omega arith) found below
 
--- behind all pieces there is nothing to say
+-- after all pieces there is nothing to say
 pub has-none : (pieces : List (Vec ℕ Global)) (next at : ℕ) → length pieces ≤ next
     → HasByteAt pieces next at
 has-none [] next at beyond = tt
@@ -91,7 +91,7 @@ within-piece (first ∷ pieces) piece zero at within found has =
 within-piece (first ∷ pieces) piece (suc next) at within found has =
     within-piece pieces piece next at (omega arith) found has
 
--- behind all pieces nothing is left
+-- after all pieces nothing is left
 pub left_of-beyond : (pieces : List (Vec ℕ Global)) (next at : ℕ) → length pieces ≤ next
     → left_of next at pieces ≡ []
 left_of-beyond [] zero at beyond = drop_none at

@@ -42,10 +42,10 @@ pub record EndFacts : Type 0 where
   pub gave : ℕ
   -- whether a read answered Over
   pub over : Bool
-  -- the bytes read and those still to come, and the bytes written, where they are told
+  -- the bytes read and those still to come, and the bytes written, if they are told
   pub bytes : Option ReaderBytes
   pub written : Option (List ℕ)
-  -- its serial number, and how far its story was told, where it has them
+  -- its serial number, and how far its story was told, if it has them
   pub serial : Option ℕ
   pub telling : Option Telling
   pub offering : Option Offering
@@ -59,7 +59,7 @@ abbrev pub GaveNoOffer : Option Offering → Type 0
 GaveNoOffer None = Unit {0}
 GaveNoOffer (Some o) = o.given ≡ []
 
--- nothing was written yet, where it is told
+-- nothing was written yet, if it is told
 abbrev pub WroteNothing : Option (List ℕ) → Type 0
 WroteNothing None = Unit {0}
 WroteNothing (Some written) = written ≡ []
@@ -231,8 +231,8 @@ pub record CountsAccept (old : EndFacts) (came_to : Try) (new : EndFacts) : Type
   pub bytes : new.bytes ≡ old.bytes
   pub telling : new.telling ≡ old.telling
 
--- where the listener tells its story, the end has the serial number of the offer that was next;
--- where it doesn't, the end has none
+-- if the listener tells its story, the end has the serial number of the offer that was next;
+-- if it doesn't, the end has none
 abbrev pub TakesSerial : Option Offering → Option ℕ → Option Offering → Type 0
 TakesSerial None serial None = serial ≡ None
 TakesSerial None serial (Some new) = ⊥

@@ -14,7 +14,7 @@ given_of zero at pieces = take at (joined pieces)
 given_of (suc next) at [] = []
 given_of (suc next) at (piece ∷ pieces) = piece.items ++ given_of next at pieces
 
--- the bytes behind those
+-- the bytes after those
 abbrev pub left_of : ℕ → ℕ → List (Vec ℕ Global) → List ℕ
 left_of zero at pieces = drop at (joined pieces)
 left_of (suc next) at [] = []

@@ -36,7 +36,7 @@ pub record NetFacts (E : Type 0) : Type 0 where
   -- the moment of the last wait in milliseconds, 0 before the first, and its reports
   pub now : ℕ
   pub reports : List Report
-  -- where it tells them: its calls, the masks of its handles, and the ends that were retired and
+  -- if it tells them: its calls, the masks of its handles, and the ends that were retired and
   -- turned away
   pub calls : Option (List Call)
   pub masks : Option (List (ℕ × Mask))
@@ -47,7 +47,7 @@ pub record NetFacts (E : Type 0) : Type 0 where
 abbrev pub IsSound : {E : Type 0} → NetFacts E → Type 0
 IsSound n = n.steady ≡ true → (n.failed_waits ≡ 0) × (n.failed_attaches ≡ 0)
 
--- where a list is told, it is empty
+-- if a list is told, it is empty
 abbrev pub HasNone : {A : Type 0} → Option (List A) → Type 0
 HasNone None = Unit {0}
 HasNone (Some told) = told ≡ []
@@ -91,7 +91,7 @@ abbrev pub is_wanted : List (ℕ × Mask) → Report → Bool
 is_wanted masks report = list_any (λ entry. entry.0 == report.handle.0
     && mask_has entry.1 report.kind) masks
 
--- where masks are told, each report is wanted: the others are held back
+-- if masks are told, each report is wanted: the others are held back
 abbrev pub AreWanted : Option (List (ℕ × Mask)) → List Report → Type 0
 AreWanted None reports = Unit {0}
 AreWanted (Some masks) reports = list_all (is_wanted masks) reports ≡ true

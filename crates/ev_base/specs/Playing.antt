@@ -40,7 +40,7 @@ is_end _ _ = false
 
 -- ---- which steps are reported
 
--- the report of a step, where its end is attached with the kind in its mask
+-- the report of a step, if its end is attached with the kind in its mask
 abbrev pub report_at : List Seat → Step → Option Report
 report_at [] step = None
 report_at (seat ∷ seats) step =
@@ -97,7 +97,7 @@ abbrev pub time_up : Option ℕ → ℕ → ℕ
 time_up None now = now
 time_up (Some most) now = now + most
 
--- 1. Where held steps can be reported, they are, at the present moment.
+-- 1. If held steps can be reported, they are, at the present moment.
 abbrev pub of_held : Playing → Answered
 of_held p =
     let reports = given p.seats most_reports p.held in
@@ -107,11 +107,11 @@ of_held p =
       next = record p { held = left p.seats most_reports p.held };
     }
 
--- 2. Else, where no group is left, nothing can be reported any more.
+-- 2. Else, if no group is left, nothing can be reported any more.
 abbrev pub of_none : Playing → Answered
 of_none p = record { answer = Over p.moment; reports = []; next = p }
 
--- 3. Else, where the next group comes later than the wait may last, nothing is reported when the
+-- 3. Else, if the next group comes later than the wait may last, nothing is reported when the
 --    time is up.
 abbrev pub of_time : Option ℕ → Playing → Answered
 of_time most p = record {
@@ -211,7 +211,7 @@ Plays groups (SetsMask handle mask ∷ calls) = Plays groups calls
 Plays groups (Retires handle ∷ calls) = Plays groups calls
 Plays groups (TurnsAway serial ∷ calls) = Plays groups calls
 
--- where a net tells its calls and there are groups, it plays them
+-- if a net tells its calls and there are groups, it plays them
 abbrev pub FollowsGroups : Option (List Call) → Option (List Group) → Type 0
 FollowsGroups None groups = Unit {0}
 FollowsGroups (Some calls) None = Unit {0}

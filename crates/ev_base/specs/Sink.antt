@@ -7,10 +7,10 @@ use Rattle.ev_base.specs.declared.sink.Wrote.TheVariants.{Bytes, Failed}
 pub record SinkFacts : Type 0 where
   -- how often a write failed
   pub faults : ℕ
-  -- all that was taken so far, where it is told
+  -- all that was taken so far, if it is told
   pub text : Option (List ℕ)
 
--- where the text is told, it grew by these bytes
+-- if the text is told, it grew by these bytes
 abbrev pub GrowsBy : Option (List ℕ) → List ℕ → Option (List ℕ) → Type 0
 GrowsBy None bytes None = Unit {0}
 GrowsBy None bytes (Some new) = ⊥

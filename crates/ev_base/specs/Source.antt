@@ -12,7 +12,7 @@ pub record SourceFacts : Type 0 where
   pub gave : ℕ
   -- whether a read answered Over
   pub over : Bool
-  -- the bytes, where they are told
+  -- the bytes, if they are told
   pub bytes : Option ReaderBytes
 
 -- a read gave the first n bytes of the buffer

@@ -1,4 +1,4 @@
--- Stories: what an end has to tell from its first call on, where a script or a test lays it down.
+-- Stories: what an end has to tell from its first call on, if a script or a test lays it down.
 use Rattle.std.specs.Prelude.{◌≡◌, ℕ, suc, ◌+◌, ◌-◌, nat_lt, min, if◌then◌else◌, List, [], ◌∷◌}
 use Rattle.std.specs.Prelude.{◌++◌, length, take, drop, Option, Some, None}
 use Rattle.ev_base.specs.declared.source.Got.{Got}
@@ -19,7 +19,7 @@ pub data Offer : Type 0 where
   NoneThere : Offer
   OneFailure : Offer
 
--- A connection's story: its bytes, where nobody said how they are cut, or its parts.
+-- A connection's story: its bytes, if nobody said how they are cut, or its parts.
 pub data Story : Type 0 where
   OfBytes : (bytes : List ℕ) → Story
   OfParts : (parts : List Part) → Story
@@ -43,7 +43,7 @@ AreNumbered next (Connection serial ∷ offers) = (serial ≡ next) × AreNumber
 AreNumbered next (NoneThere ∷ offers) = AreNumbered next offers
 AreNumbered next (OneFailure ∷ offers) = AreNumbered next offers
 
--- where a listener tells its story, the connections left there have the serial numbers from this
+-- if a listener tells its story, the connections left there have the serial numbers from this
 -- one on
 abbrev pub NumbersFrom : ℕ → Option Offering → Type 0
 NumbersFrom next None = Unit {0}
@@ -62,7 +62,7 @@ abbrev pub read_bytes : ℕ → ℕ → List Part → List ℕ
 read_bytes room at (Piece bytes ∷ left) = take (min room (length bytes - at)) (drop at bytes)
 read_bytes room at _ = []
 
--- how far the story is told behind it: a piece is given from its front, and what there is no room
+-- how far the story is told after it: a piece is given from its front, and what there is no room
 -- for stays
 abbrev pub told_after : ℕ → List Part → ℕ → List Part → Telling
 told_after room given at [] = record { given = given; at = 0; left = [] }
@@ -75,7 +75,7 @@ told_after room given at (Pausing ∷ left) =
 told_after room given at (Ending ∷ left) = record { given = given; at = 0; left = Ending ∷ left }
 told_after room given at (Failing ∷ left) = record { given = given; at = 0; left = Failing ∷ left }
 
--- where the story is told, a read with this room gave the next of it
+-- if the story is told, a read with this room gave the next of it
 abbrev pub TellsNext : Option Telling → ℕ → Got → List ℕ → Option Telling → Type 0
 TellsNext None room got bytes None = Unit {0}
 TellsNext None room got bytes (Some new) = ⊥
@@ -84,7 +84,7 @@ TellsNext (Some old) room got bytes (Some new) =
     (got ≡ read_answer room old.at old.left) × (bytes ≡ read_bytes room old.at old.left)
     × (new ≡ told_after room old.given old.at old.left)
 
--- where the listener's story is told, an accept took this offer, or found none
+-- if the listener's story is told, an accept took this offer, or found none
 abbrev pub TakesOffer : Option Offering → Offer → Option Offering → Type 0
 TakesOffer None offer None = Unit {0}
 TakesOffer None offer (Some new) = ⊥

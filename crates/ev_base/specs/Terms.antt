@@ -46,7 +46,7 @@ pub record Terms : Type 0 where
   pub volumes_taken : Option ℕ
   pub volumes_faults : Option ℕ
 
--- the story of the connection of a serial number, where the terms have it
+-- the story of the connection of a serial number, if the terms have it
 abbrev pub story_of : Terms → ℕ → Option Story
 story_of t serial = option_and_then (λ stories. slice_get stories serial) t.stories
 

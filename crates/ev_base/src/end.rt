@@ -31,7 +31,7 @@ pub enum Taken<E> {
 
 /// One end of a connection, or a listener, which gives ends. Its calls never wait. It counts its
 /// reads and accepts, its writes, its faults and the bytes that its reads gave, and keeps what the
-/// last of each call came to; where it tells them, also its bytes, its serial number and its story.
+/// last of each call came to; if it tells them, also its bytes, its serial number and its story.
 pub trait PeerEnd: Sized {
     /// What contracts see of an end.
     ghost tells: { Self → EndFacts };

@@ -69,7 +69,7 @@ fn copy_from(bytes: &[u8], at: usize, buf: &mut [u8]) -> usize
 }
 
 /// A source of pieces: each read gives bytes of one piece. The reads that are named by their
-/// numbers, from 0, fail. A read behind one that answered `Over` answers `Over`.
+/// numbers, from 0, fail. A read after one that answered `Over` answers `Over`.
 #[derive(Drop)]
 pub struct MemSource {
     pieces: Vec<Vec<u8>>,
@@ -148,7 +148,7 @@ impl Source for MemSource {
     }
 }
 
-/// The place of the next byte: the number of its piece, and its place there. Behind the last byte
+/// The place of the next byte: the number of its piece, and its place there. After the last byte
 /// the number is that of the pieces.
 fn past_spent(pieces: &[Vec<u8>], piece: usize, place: usize) -> (usize, usize)
     ensures given { given_of result.0 result.1 pieces.now ≡ given_of piece place pieces.now }
@@ -182,7 +182,7 @@ impl MemSink {
     ghost use Rattle.ev_base.specs.MemSink.{limit_of, taken_of, mem_sink_facts};
 
     /// A sink that takes `room` bytes, or `fail_after` bytes if these are fewer, and fails at each
-    /// write behind them. `NoMemory` comes where there is no memory for the room.
+    /// write after them. `NoMemory` comes if there is no memory for the room.
     pub fn new(alloc: Global, room: usize, fail_after: Option<u64>) -> Result<MemSink, NoMemory>
         ensures empty { IfOk result (λ s. mem_sink_facts s
             ≡ record { faults = 0; text = Some [] }) }

@@ -79,7 +79,7 @@ pub trait Net {
         ensures kept { KeepsOn keeps self.old self.new };
 
     /// Begins to watch an end, which leaves all that the end tells as it is. It uses one place,
-    /// which serves the later `retire`. `NetFailed` comes only where the count of failed attaches
+    /// which serves the later `retire`. `NetFailed` comes only if the count of failed attaches
     /// rose, and leaves the place. A net that has no memory to watch the end tells that as
     /// `NetFailed` too, with its count.
     fn attach(&mut self, end: &mut Self::End, handle: Handle, mask: Mask) -> Result<(), NetFailed>
@@ -114,13 +114,13 @@ pub trait Net {
     /// One that never fails has no fault.
     ghost sound: { (net : Self) → IsSound (facts net) };
 
-    /// Where the terms lay down the groups of a script, one that tells its calls answered each wait
+    /// If the terms lay down the groups of a script, one that tells its calls answered each wait
     /// as these groups say.
     ghost keeps_groups: { (t : Terms) (net : Self) → keeps t net
         → FollowsGroups (facts net).calls t.groups };
 }
 
-/// What makes a waiting net return early, where it can. It promises nothing.
+/// What makes a waiting net return early, if it can. It promises nothing.
 pub trait Wake {
     /// Asks the net to return from its wait.
     fn wake(&self);

@@ -11,14 +11,14 @@ pub enum Wrote {
     Failed,
 }
 
-/// A sink of bytes. It counts the writes that failed, and where it tells it, it has the text of all
+/// A sink of bytes. It counts the writes that failed, and if it tells it, it has the text of all
 /// that it took.
 pub trait Sink {
     /// What contracts see of a sink.
     ghost facts: { Self → SinkFacts };
 
     /// Writes a piece that is not empty. `Bytes(n)` has n from 1 to the piece's length. `Failed`
-    /// comes only where the count of faults is one more: a sink that takes nothing is at fault.
+    /// comes only if the count of faults is one more: a sink that takes nothing is at fault.
     fn write(&mut self, piece: &[u8]) -> Wrote
         requires { 0 < length piece.now }
         ensures { Writes (facts self.old) piece.now result (facts self.new) };

@@ -17,13 +17,13 @@ pub enum Got {
 }
 
 /// A source of bytes. It has a count of faults that never falls and a count of the bytes that it
-/// gave, and where it tells them, the bytes that it has given and those that it has left.
+/// gave, and if it tells them, the bytes that it has given and those that it has left.
 pub trait Source {
     /// What contracts see of a source.
     ghost facts: { Self → SourceFacts };
 
     /// Reads into a buffer that is not empty. `Bytes(n)` has n from 1 to the buffer's length. A
-    /// source never answers `Pause`. `Failed` comes only where the count of faults rose, and leaves
+    /// source never answers `Pause`. `Failed` comes only if the count of faults rose, and leaves
     /// the bytes as they were.
     fn read(&mut self, buf: &mut [u8]) -> Got
         requires { 0 < length buf.old }

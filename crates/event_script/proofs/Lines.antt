@@ -9,7 +9,7 @@ not_last : (line first : List ℕ) (more : List (List ℕ))
 not_last [] first more = refl
 not_last (x ∷ line) first more = refl
 
--- behind a line feed the rest of the text has its lines
+-- after a line feed the rest of the text has its lines
 pub more_lines : (line rest : List ℕ)
     → without_last_empty (line ∷ parts 10 rest) ≡ line ∷ raw_lines rest
 more_lines line rest =

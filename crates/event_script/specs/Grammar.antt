@@ -11,7 +11,7 @@ use Rattle.event_script.specs.Script.{ScriptGroup, most_steps, may_follow as ste
 
 -- ---- lines and words
 
--- the lines of a text, whose last line feed may be missing: an empty part behind the last line feed
+-- the lines of a text, whose last line feed may be missing: an empty part after the last line feed
 -- is no line
 abbrev pub without_last_empty : List (List ℕ) → List (List ℕ)
 without_last_empty [] = []
@@ -119,7 +119,7 @@ may_stand past (Stepping step) = nat_lt (length (steps_in past)) most_steps
 
 -- ---- the whole text
 
--- These lines of a text, the latest first, spell these lines, each of which may stand behind those
+-- These lines of a text, the latest first, spell these lines, each of which may stand after those
 -- before it.
 abbrev pub Spells : List (List ℕ) → List Line → Type 0
 Spells [] [] = Unit {0}

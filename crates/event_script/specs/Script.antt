@@ -84,7 +84,7 @@ abbrev pub goes_on : ℕ → List ScriptStep → Bool
 goes_on c past = came c past && not (is_done c past)
 
 -- Connections are numbered as they come. One brings at least one byte at a time. It brings bytes,
--- is shut and fails only behind its coming, and nothing of it follows once it was shut or failed.
+-- is shut and fails only after its coming, and nothing of it follows once it was shut or failed.
 abbrev pub may_follow : List ScriptStep → ScriptStep → Bool
 may_follow past (Opens conn) = conn == opened past && nat_lt conn most_connections
 may_follow past (Brings conn bytes) = goes_on conn past && nat_lt 0 (length bytes)

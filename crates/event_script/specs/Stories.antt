@@ -6,8 +6,8 @@ use Rattle.ev_base.specs.Story.{OneFailure, Story, OfParts}
 use Rattle.event_script.specs.Script.{ScriptStep, Opens, Brings, Shuts, Fails, ListenerFails, shuts}
 use Rattle.event_script.specs.Script.{fails, opened}
 
--- Of a connection: bytes and then one pause for each step that brings some, the end where it is
--- shut, a failure where it fails. The last two are told from then on.
+-- Of a connection: bytes and then one pause for each step that brings some, the end if it is
+-- shut, a failure if it fails. The last two are told from then on.
 abbrev pub parts_of : ℕ → ScriptStep → List Part
 parts_of c (Brings conn bytes) = if conn == c then Piece bytes ∷ Pausing ∷ [] else []
 parts_of c (Shuts conn) = if conn == c then Ending ∷ [] else []

@@ -24,7 +24,7 @@ code_of status.PeerFault = 13
 code_of (status.TimedOut at) = 14
 code_of status.Unfinished = 15
 
--- the number that goes with a status, 0 where it has none
+-- the number that goes with a status, 0 if it has none
 abbrev pub number_of : Status → ℕ
 number_of (status.BadText line) = line
 number_of (status.BadRecord at) = at
@@ -37,7 +37,7 @@ number_of _ = 0
 abbrev pub as_line : List ℕ → List ℕ
 as_line text = text ++ 10 ∷ []
 
--- the line of a status; where all is done there is none
+-- the line of a status; if all is done there is none
 abbrev pub line_of : Status → List ℕ
 line_of status.Done = []
 line_of status.Usage = as_line (codes "logd: usage")
@@ -55,7 +55,7 @@ line_of status.PeerFault = as_line (codes "logd: peer failed")
 line_of (status.TimedOut at) = as_line (codes "logd: connect timed out at " ++ decimal at)
 line_of status.Unfinished = as_line (codes "logd: unfinished")
 
--- the status of a code and of a number, which counts where the status has one; a code that is none
+-- the status of a code and of a number, which counts if the status has one; a code that is none
 -- of a status has none
 abbrev pub status_of : ℕ → ℕ → Option Status
 status_of code number =

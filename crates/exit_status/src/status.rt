@@ -5,7 +5,7 @@ ghost use Rattle.exit_status.specs.Statuses.{code_of, number_of, status_of};
 use std::fmt;
 
 /// How a command of the program ended. Its `Display` is the line that tells it, with a line feed;
-/// where all is done there is none.
+/// if all is done there is none.
 #[derive(Clone, Copy, PartialEq, Eq, Debug)]
 pub enum Status {
     /// All is done.
@@ -79,7 +79,7 @@ impl Status {
         }
     }
 
-    /// The number that goes with it, 0 where it has none.
+    /// The number that goes with it, 0 if it has none.
     pub fn number(self) -> u64
         ensures { result ≡ number_of self }
     {
@@ -92,7 +92,7 @@ impl Status {
     }
 
     /// The status with this code and this number, or `None` for a code that is none of a status.
-    /// The number counts only where the status has one.
+    /// The number counts only if the status has one.
     pub fn of(code: u8, number: u64) -> Option<Status>
         ensures { result ≡ status_of code number }
     {

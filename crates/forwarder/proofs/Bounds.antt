@@ -185,7 +185,7 @@ none_left t n e = by (first_of (left_of t)) e (is_left t).stops
     by (Bad w) e s = cc
     by (One m) e s = s
 
--- the records that come with a piece are those that stand behind what was left
+-- the records that come with a piece are those that stand after what was left
 pub records_behind : (old new : DecoderState) (t piece : List ℕ) (fed : Fed) → StandsFor old t
     → Feeds old piece fed new → fed.records ≡ records_of (left_of t ++ piece)
 records_behind old new t piece fed stands feeds =

@@ -121,7 +121,7 @@ sound_so : (t : List ℕ) (bad : Option BadRecord) → bad ≡ bad_of t → stop
 sound_so t None is none = sym is
 sound_so t (Some bad) is none = absurd (some_none (end.BadRecord bad.at) none)
 
--- where no bad record stands, reading stops with what is left
+-- if no bad record stands, reading stops with what is left
 no_bad : (place left : ℕ) (v : First) → bad_at place v ≡ None
     → stop_at place left v ≡ unfinished left
 no_bad place left More is = refl
@@ -149,7 +149,7 @@ ends_so d t e stands none over =
     by false is stop =
         inr (over, (length d.rest, stop ∙ some_left (length d.rest) is, stands.offset))
 
--- what a read leaves: where it gave nothing, and nothing waits, it reads no more
+-- what a read leaves: if it gave nothing, and nothing waits, it reads no more
 pub record LeavesRead (s : State) (gave : Bool) (r : State) : Type 0 where
   pub forwarded : HasForwarded r
   pub writes : r.facts.writes ≡ s.facts.writes
@@ -317,7 +317,7 @@ reads_on s gave r open_ h reads = by (may_read s) refl reads
 
 -- ---- writing
 
--- What a write leaves: where nothing was taken and it goes on, either nothing waited, or the write
+-- What a write leaves: if nothing was taken and it goes on, either nothing waited, or the write
 -- paused.
 pub record LeavesWrite (r : State) (took : Bool) (w : State) : Type 0 where
   pub forwarded : HasForwarded w
@@ -437,7 +437,7 @@ writes_once r took w open_ h once = by once.came once.facts once.writes once.tak
           (sym (ap (λ (x : State). x.ended) t.1) ∙ goes));
     }
 
--- where it may not write and goes on, nothing waits
+-- if it may not write and goes on, nothing waits
 may_write_not : (b : Bool) (o : Option ForwardEnding) → (not b && is_none o) ≡ false → o ≡ None
     → b ≡ true
 may_write_not true o is none = refl

@@ -36,7 +36,7 @@ wrote_some s f n bytes piece left some open_ all writes passed counts =
       );
     })
 
--- a piece was taken where nothing waited
+-- a piece was taken when nothing waited
 pub took_piece : (s : State) (piece waiting : List ℕ) (records : ℕ) (came : Completed)
     (d : DecoderState) → s.waiting ≡ [] → CompletesSo s.decoder piece came d
     → waiting ≡ came.bytes.items → records ≡ more s.records came.records

@@ -89,7 +89,7 @@ closes_some (Some how) went closes = refl
 closes_some None true closes = absurd closes
 closes_some None false closes = absurd closes
 
--- a turn is answered Keep only where it goes on and no bytes went
+-- a turn is answered Keep only if it goes on and no bytes went
 rest_when : (o : Option ForwardEnding) (went : Bool) → (is_rest (answer_of o went) ≡ 0)
     ⊎ ((is_rest (answer_of o went) ≡ 1) × (o ≡ None) × (went ≡ false))
 rest_when (Some how) went = inl refl

@@ -11,7 +11,7 @@ use Rattle.cdr_record.specs.Decoding.{decode}
 abbrev pub fits_1 : LogRecord → Bool
 fits_1 r = int_le (negsuc 2147483647) r.sec && int_le r.sec (pos 2147483647)
 
--- A record is forwarded in its canonical spelling of version 1, big-endian, or where it has none in
+-- A record is forwarded in its canonical spelling of version 1, big-endian, or if it has none in
 -- that of version 2.
 abbrev pub sent_as : LogRecord → List ℕ
 sent_as r = if fits_1 r then canon r Big else canon_2 r Big

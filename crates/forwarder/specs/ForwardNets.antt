@@ -32,7 +32,7 @@ forward_net_facts facts net = record {
   turned_away = Some (map (λ e. e.1) net.turned_away);
 }
 
--- It keeps what the net within keeps. Where that tells the ends that it took back, they are those
+-- It keeps what the net within keeps. If that tells the ends that it took back, they are those
 -- that this one tells; and the sources that it keeps are those of these ends.
 pub record ForwardNetKeeps {M S E : Type 0} {N : NetGhosts M E} {G : Ghosts E}
     (facts : M → NetFacts E) (keeps : Terms → M → Type 0) (t : Terms)

@@ -25,7 +25,7 @@ use Rattle.forwarder.specs.declared.note.ForwardNote.{ForwardNote}
 use Rattle.forwarder.specs.declared.note.ForwardEnding.{ForwardEnding}
 use Rattle.forwarder.specs.declared.note.ForwardEnding.TheVariants as end
 
--- these bytes were written and no others, where it is told
+-- these bytes were written and no others, if it is told
 abbrev pub IsWritten : Option (List ℕ) → List ℕ → Type 0
 IsWritten None bytes = Unit {0}
 IsWritten (Some written) bytes = written ≡ bytes
@@ -36,7 +36,7 @@ StopsAtRecord e taken at = ((decode taken).stop ≡ Malformed at)
     ⊎ ((e.over ≡ true) × ((n : ℕ) × ((decode taken).stop ≡ Partial n)
     × (at ≡ told (taken_of taken))))
 
--- what holds where it reads no more, by how it will end; no bad record came before a failed read
+-- what holds if it reads no more, by how it will end; no bad record came before a failed read
 abbrev pub HasStopped : ForwardEnding → List ℕ → EndFacts → Type 0
 HasStopped end.End taken e = (e.over ≡ true) × ((decode taken).stop ≡ Clean)
 HasStopped (end.BadRecord at) taken e = StopsAtRecord e taken at
@@ -102,7 +102,7 @@ abbrev pub rests_in : List (Item ForwardNote) → ℕ
 rests_in [] = 0
 rests_in (item ∷ items) = rest_of item.upcall item.answer + rests_in items
 
--- what the last turn leaves: its note, and, where it was answered Keep, a write that paused
+-- what the last turn leaves: its note, and, if it was answered Keep, a write that paused
 pub record LeavesTurn (s : State) (item : Item ForwardNote) : Type 0 where
   pub notes : item.note ≡ note_of s
   pub paused : rest_of item.upcall item.answer ≡ 1 → s.facts.last_write ≡ Some Paused
@@ -113,7 +113,7 @@ LastIs holds (item ∷ []) = holds item
 LastIs holds (item ∷ next ∷ items) = LastIs holds (next ∷ items)
 
 -- What the turns of a service come to that stands so: which turns they were, what was forwarded,
--- and that each turn that was answered Keep made a write. It ended itself exactly where its last
+-- and that each turn that was answered Keep made a write. It ended itself exactly if its last
 -- answer was Close.
 pub record HasTurned (had : List (Item ForwardNote)) (s : State) : Type 0 where
   pub start : EndFacts

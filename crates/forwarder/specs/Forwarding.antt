@@ -30,7 +30,7 @@ pub record State : Type 0 where
   pub decoder : DecoderState
   -- the bytes that wait to be sent: the rest of the message that is being sent, then the queue's
   pub waiting : List ℕ
-  -- how it will end once nothing waits, where it reads no more
+  -- how it will end once nothing waits, if it reads no more
   pub stop : Option ForwardEnding
   -- how many records it read, and how many bytes the end was given
   pub records : ℕ
@@ -59,7 +59,7 @@ none_wait s = length s.waiting == 0
 
 -- ---- reading
 
--- it reads only where nothing waits, and never after the end, a bad record or a failed read
+-- it reads only if nothing waits, and never after the end, a bad record or a failed read
 abbrev pub may_read : State → Bool
 may_read s = none_wait s && is_none s.stop
 
@@ -104,7 +104,7 @@ Reads false before gave after = (gave ≡ false) × (after ≡ before)
 
 -- ---- writing
 
--- it writes where something waits, unless it lacked memory
+-- it writes if something waits, unless it lacked memory
 abbrev pub may_write : State → Bool
 may_write s = not (none_wait s) && is_none s.ended
 
@@ -130,7 +130,7 @@ WritesIf false before took after = (took ≡ false) × (after ≡ before)
 
 -- ---- one turn
 
--- how it ends: as it did, or where nothing waits as it will
+-- how it ends: as it did, or if nothing waits as it will
 abbrev pub ending_by : Option ForwardEnding → Bool → Option ForwardEnding → Option ForwardEnding
 ending_by (Some how) none stop = Some how
 ending_by None true stop = stop
@@ -139,13 +139,13 @@ ending_by None false stop = None
 abbrev pub concluded : State → State
 concluded s = record s { ended = ending_by s.ended (none_wait s) s.stop }
 
--- at its end it answers Close; else Again where bytes went, and Keep where the end paused
+-- at its end it answers Close; else Again if bytes went, and Keep if the end paused
 abbrev pub answer_of : Option ForwardEnding → Bool → Answer
 answer_of (Some how) went = Close
 answer_of None true = Again
 answer_of None false = Keep
 
--- one read where it may, then one write where something waits
+-- one read if it may, then one write if something waits
 pub record Forwards (before : State) (answer : Answer) (after : State) : Type 0 where
   pub gave : Bool
   pub read : State

@@ -7,7 +7,7 @@ use Rattle.cdr_record.specs.declared.record.LogRecord.{LogRecord}
 use Rattle.cdr_record.specs.Decoding.{decode}
 use Rattle.forwarder.specs.Feeding.{feed, fits_1}
 
--- a record is sent in version 1 exactly where its seconds are a number of 32 bits
+-- a record is sent in version 1 exactly if its seconds are a number of 32 bits
 abbrev pub ShortSecondsFit : Type 0
 ShortSecondsFit = (r : LogRecord) → (fits_1 r ≡ true) ↔ FitsSigned w32 r.sec
 

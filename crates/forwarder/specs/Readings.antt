@@ -13,7 +13,7 @@ use Rattle.forwarder.specs.declared.reading.Completed.{Completed}
 abbrev pub StandsForSome : DecoderState → Type 0
 StandsForSome decoder = (fed : List ℕ) × StandsFor decoder fed
 
--- where a bad record came, reading stops at it
+-- if a bad record came, reading stops at it
 abbrev pub stop_of : Option Bad → Option ForwardEnding
 stop_of None = None
 stop_of (Some bad) = Some (end.BadRecord bad.at)

@@ -41,7 +41,7 @@ impl<E: DialEnd, S: Source> ForwardEnd<E, S> {
         }
     }
 
-    /// Reads the source into a buffer that is not empty. It never pauses. `Failed` comes where a
+    /// Reads the source into a buffer that is not empty. It never pauses. `Failed` comes if a
     /// read of the source failed or there is a byte after the last that may be read.
     pub fn read_input(&mut self, buf: &mut [u8]) -> Got
         requires { 0 < length buf.old }

@@ -56,7 +56,7 @@ where
         }
     }
 
-    /// The net within, and the source of the end that was retired, where that is the only one that
+    /// The net within, and the source of the end that was retired, if that is the only one that
     /// the net took.
     pub fn into_retired(self) -> (M, OneEnd<S>)
         requires { TookOne M.facts self }
@@ -79,7 +79,7 @@ where
         (net, input)
     }
 
-    /// The net within, where no end was taken.
+    /// The net within, if no end was taken.
     pub fn close(self) -> M
         requires retired { (forward_net_facts M.facts self).retired ≡ Some [] }
         requires turned_away { (forward_net_facts M.facts self).turned_away ≡ Some [] }

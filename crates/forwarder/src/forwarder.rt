@@ -21,14 +21,14 @@ const PIECE: usize = 4096;
 /// The service that forwards records: it reads the source of its end, decodes it, and writes the
 /// canonical spelling of each record to the peer (C++NPv2 chapter 7, the client logging daemon).
 ///
-/// Each upcall but a timeout makes at most one read of at most 4,096 bytes, and only where nothing
-/// waits to be sent, then one write of what waits. It answers Again where bytes went either way,
-/// Keep where the peer took none, and Close at its end, of which its notes tell. It reads no more
+/// Each upcall but a timeout makes at most one read of at most 4,096 bytes, and only if nothing
+/// waits to be sent, then one write of what waits. It answers Again if bytes went either way,
+/// Keep if the peer took none, and Close at its end, of which its notes tell. It reads no more
 /// after a bad record, the end of the source or a failed read, and ends once all before was sent.
 pub struct Forwarder<E, S> {
     reading: Reading,
     sending: Sending,
-    // How it ends once nothing waits, where it reads no more.
+    // How it ends once nothing waits, if it reads no more.
     stop: Option<ForwardEnding>,
     records: u64,
     bytes: u64,
@@ -92,7 +92,7 @@ impl<E: DialEnd, S: Source> Forwarder<E, S> {
         }
     }
 
-    /// One read where it may, then one write where something waits.
+    /// One read if it may, then one write if something waits.
     fn forward(&mut self, end: &mut ForwardEnd<E, S>) -> Answer
         ensures forwards { (state_of E.tells S.facts self.old end.old).ended ≡ None
             → Forwards (state_of E.tells S.facts self.old end.old) result
@@ -110,7 +110,7 @@ impl<E: DialEnd, S: Source> Forwarder<E, S> {
         self.conclude(gave, took)
     }
 
-    /// Reads once, where nothing waits and it may read on. Tells whether bytes came.
+    /// Reads once, if nothing waits and it may read on. Tells whether bytes came.
     fn read_on(&mut self, end: &mut ForwardEnd<E, S>) -> bool
         ensures reads { Reads (may_read (state_of E.tells S.facts self.old end.old))
             (state_of E.tells S.facts self.old end.old) result
@@ -141,7 +141,7 @@ impl<E: DialEnd, S: Source> Forwarder<E, S> {
         }
     }
 
-    /// Takes a piece that was read where nothing waits; where there is no memory it ends.
+    /// Takes a piece that was read, when nothing waits. If there is no memory it ends.
     fn take(&mut self, piece: &[u8])
         requires none { self.old.sending.waiting ≡ [] }
         requires few { length piece.now ≤ 4096 }
@@ -156,7 +156,7 @@ impl<E: DialEnd, S: Source> Forwarder<E, S> {
         }
     }
 
-    /// Takes a piece that was read where nothing waits: the records that it completed wait now.
+    /// Takes a piece that was read while nothing waits: the records that it completed wait now.
     fn try_take(&mut self, piece: &[u8]) -> Result<(), NoMemory>
         requires none { self.old.sending.waiting ≡ [] }
         requires few { length piece.now ≤ 4096 }
@@ -205,7 +205,7 @@ impl<E: DialEnd, S: Source> Forwarder<E, S> {
         }
     }
 
-    /// Ends it where it reads no more and nothing waits, and gives the answer of a turn, by
+    /// Ends it if it reads no more and nothing waits, and gives the answer of a turn, by
     /// whether its read gave bytes and its write took some.
     fn conclude(&mut self, gave: bool, took: bool) -> Answer
         ensures leaves { (facts : EndFacts) → standing self.new facts

@@ -27,7 +27,7 @@ pub struct ForwardNote {
     pub records: u64,
     /// How many bytes the peer's end was given, at most `u64::MAX`.
     pub bytes: u64,
-    /// How the service ends once all is sent, where it reads no more: at the end of its source, at
+    /// How the service ends once all is sent, if it reads no more: at the end of its source, at
     /// a bad or an unfinished record, or for a read that failed.
     pub stop: Option<ForwardEnding>,
     /// How the service ended, once it did.

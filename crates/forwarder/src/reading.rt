@@ -35,7 +35,7 @@ pub(crate) struct Completed {
     pub(crate) bytes: Vec<u8>,
     /// How many records these are.
     pub(crate) records: u64,
-    /// How it ends once these are sent, where a bad record came.
+    /// How it ends once these are sent, if a bad record came.
     pub(crate) stop: Option<ForwardEnding>,
 }
 
@@ -81,7 +81,7 @@ impl Reading {
     }
 }
 
-/// How it ends where a bad record came.
+/// How it ends if a bad record came.
 fn stop_of(bad: Option<Bad>) -> Option<ForwardEnding>
     ensures { result ≡ stop_of bad }
 {

@@ -65,7 +65,7 @@ impl Sending {
         }
     }
 
-    /// Puts bytes where nothing waits. After `NoMemory` nothing waits still.
+    /// Puts bytes when nothing waits. After `NoMemory` nothing waits still.
     pub(crate) fn put(&mut self, bytes: Vec<u8>) -> Result<(), NoMemory>
         requires none { self.old.waiting ≡ [] }
         requires few { length bytes.items ≤ most_held }
@@ -87,7 +87,7 @@ impl Sending {
         Ok(())
     }
 
-    /// Takes the message of the queue to be sent, where the one before was sent whole.
+    /// Takes the message of the queue to be sent, once the one before was sent whole.
     pub(crate) fn advance(&mut self)
         ensures same { self.new.waiting ≡ self.old.waiting }
         ensures held { self.new.held ≡ 0 }
@@ -98,7 +98,7 @@ impl Sending {
         }
     }
 
-    /// All that waits, where the queue holds none.
+    /// All that waits, if the queue holds none.
     pub(crate) fn front(&self) -> &[u8]
         requires { self.now.held ≡ 0 }
         ensures { result.now ≡ self.now.waiting }
@@ -109,7 +109,7 @@ impl Sending {
         }
     }
 
-    /// So many bytes of it were sent, where the queue holds none.
+    /// So many bytes of it were sent, if the queue holds none.
     pub(crate) fn pass(&mut self, count: usize)
         requires none { self.old.held ≡ 0 }
         requires within { count ≤ length self.old.waiting }

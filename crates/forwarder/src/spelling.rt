@@ -68,7 +68,7 @@ impl SpelledRecords {
         }
     }
 
-    /// The spellings, where no message is too long for a record, and how many records they are, at
+    /// The spellings, if no message is too long for a record, and how many records they are, at
     /// most `u64::MAX`.
     pub(crate) fn into_parts(self) -> (Vec<u8>, u64)
         ensures bytes { are_short self ≡ true → result.0.items ≡ sent_all self }
@@ -100,7 +100,7 @@ fn fits_1(entry: RecordRef<'_>) -> bool
 }
 
 /// Appends the canonical spelling of a record whose message is not too long: in version 1, or in
-/// version 2 where its seconds do not fit. An `Err` leaves the bytes as they were.
+/// version 2 if its seconds do not fit. An `Err` leaves the bytes as they were.
 fn push_spelling(out: &mut Vec<u8>, entry: RecordRef<'_>) -> Result<(), AllocError>
     requires { length entry.text.now ≤ 65536 }
     ensures ok { OnOk result (out.new.items ≡ out.old.items ++ sent_as (owned entry.entry)) }

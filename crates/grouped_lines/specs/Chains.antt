@@ -24,16 +24,16 @@ conn_of _ = None
 abbrev pub IsOfNone : ℕ → Entry ServerNote → Type 0
 IsOfNone connections e = (c : ℕ) → c < connections → is_entry_of c e ≡ false
 
--- how many entries stand before the first of a connection: all, where there is none of it
+-- how many entries stand before the first of a connection: all, if there is none of it
 abbrev pub entries_before : ℕ → List (Entry ServerNote) → ℕ
 entries_before c [] = 0
 entries_before c (e ∷ entries) = if is_entry_of c e then 0 else suc (entries_before c entries)
 
--- the place of a connection's first entry from place i on: the end, where there is none
+-- the place of a connection's first entry from place i on: the end, if there is none
 abbrev pub place_from : ℕ → List (Entry ServerNote) → ℕ → ℕ
 place_from c entries i = i + entries_before c (drop i entries)
 
--- Behind each entry from place i on that is of one of so many connections stands the place of that
+-- For each entry from place i on that is of one of so many connections there is the place of that
 -- connection's next.
 abbrev pub AreLinked : List (Entry ServerNote) → ℕ → List ℕ → ℕ → Type 0
 AreLinked entries connections behind i =
@@ -41,7 +41,7 @@ AreLinked entries connections behind i =
     → is_entry_of c e ≡ true
     → slice_index behind at ≡ place_from c entries (suc at)
 
--- The chains of the entries from place i on: each connection's first place, and behind each place
+-- The chains of the entries from place i on: each connection's first place, and after each place
 -- the next.
 pub record AreChains (entries : List (Entry ServerNote)) (i : ℕ) (first behind : List ℕ) : Type 0
   where

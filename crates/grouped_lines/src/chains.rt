@@ -10,7 +10,7 @@ use reactor_journal::Entry;
 use std::alloc::Global;
 
 /// The places of the entries that have lines of a connection: for each connection that was accepted
-/// its first, and behind each the next. Where there is none, the place is the end of the journal.
+/// its first, and after each the next. If there is none, the place is the end of the journal.
 #[derive(Drop)]
 pub(crate) struct Chains {
     first: Vec<usize>,
@@ -71,7 +71,7 @@ impl Chains {
         self.first[conn]
     }
 
-    /// The place behind this one.
+    /// The place after this one.
     pub(crate) fn behind(&self, at: usize) -> usize
         requires { at < length self.now.behind.items }
         ensures { result ≡ slice_index self.now.behind.items at }
@@ -110,7 +110,7 @@ fn accepts(entry: &Entry<ServerNote>) -> bool
     }
 }
 
-/// The connection whose lines an entry has, where it is one of so many.
+/// The connection whose lines an entry has, if it is one of so many.
 fn conn_among(entry: &Entry<ServerNote>, connections: usize) -> Option<usize>
     ensures { MatchOption result (IsOfNone connections entry.now)
         (λ conn. (conn_of entry.now ≡ Some conn) × (conn < connections)) }

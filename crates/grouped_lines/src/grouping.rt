@@ -101,7 +101,7 @@ fn put_one<T: TextOut, L: EntryLines<T>>(
 }
 
 /// Writes the lines of a journal's notes to a sink, as `put_by_connection` puts them, in few
-/// writes, and gives the sink back, and whether no write failed: where one did, it has a front of
+/// writes, and gives the sink back, and whether no write failed: if one did, it has a front of
 /// the lines. For want of memory nothing was written.
 pub fn write_by_connection<K: Sink>(
     alloc: Global,

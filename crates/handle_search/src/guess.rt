@@ -5,7 +5,7 @@ ghost use Rattle.handle_search.specs.Rising.{IsPlaceOf};
 use crate::search::HasHandle;
 use ev_types::Handle;
 
-// How many probes `sought` makes at most: each behind the first at least halves how many places are
+// How many probes `sought` makes at most: each after the first at least halves how many places are
 // left.
 const PROBES: u32 = 64;
 
@@ -40,7 +40,7 @@ fn sought<T: HasHandle>(
 }
 
 // The place of this handle, guessed. No two handles have one number, so it stands at most as many
-// places from the first and from the last element as its number is from theirs: just so many, where
+// places from the first and from the last element as its number is from theirs: just so many, if
 // no number between is missing. Else the guess is where it would stand if the missing numbers were
 // spread evenly, and it is sought from there. A guess that is far off costs probes and nothing
 // else.

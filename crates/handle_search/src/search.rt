@@ -42,8 +42,8 @@ fn bisected<T: HasHandle>(items: &[T], handle: Handle) -> Option<usize>
     }
 }
 
-/// The place of the element of this handle in a slice that is in rising order of handle, None where
-/// there is none. It is found at once where no number is missing before it or behind it, and else
+/// The place of the element of this handle in a slice that is in rising order of handle, None if
+/// there is none. It is found at once if no number is missing before it or after it, and else
 /// sought by bisection, with a guess first.
 pub fn place_of<T: HasHandle>(items: &[T], handle: Handle) -> Option<usize>
     ensures { MatchOption result

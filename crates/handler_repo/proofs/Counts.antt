@@ -38,7 +38,7 @@ module _ {H : Type 0} where
       one true n = omega (arith, n)
       one false n = omega (arith, n)
 
-  -- and less where the handle was there
+  -- and less if the handle was there
   pub length_without_there : (handle : ℕ) (seat : Seat H) (es : List (Entry H))
       → seat_of handle es ≡ Some seat → length (without_handle handle es) + 1 ≤ length es
   length_without_there handle seat [] there = absurd (nowhere there)

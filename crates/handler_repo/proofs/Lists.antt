@@ -58,7 +58,7 @@ module _ {X : Type 0} where
         ]
       ]
 
-  -- a relation of each element to those behind it, after an insert
+  -- a relation of each element to those after it, after an insert
   pub all_pairs_insert : (R : X → X → Type 0) (xs : List X) (p : ℕ) (y : X) → p ≤ length xs
       → AllPairs R xs
       → ((k : ℕ) (d : X) → k < p → R (get_or xs k d) y)

@@ -21,7 +21,7 @@ module _ {H : Type 0} where
   seat_of handle [] = None
   seat_of handle (e ∷ rest) = if e.handle == handle then Some e.seat else seat_of handle rest
 
-  -- the event handler, where it is there and at home
+  -- the event handler, if it is there and at home
   abbrev pub home_of : Option (Seat H) → Option H
   home_of None = None
   home_of (Some (Home h)) = Some h

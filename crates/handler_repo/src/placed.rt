@@ -53,7 +53,7 @@ impl<H> PlacedRepo<H> {
         }
     }
 
-    /// Makes at least `n` places spare. It answers `NoMemory` only where fewer were spare, and then
+    /// Makes at least `n` places spare. It answers `NoMemory` only if fewer were spare, and then
     /// all is as before.
     pub fn reserve(&mut self, n: usize) -> Result<(), NoMemory>
         ensures entries { self.new.entries ≡ self.old.entries }
@@ -89,7 +89,7 @@ impl<H> PlacedRepo<H> {
         self.repo.put(handle, cell.fill(h));
     }
 
-    /// Takes the event handler of this handle out, where it is at home.
+    /// Takes the event handler of this handle out, if it is at home.
     pub fn take(&mut self, handle: Handle) -> Option<Placed<H>>
         ensures taken { result ≡ home_of (seat_of handle.0 self.old.entries) }
         ensures out { OnSome result (self.new.entries ≡ with_seat handle.0 Out self.old.entries) }

@@ -49,7 +49,7 @@ impl<H> Repo<H> {
         }
     }
 
-    /// Makes at least `n` places spare. It answers `NoMemory` only where fewer were spare, and then
+    /// Makes at least `n` places spare. It answers `NoMemory` only if fewer were spare, and then
     /// all is as before.
     pub fn reserve(&mut self, n: usize) -> Result<(), NoMemory>
         ensures entries { self.new.entries ≡ self.old.entries }
@@ -86,7 +86,7 @@ impl<H> Repo<H> {
         }
     }
 
-    /// Takes the event handler of this handle out, where it is at home.
+    /// Takes the event handler of this handle out, if it is at home.
     pub fn take(&mut self, handle: Handle) -> Option<H>
         ensures taken { result ≡ home_of (seat_of handle.0 self.old.entries) }
         ensures out { OnSome result (self.new.entries ≡ with_seat handle.0 Out self.old.entries) }

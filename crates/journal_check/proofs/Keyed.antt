@@ -1,4 +1,4 @@
--- A map of std as the list of its values, where a test of the values tells a key.
+-- A map of std as the list of its values, if a test of the values tells a key.
 use Rattle.std.proofs.Common.{◌<◌, length, arith, ◌≡◌, Bool, true, false, not, ◌||◌, List, [], ◌∷◌}
 use Rattle.std.proofs.Common.{refl, sym, ap, ◌∙◌, subst, cond, Option, Some, None, is_some, ⊎_elim}
 use Rattle.std.proofs.lemmas.Bool.{false≢true, both_ways, cases_Bool, cond-true, cond-false}
@@ -13,7 +13,7 @@ use Rattle.std.specs.Prelude.{Ok, Err, OnOk, IfSome}
 use Rattle.std.specs.declared.result.Result.{Result}
 use Rattle.reactor_summary.specs.Tells.{Each}
 
--- the test of the values passes where the test of the keys does
+-- the test of the values passes when the test of the keys does
 abbrev pub Agrees : {K X : Type 0} → (K → Bool) → (X → Bool) → List (K × X) → Type 0
 Agrees {K} {X} test p es = Each (λ (e : K × X). p e.1 ≡ test e.0) es
 

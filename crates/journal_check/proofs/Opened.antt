@@ -23,7 +23,7 @@ use Rattle.journal_check.proofs.Timed.{cmp_equal, cmp_greater, num_other, is_equ
 no_some : {A : Type 0} (a : A) → ◌≡◌ {A = Option A} None (Some a) → ⊥
 no_some a q = cc
 
--- where the number leads to a start, a test of the number is one of the key
+-- if the number leads to a start, a test of the number is one of the key
 pub led_opens : (starts events : ℕ → Option ℕ) (next i k : ℕ) (es : List (ℕ × OpenEvent))
     → starts i ≡ Some k → Each (IsStartedAt starts events next) es
     → Agrees (is_at (nat_cmp k)) (λ (o : OpenEvent). o.event == i) es

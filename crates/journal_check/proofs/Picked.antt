@@ -26,7 +26,7 @@ pub found_idle : (s : Summary) (sound : IsSound s) (i : ℕ) (w : WaitingEvent)
 found_idle s sound i w is = (found_each (λ (v : WaitingEvent). is_idle v.due s.armed ≡ true)
     (λ (v : WaitingEvent). v.event == i) s.waiting w sound.idle is).0
 
--- it is not open, and its handle is not busy where it is the one to be started next
+-- it is not open, and its handle is not busy if it is the one to be started next
 pub found_closed : (s : Summary) (sound : IsSound s) (i : ℕ) (w : WaitingEvent)
     → S.waiting_event s i ≡ Some w → list_any (λ (o : OpenEvent). w.event == o.event) s.opens
     ≡ false
@@ -79,7 +79,7 @@ found_started s i w is =
     each_unit [] = tt
     each_unit (x ∷ xs) = (tt, each_unit xs)
 
--- where it is not found the entry changes nothing
+-- if it is not found the entry changes nothing
 pub unfound_started : (s : Summary) (i : ℕ) → S.waiting_event s i ≡ None
     → s ≡ after {N = ℕ} s (Started i)
 unfound_started s i is =

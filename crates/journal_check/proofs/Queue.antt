@@ -706,7 +706,7 @@ narrow_from w None h n = absurd (false≢true n)
 narrow_from w (Some l) h n = let first : l ≡ w.handle.0 * 5 = h.0 in let last : l + 4 < 2 ^ 64 =
     h.1 in omega arith
 
--- the five lanes of a handle, where the first is given
+-- the five lanes of a handle, of which the first is given
 pub five_lanes : (l x : ℕ) (w : WaitingEvent) → l ≡ x * 5
     → is_within l (l + 4 + 1) (lane_of w) ≡ (x == w.handle.0)
 five_lanes l x w q =
@@ -743,7 +743,7 @@ none_of_mask x mask (w ∷ ws) h =
     or_from (x == w.handle.0 && is_without mask w.upcall) _ (and_left _ _ both.0)
     (none_of_mask x mask ws both.1)
 
--- where none has a lane of the handle
+-- if none has a lane of the handle
 pub none_of_five : (l x : ℕ) (lanes : ℕ × ℕ → Bool) (xs : List WaitingEvent) → l ≡ x * 5
     → Finds lane_key lanes xs → ((n i : ℕ) → l ≤ n → n < l + 4 + 1 → lanes (n, i) ≡ false)
     → list_any (λ w. x == w.handle.0) xs ≡ false

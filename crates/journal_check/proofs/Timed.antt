@@ -46,7 +46,7 @@ pair_other d t c u n =
     (λ (p : c < d). rw (cmp_greater d c p) refl))
     (cases_order d c)
 
--- where the number leads to a timer, a test of the number is one of the key
+-- if the number leads to a timer, a test of the number is one of the key
 pub led_agrees : (lead : ℕ → Option ArmedTimer) (owns : ℕ × ℕ → Bool) (t : ℕ) (a : ArmedTimer)
     (es : List ((ℕ × ℕ) × ArmedTimer)) → lead t ≡ Some a → IsIndexed es lead owns
     → Agrees (is_at (pair_cmp (a.deadline, t))) (λ (b : ArmedTimer). b.timer == t) es
@@ -67,7 +67,7 @@ led_agrees lead owns t a es led h =
         (cases_eq e.1.timer t))
         ∙ ap (is_at (pair_cmp (a.deadline, t))) (sym i.key)
 
--- where it leads to none, no timer of that number is armed
+-- if it leads to none, no timer of that number is armed
 pub unled_none : (lead : ℕ → Option ArmedTimer) (owns : ℕ × ℕ → Bool) (t : ℕ)
     (es : List ((ℕ × ℕ) × ArmedTimer)) → lead t ≡ None → IsIndexed es lead owns
     → list_any (λ (b : ArmedTimer). b.timer == t) (values_of es) ≡ false
@@ -79,7 +79,7 @@ unled_none lead owns t (e ∷ es) led h =
     none : ◌≡◌ {A = Option ArmedTimer} None (Some e.1) → ⊥
     none q = cc
 
--- a timer of another number stands before or behind
+-- a timer of another number stands before or after
 Stands : ArmedTimer → ArmedTimer → Ordering → Type 0
 Stands a b o = ((o ≡ Less) × (S.comes_before a b ≡ true))
     ⊎ ((o ≡ Greater) × (S.comes_before a b ≡ false))
@@ -167,7 +167,7 @@ kept_indexed lead later owns also t (e ∷ es) same more n h =
 pub pair_exact : (x y : ℕ × ℕ) → pair_cmp x y ≡ Equal → x ≡ y
 pair_exact = exact_pairs nat_cmp nat_cmp exact_unsigned exact_unsigned
 
--- where a set has a key more, it has those that it had
+-- if a set has a key more, it has those that it had
 pub more_owned : (owns also : ℕ × ℕ → Bool) (k : ℕ × ℕ)
     → ((q : ℕ × ℕ) → also q ≡ cond (is_at (pair_cmp k) q) true (owns q)) → (q : ℕ × ℕ)
     → owns q ≡ true → also q ≡ true
@@ -208,7 +208,7 @@ pair_between x k t low high =
 abbrev pub of_both : ℕ → ℕ → ArmedTimer → Bool
 of_both x t a = a.handle.0 == x && a.timer == t
 
--- where the number leads to a timer of the handle, each armed timer of the number is of the handle
+-- if the number leads to a timer of the handle, each armed timer of the number is of the handle
 pub both_same : (lead : ℕ → Option ArmedTimer) (owns : ℕ × ℕ → Bool) (x t : ℕ) (a : ArmedTimer)
     (es : List ((ℕ × ℕ) × ArmedTimer)) → lead t ≡ Some a → a.handle.0 ≡ x → IsIndexed es lead owns
     → filter (λ b. not (b.timer == t)) (values_of es)
@@ -232,7 +232,7 @@ both_same lead owns x t a (e ∷ es) led mine h =
         ∙ sym (and_right (e.1.handle.0 == x) (e.1.timer == t) (ne_eqb e.1.timer t n)))
         (cases_eq e.1.timer t)
 
--- where it leads to one of another handle, none is of both
+-- if it leads to one of another handle, none is of both
 pub both_none : (lead : ℕ → Option ArmedTimer) (owns : ℕ × ℕ → Bool) (x t : ℕ) (a : ArmedTimer)
     (es : List ((ℕ × ℕ) × ArmedTimer)) → lead t ≡ Some a → (a.handle.0 ≡ x → ⊥)
     → IsIndexed es lead owns
@@ -309,7 +309,7 @@ indexed_less lead owns fewer x t (e ∷ es) less n h =
         (eq-eqb e.1.handle.0 x (sym (ap (λ (k : ℕ × ℕ). k.0) same)))
         (eq-eqb e.1.timer t (sym (ap (λ (k : ℕ × ℕ). k.1) same)))))
 
--- where the set has no number of the handle, none of its timers is armed
+-- if the set has no number of the handle, none of its timers is armed
 pub none_owned : (lead : ℕ → Option ArmedTimer) (owns : ℕ × ℕ → Bool) (x : ℕ)
     (es : List ((ℕ × ℕ) × ArmedTimer)) → ((t : ℕ) → owns (x, t) ≡ false) → IsIndexed es lead owns
     → list_any (λ (a : ArmedTimer). a.handle.0 == x) (values_of es) ≡ false

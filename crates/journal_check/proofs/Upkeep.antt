@@ -328,7 +328,7 @@ none_picked s sound fronts closing u empty =
         both_ways _ (empty (key_of g)) (u.has (key_of g) v.handle.0
         (key_from s v.handle.0 g free q))
 
--- some handle waits for its close where one is marked
+-- some handle waits for its close if one is marked
 pub some_waits : (s : Summary) (x : ℕ) → S.waits_for_closed s x ≡ true → true ≡ S.some_wait s
 some_waits s x h =
     let both : (list_any (λ (g : LiveHandle). g.handle.0 == x && not g.alive) s.handles ≡ true)

@@ -1,5 +1,5 @@
 -- What the checker keeps beside a summary: the events that go first among those of their handles,
--- where these may be started, and the handles that wait for their close.
+-- if these may be started, and the handles that wait for their close.
 use Rattle.std.specs.Prelude.{ℕ, ◌≡◌, ◌==◌, Bool, true, false, ◌&&◌, if◌then◌else◌, List, Option}
 use Rattle.std.specs.Prelude.{Some, None, option_map}
 use Rattle.std.specs.List.{find}
@@ -29,7 +29,7 @@ abbrev pub front : List WaitingEvent → ℕ → Option WaitingEvent
 front ws x = else_ (front_in ws x 0)
     (else_ (front_in ws x 1) (else_ (front_in ws x 2) (else_ (front_in ws x 3) (front_in ws x 4))))
 
--- its class and number, where an event of the handle may be started
+-- its class and number, if an event of the handle may be started
 abbrev pub key_of : WaitingEvent → ℕ × ℕ
 key_of w = (class_of w.upcall, w.event)
 
@@ -79,7 +79,7 @@ IsAbout s (Removed handle) o = o ≡ Some handle
 IsAbout s (Closed handle note) o = o ≡ Some handle
 IsAbout s _ o = o ≡ None
 
--- a set with one key more, or less, where there is one
+-- a set with one key more, or less, if there is one
 abbrev pub Adds : Option (ℕ × ℕ) → (ℕ × ℕ → Bool) → (ℕ × ℕ → Bool) → Type 0
 Adds None has later = (q : ℕ × ℕ) → later q ≡ has q
 Adds (Some k) has later = (q : ℕ × ℕ) → later q ≡ (if is_eq (pair_cmp k q) then true else has q)
@@ -88,7 +88,7 @@ abbrev pub Drops : Option (ℕ × ℕ) → (ℕ × ℕ → Bool) → (ℕ × ℕ
 Drops None has later = (q : ℕ × ℕ) → later q ≡ has q
 Drops (Some k) has later = (q : ℕ × ℕ) → later q ≡ (if is_eq (pair_cmp k q) then false else has q)
 
--- a set with one key in the place of another, where there are such
+-- a set with one key in the place of another, if there are such
 pub record Replaces (before after : Option (ℕ × ℕ)) (has later : ℕ × ℕ → Bool) : Type 0 where
   pub less : ℕ × ℕ → Bool
   pub drops : Drops before has less

@@ -37,7 +37,7 @@ lane_key w = Some (lane_of w)
 abbrev pub timer_key : WaitingEvent → Option ℕ
 timer_key w = timer_of w.upcall
 
--- the set has a lane, or timer, with the number of an event exactly where that event waits
+-- the set has a lane, or timer, with the number of an event exactly if that event waits
 pub record Finds (key : WaitingEvent → Option ℕ) (has : ℕ × ℕ → Bool)
     (xs : List WaitingEvent) : Type 0 where
   pub at : (n i : ℕ) → has (n, i) ≡ list_any (λ w. is_num n (key w) && w.event == i) xs
@@ -80,7 +80,7 @@ abbrev pub IsFront : ℕ → List WaitingEvent → Option WaitingEvent → Type 
 IsFront x xs None = list_any (λ w. x == w.handle.0) xs ≡ false
 IsFront x xs (Some a) = IsFirstOf x xs a
 
--- a set with one key more, or less, where there is one
+-- a set with one key more, or less, if there is one
 abbrev pub Gains : Option ℕ → ℕ → (ℕ × ℕ → Bool) → (ℕ × ℕ → Bool) → Type 0
 Gains None i has later = (q : ℕ × ℕ) → later q ≡ has q
 Gains (Some n) i has later = (q : ℕ × ℕ)

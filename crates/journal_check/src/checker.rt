@@ -60,7 +60,7 @@ fn is_same(a: Option<(u128, u64)>, b: Option<(u128, u64)>) -> bool
     }
 }
 
-/// Puts a key in the place of another, where they are not the same.
+/// Puts a key in the place of another, if they are not the same.
 fn replace_key(
     keys: &mut BTreeSet<(u128, u64)>,
     before: Option<(u128, u64)>,
@@ -90,7 +90,7 @@ fn mark(handles: &mut BTreeSet<u64>, handle: Handle, there: bool) -> Result<(), 
     Ok(())
 }
 
-/// Puts a handle in or takes it out, where that changes something.
+/// Puts a handle in or takes it out, if that changes something.
 fn mark_changed(
     handles: &mut BTreeSet<u64>,
     handle: Handle,

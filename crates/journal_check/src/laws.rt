@@ -4,8 +4,8 @@
 ghost use Rattle.journal_check.specs.Laws.{IsLegalBefore, IsIllegalBehind, IsIllegalAsWhole};
 ghost use Rattle.journal_check.specs.Laws.{RefusesOnce};
 
-/// Where a journal is refused, each front up to there is legal and none beyond it is, so that the
-/// place is the least one and the only one.
+/// If a journal is refused at a place, each front up to it is legal and none beyond it is, so that
+/// the place is the least one and the only one.
 pub fn refused_at_the_least<N>()
     ensures before { IsLegalBefore N }
     ensures behind { IsIllegalBehind N }

@@ -202,7 +202,7 @@ impl Machine {
         self.handles.is_resumed(handle) && !self.opens.is_busy(handle)
     }
 
-    /// The class and number of the event of the handle that goes first, where one may be started.
+    /// The class and number of the event of the handle that goes first, if one may be started.
     pub fn front_key(&self, handle: Handle) -> Option<(u128, u64)>
         ensures { IsSound self.now → result ≡ K.front_key self.now handle.0 }
     {
@@ -364,7 +364,7 @@ impl Machine {
         self.armed.disarm_all(handle);
     }
 
-    /// Adds an event that asks for the same upcall once more, where the handle is alive.
+    /// Adds an event that asks for the same upcall once more, if the handle is alive.
     fn once_more(&mut self, o: OpenEvent) -> Result<(), NoMemory>
         ensures { AreEarlier self.old → OnOk result (self.new
             ≡ record self.old { waiting = self.old.waiting ++ S.waiting_again self.old (Some o) }) }

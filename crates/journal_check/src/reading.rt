@@ -50,7 +50,7 @@ impl From<NoMemory> for CheckRefused {
     }
 }
 
-/// Whether a timer may come due behind the entry.
+/// Whether a timer may come due after the entry.
 fn admits_due<N>(entry: &Entry<N>) -> bool
     ensures { (past : List (Entry N)) → result ≡ F.follows_due (entry.now ∷ past) }
 {
@@ -61,7 +61,7 @@ fn admits_due<N>(entry: &Entry<N>) -> bool
     }
 }
 
-/// Whether a report may come behind the entry.
+/// Whether a report may come after the entry.
 fn admits_ready<N>(entry: &Entry<N>) -> bool
     ensures { (past : List (Entry N)) → result ≡ F.follows_ready (entry.now ∷ past) }
 {
@@ -103,7 +103,7 @@ fn read<N>(alloc: Global, journal: &[Entry<N>], most: u64) -> Result<(), CheckRe
     read_by(&mut checker, journal, most)
 }
 
-/// Whether the journal is legal where at most `most` handles may be live at once: Ok exactly where
+/// Whether the journal is legal if at most `most` handles may be live at once: Ok exactly if
 /// it is, and else the number of the first entry that may not follow those before it.
 pub fn check<N>(alloc: Global, journal: &[Entry<N>], most: u64) -> Result<(), CheckRefused>
     ensures ok { OnOk result (F.Legal journal.now most) }

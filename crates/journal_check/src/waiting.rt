@@ -132,7 +132,7 @@ impl Waiting {
         self.put(w)
     }
 
-    /// The first of the five lanes of a handle. None where they do not all fit a word: no event of
+    /// The first of the five lanes of a handle. None if they do not all fit a word: no event of
     /// such a handle waits.
     fn first_lane(&self, handle: Handle) -> Option<u64>
         ensures lane { IfSome result (λ n. n ≡ handle.0 * 5 × n + 4 < 2 ^ 64) }

@@ -30,7 +30,7 @@ pub fn lane_of(event: &WaitingEvent) -> u64
     event.handle.0 * 5 + class_of(event.upcall) as u64
 }
 
-/// The first of the five lanes of a handle, where all five fit a word.
+/// The first of the five lanes of a handle, if all five fit a word.
 pub fn first_lane(handle: Handle) -> Option<u64>
     ensures lane { IfSome result (λ n. n ≡ handle.0 * 5 × n + 4 < 2 ^ 64) }
     ensures none { result ≡ None → 2 ^ 64 ≤ handle.0 * 5 + 4 }
@@ -62,7 +62,7 @@ pub fn is_number(number: Option<u64>, event: u64) -> bool
     }
 }
 
-/// Whether the entry may stand behind `Ended`.
+/// Whether the entry may stand after `Ended`.
 pub fn winds_up<N>(entry: &Entry<N>) -> bool
     ensures { result ≡ F.winds_up entry.now }
 {

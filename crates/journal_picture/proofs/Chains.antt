@@ -1,4 +1,4 @@
--- Texts that are put one behind another.
+-- Texts that are put one after another.
 use Rattle.std.proofs.Common.{ℕ, List, ◌++◌, append_assoc, subst}
 use Rattle.sink_buffer.specs.Texts.{Puts}
 

@@ -32,7 +32,7 @@ pub record MarksEach (handles : ℕ) (journal : List (Entry ServerNote)) : Type 
 abbrev pub MarksEachOnce : Type 0
 MarksEachOnce = (handles : ℕ) (journal : List (Entry ServerNote)) → MarksEach handles journal
 
--- Behind a legal journal, an entry that names a handle, itself or by its timer or its event, has
+-- After a legal journal, an entry that names a handle, itself or by its timer or its event, has
 -- its mark in the lane of that handle.
 abbrev pub StandsInItsLane : Type 0
 StandsInItsLane =
@@ -40,7 +40,7 @@ StandsInItsLane =
     → Legal before most → IsTrue (names (past_of before) e x)
     → (place_in handles (tables handles (past_of before)) e).lane ≡ lane_for handles x
 
--- Behind a legal journal, the bar of an upcall that was settled begins at the `Started` of its
+-- After a legal journal, the bar of an upcall that was settled begins at the `Started` of its
 -- event.
 abbrev pub BeginsAtItsStart : Type 0
 BeginsAtItsStart =
@@ -50,7 +50,7 @@ BeginsAtItsStart =
     → slice_get before (place_in handles (tables handles (past_of before))
     (Returned event answer note)).from ≡ Some (Started event)
 
--- In the picture of a legal journal each handle that it opened has a lane of its own, behind that
+-- In the picture of a legal journal each handle that it opened has a lane of its own, after that
 -- of the reactor and in order.
 abbrev pub HasItsLane : Type 0
 HasItsLane =

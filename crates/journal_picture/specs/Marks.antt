@@ -30,7 +30,7 @@ abbrev pub birth : ℕ → ℕ → ℕ → Handle → List ℕ
 birth x end y handle = ground_text (codes "life") x end y
     ++ name_text x y (codes "handle ") handle.0
 
--- the ground of the lane from the entry on, where the entry changes it
+-- the ground of the lane from the entry on, if the entry changes it
 abbrev pub life : ℕ → ℕ → ℕ → Entry ServerNote → List ℕ
 life x end y (Opened handle mask) = birth x end y handle
 life x end y (Suspended handle) = ground_text (codes "held") x end y

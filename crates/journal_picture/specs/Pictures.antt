@@ -24,7 +24,7 @@ abbrev pub drawn_count : List (Entry ServerNote) → Option ℕ → ℕ
 drawn_count journal None = length journal
 drawn_count journal (Some at) = at + 1
 
--- the mark of the bad entry, where there is one
+-- the mark of the bad entry, if there is one
 abbrev pub bad_entry_mark : Layout → ℕ → Option (Entry ServerNote) → List ℕ
 bad_entry_mark layout at None = []
 bad_entry_mark layout at (Some e) = bad_mark (across layout at) (bottom layout) at e

@@ -12,7 +12,7 @@ use Rattle.log_handler.specs.declared.note.ServerNote.{ServerNote}
 use Rattle.journal_picture.specs.declared.seen.Place.{Place}
 
 -- What was seen of the entries so far: the lane of each; the number of the last `Started` of each,
--- or its own where there is none; and the lane of each timer, in order of `Scheduled`.
+-- or its own if there is none; and the lane of each timer, in order of `Scheduled`.
 pub record Tables : Type 0 where
   pub lanes : List ℕ
   pub starts : List ℕ
@@ -21,7 +21,7 @@ pub record Tables : Type 0 where
 abbrev pub nothing : Tables
 nothing = record { lanes = []; starts = []; timers = [] }
 
--- the number that stands there, or another where there is none
+-- the number that stands there, or another if there is none
 abbrev pub number_at : List ℕ → ℕ → ℕ → ℕ
 number_at numbers at other = if nat_lt at (length numbers) then slice_index numbers at else other
 

@@ -65,7 +65,7 @@ fn put_wait<T: TextOut>(out: &mut T, x: u64, bottom: u64, now: u64)
     put_moment(out, x, now);
 }
 
-/// Puts the ground of the lane from this entry on, where the entry changes it.
+/// Puts the ground of the lane from this entry on, if the entry changes it.
 fn put_life<T: TextOut>(out: &mut T, x: u64, right: u64, y: u64, entry: &Entry<ServerNote>)
     ensures { Puts T.stands out.old (M.life x right y entry.now) out.new }
 {

@@ -30,7 +30,7 @@ pub enum Drawn {
     NoMemory,
 }
 
-/// Writes the picture of a journal: of all its entries, or, where `bad` is the number of one that
+/// Writes the picture of a journal: of all its entries, or, if `bad` is the number of one that
 /// may not follow those before it, of those before it, and of that one as a bad one. Memory is
 /// taken before anything is written.
 pub fn draw<K: Sink>(
@@ -98,7 +98,7 @@ fn is_opened(entry: &Entry<ServerNote>) -> bool
     matches!(entry, Entry::Opened { .. })
 }
 
-/// Puts the picture, where nothing was seen yet.
+/// Puts the picture, if nothing was seen yet.
 fn put_picture<T: TextOut>(out: &mut T, journal: &[Entry<ServerNote>], bad: Option<u64>, seen: Seen)
     requires bad { ForSome bad (λ at. at < length journal.now) }
     requires seen { tables_of seen ≡ nothing }
@@ -113,7 +113,7 @@ fn put_picture<T: TextOut>(out: &mut T, journal: &[Entry<ServerNote>], bad: Opti
     out.put(b"</svg>\n");
 }
 
-/// Puts the marks of entries, one behind another.
+/// Puts the marks of entries, one after another.
 fn put_marks<T: TextOut>(out: &mut T, layout: Layout, entries: &[Entry<ServerNote>], seen: Seen)
     requires seen { tables_of seen ≡ nothing }
     requires room { length entries.now ≤ room_of seen }
@@ -127,7 +127,7 @@ fn put_marks<T: TextOut>(out: &mut T, layout: Layout, entries: &[Entry<ServerNot
     }
 }
 
-/// Puts the mark of the bad entry, where there is one.
+/// Puts the mark of the bad entry, if there is one.
 fn put_bad<T: TextOut>(out: &mut T, layout: Layout, journal: &[Entry<ServerNote>], bad: Option<u64>)
     requires { ForSome bad (λ at. at < length journal.now) }
     ensures { Puts T.stands out.old (P.bad_part layout journal.now bad) out.new }

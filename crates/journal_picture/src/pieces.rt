@@ -6,7 +6,7 @@ ghost use Rattle.journal_picture.specs.Pieces as P;
 use log_lines::put_unsigned;
 use sink_buffer::TextOut;
 
-/// Puts a word and a number behind it.
+/// Puts a word and a number after it.
 pub(crate) fn put_counted<T: TextOut>(out: &mut T, word: &[u8], number: u64)
     ensures { Puts T.stands out.old (word.now ++ decimal number) out.new }
 {

@@ -16,7 +16,7 @@ pub(crate) struct Place {
     pub number: u64,
     /// Its lane: 0 is the reactor's own, and `h + 1` that of handle `h`.
     pub lane: u64,
-    /// The number of the entry at which a bar to this one begins; its own where there is none.
+    /// The number of the entry at which a bar to this one begins; its own if there is none.
     pub from: u64,
 }
 
@@ -26,14 +26,14 @@ pub(crate) struct Seen {
     handles: u64,
     // the lane of each entry
     lanes: Vec<u64>,
-    // for each entry the number of the last `Started` of it; its own where there is none
+    // for each entry the number of the last `Started` of it; its own if there is none
     starts: Vec<u64>,
     // the lane of each timer, in order of `Scheduled`
     timers: Vec<u64>,
 }
 
 impl Seen {
-    /// Nothing was seen yet, where so many handles have a lane; with room for so many entries.
+    /// Nothing was seen yet, and so many handles have a lane; with room for so many entries.
     pub(crate) fn with_room(alloc: Global, handles: u64, entries: usize) -> Result<Seen, NoMemory>
         ensures seen { IfOk result (λ seen. tables_of seen ≡ nothing) }
         ensures handles { IfOk result (λ seen. seen.handles ≡ handles) }
@@ -133,14 +133,14 @@ impl Seen {
     }
 }
 
-/// The lane of a handle, where so many handles have one.
+/// The lane of a handle, if so many handles have one.
 fn lane_for(handles: u64, handle: Handle) -> u64
     ensures { result ≡ lane_for handles handle.0 }
 {
     if handle.0 < handles { handle.0 + 1 } else { 0 }
 }
 
-/// The number that stands there, or another where there is none.
+/// The number that stands there, or another if there is none.
 fn number_at(numbers: &[u64], at: u64, other: u64) -> u64
     ensures { result ≡ number_at numbers.now at other }
 {

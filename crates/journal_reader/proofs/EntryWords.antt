@@ -33,7 +33,7 @@ use Rattle.journal_reader.proofs.NoteWords.{note_all, note_only}
 abbrev Words : Type 0
 Words = List (List ℕ)
 
--- its first word, and those behind it
+-- its first word, and those after it
 abbrev entry_name : Entry ServerNote → List ℕ
 entry_name (entry.Opened handle mask) = codes "opened"
 entry_name (entry.Scheduled timer handle first every) = codes "scheduled"
@@ -248,7 +248,7 @@ entry_all e w =
 abbrev EntryIs : Words → Entry ServerNote → Type 0
 EntryIs words e = (words ≡ entry_words e) × EntryIsWithin e
 
--- an entry, and the words behind its own
+-- an entry, and the words after its own
 abbrev FrontIs : List ℕ → Words → Entry ServerNote × Words → Type 0
 FrontIs name words r = (name ∷ words ≡ entry_words r.0 ++ r.1) × EntryIsWithin r.0
 

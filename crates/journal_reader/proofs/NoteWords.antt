@@ -17,7 +17,7 @@ use Rattle.journal_reader.proofs.Spelled.{took, went, chosen, value_is, any_word
 use Rattle.journal_reader.proofs.RecordWords.{ended, records_all, records_only, records_joined}
 use Rattle.journal_reader.proofs.RecordWords.{records_plain, end_plain, the_ends}
 
--- its first word, and those behind it
+-- its first word, and those after it
 abbrev pub note_name : ServerNote → List ℕ
 note_name (note.Accepted conn) = codes "accepted"
 note_name note.NoneWaiting = codes "none"

@@ -20,7 +20,7 @@ not_less : (bytes : List ℕ) (n : ℕ) → n ≤ digits_value_after 10 n bytes
 not_less [] n = omega arith
 not_less (byte ∷ bytes) n = omega (arith, not_less bytes (n * 10 + digit_value byte))
 
--- what is left behind some digits: the number that they make goes on with it
+-- what is left after some digits: the number that they make goes on with it
 pub record GoesOn (word : List ℕ) (at number : ℕ) : Type 0 where
   pub value : digits_value 10 word ≡ digits_value_after 10 number (drop at word)
   pub back : AllDigits 10 (drop at word) → AllDigits 10 word
@@ -91,7 +91,7 @@ pub number_only : (word : List ℕ) (n : ℕ) → number_of word ≡ Some n → 
 unfolding number_of
 number_only word n is = spelt word n (digits_value 10 word) _ _ refl refl is
 
--- a word is no number where it is spelt by none
+-- a word is no number if it is spelt by none
 none_or_some : (word : List ℕ) (o : Option ℕ) → number_of word ≡ o
     → ((n : ℕ) → n < 2 ^ 64 → word ≡ decimal n → ⊥) → None ≡ o
 none_or_some word None is never = refl
@@ -102,7 +102,7 @@ pub no_number : (word : List ℕ) → ((n : ℕ) → n < 2 ^ 64 → word ≡ dec
     → None ≡ number_of word
 no_number word never = none_or_some word (number_of word) refl never
 
--- no digits, and digits behind a leading zero
+-- no digits, and digits after a leading zero
 pub no_digits : (word : List ℕ) → length word ≡ 0 → None ≡ number_of word
 no_digits word none = no_number word
     (λ n small is. omega (arith, none, ap length is, decimal_nonempty n small))

@@ -91,7 +91,7 @@ no_bad_line text m n a s (inr b) =
     (begun text b.front b.rest b.most b.entries b.is b.good) ∙ s.spelt) in
     no_bad_among b.entries a b.rest b.good.within s.within both.1 b.more b.bad
 
--- two bad lines stand behind as many good ones
+-- two bad lines stand after as many good ones
 same_place : (a b : Entries) (r t : List ℕ) → Within a → Within b
     → entry_lines a ++ r ≡ entry_lines b ++ t → BeginsWithNoEntry r → BeginsWithNoEntry t
     → length a ≡ length b

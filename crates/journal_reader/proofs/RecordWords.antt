@@ -31,7 +31,7 @@ use Rattle.journal_reader.proofs.Spelled.{Spelled, took, went, chosen, value_is,
 use Rattle.journal_reader.proofs.Spelled.{signed_numbers, narrow_numbers, widened}
 use Rattle.journal_reader.proofs.Messages.{messages, free_message, plain_message}
 
--- no word is left behind a value
+-- no word is left after a value
 pub ended : {V : Type 0} (words : List (List ℕ)) (o : Option V) (v : V) → at_end words o ≡ Some v
     → (words ≡ []) × (o ≡ Some v)
 ended [] o v h = (refl, h)

@@ -59,7 +59,7 @@ pub record Spelled {V : Type 0} (value : List ℕ → Option V) (spell : V → L
   pub all : (v : V) → fits v → value (spell v) ≡ Some v
   pub only : (word : List ℕ) (v : V) → value word ≡ Some v → (spell v ≡ word) × fits v
 
--- a value was read, and the steps behind it went on
+-- a value was read, and the steps after it went on
 pub record Took {V R : Type 0} (spell : V → List ℕ) (fits : V → Type 0) (words : List (List ℕ))
     (step : V × List (List ℕ) → Option R) (r : R) : Type 0 where
   pub value : V

@@ -7,7 +7,7 @@ use Rattle.journal_text.specs.Texts.{most_line, entry_line}
 use Rattle.journal_reader.specs.Limits.{IsMost, EntryIsWithin}
 use Rattle.journal_reader.specs.Journals.{first_line, BeginsWithNoMost, BeginsWithNoEntry}
 
--- a first line without its line feed, with the text behind it; or there is no line feed
+-- a first line without its line feed, with the text after it; or there is no line feed
 abbrev pub IsFirstLine : List ℕ → Option (Bor (List ℕ) × Bor (List ℕ)) → Type 0
 IsFirstLine text None = (line : List ℕ) → first_line text ≡ line ++ codes "\n" → ⊥
 IsFirstLine text (Some r) = (first_line text ≡ r.0.now ++ codes "\n")

@@ -30,7 +30,7 @@ abbrev pub BeginsWithNoEntry : List ℕ → Type 0
 BeginsWithNoEntry text = (e : Entry ServerNote) → EntryIsWithin e → first_line text ≡ entry_line e
     → ⊥
 
--- A journal's text stands first, so each of its lines is good; more stands behind it, and the first
+-- A journal's text stands first, so each of its lines is good; more stands after it, and the first
 -- line there, which has this number, is none of an entry.
 pub record BreaksOffAt (text : List ℕ) (number : ℕ) : Type 0 where
   pub front : List ℕ
@@ -47,7 +47,7 @@ pub record BreaksOffAt (text : List ℕ) (number : ℕ) : Type 0 where
 abbrev pub IsBadAt : List ℕ → ℕ → Type 0
 IsBadAt text number = (BeginsWithNoMost text × (number ≡ 1)) ⊎ BreaksOffAt text number
 
--- a line is named only where it is the first bad one
+-- a line is named only if it is the first bad one
 abbrev pub RefusesRightly : List ℕ → JournalRefused → Type 0
 RefusesRightly text (BadLine line) = IsBadAt text line
 RefusesRightly text NoMemory = Unit {0}

@@ -34,12 +34,12 @@ infixl 10 ◌>>=◌
 abbrev pub ◌>>=◌ : {A B : Type 0} → Option A → (A → Option B) → Option B
 o >>= f = option_and_then f o
 
--- what the first part says, and the parts behind it
+-- what the first part says, and the parts after it
 abbrev pub next : {V : Type 0} → (List ℕ → Option V) → List (List ℕ) → Option (V × List (List ℕ))
 next value [] = None
 next value (part ∷ rest) = option_map (λ v. (v, rest)) (value part)
 
--- whether no part is left, and a value where none is
+-- whether no part is left, and a value if none is
 abbrev pub no_more : List (List ℕ) → Bool
 no_more [] = true
 no_more (part ∷ rest) = false
@@ -113,7 +113,7 @@ fault_of word =
     else if bytes_eq word (codes "no") then Some false
     else None
 
--- how a connection ended, with a count behind a colon
+-- how a connection ended, with a count after a colon
 abbrev pub end_with : List ℕ → ℕ → Option EndKind
 end_with name count =
     if bytes_eq name (codes "partial") then Some (Partial count)
@@ -293,7 +293,7 @@ numbered_of name words = do
   e ← entry_with name number.0
   Some (e, number.1)
 
--- an entry without a note, and the words behind its own
+-- an entry without a note, and the words after its own
 unfoldable pub plain_of : List ℕ → List (List ℕ) → Option (Entry ServerNote × List (List ℕ))
 plain_of name words =
     if bytes_eq name (codes "ready") then ready_of words
@@ -325,7 +325,7 @@ closed_of words = do
   said ← note_of handle.1
   Some (entry.Closed (record { 0 = handle.0 }) said)
 
--- an entry without a note, where no word is left behind it
+-- an entry without a note, if no word is left after it
 unfoldable pub whole_of : List ℕ → List (List ℕ) → Option (Entry ServerNote)
 whole_of name words = plain_of name words >>= λ e. at_end e.1 (Some e.0)
 

@@ -12,7 +12,7 @@ use reactor_model::Entry;
 use std::alloc::Global;
 use text_parts::is_word;
 
-/// The first line of a text, without its line feed, and the text behind it; None where the text has
+/// The first line of a text, without its line feed, and the text after it; None if the text has
 /// no line feed.
 fn next_line(text: &[u8]) -> Option<(&[u8], &[u8])>
     ensures { IsFirstLine text.now result }
@@ -23,7 +23,7 @@ fn next_line(text: &[u8]) -> Option<(&[u8], &[u8])>
     }
 }
 
-/// How many handlers may be live at once, where a line `most N` says it.
+/// How many handlers may be live at once, if a line `most N` says it.
 #[tactic(auto, unfolding(crate::specs::Reading::most_of))]
 fn most_of_line(line: &[u8]) -> Option<u64>
     ensures { result ≡ most_of line.now }
@@ -48,7 +48,7 @@ fn limited(most: u64) -> Option<u64>
     }
 }
 
-/// The number of the first line `most N`, and the text behind that line; None where the first line
+/// The number of the first line `most N`, and the text after that line; None if the first line
 /// is none.
 pub(crate) fn read_most(text: &[u8]) -> Option<(u64, &[u8])>
     ensures { ReadsMost text.now result }
@@ -58,7 +58,7 @@ pub(crate) fn read_most(text: &[u8]) -> Option<(u64, &[u8])>
     Some((most, rest))
 }
 
-/// The entry of the first line, and the text behind that line; None where the first line is that of
+/// The entry of the first line, and the text after that line; None if the first line is that of
 /// no entry.
 pub(crate) fn read_first(
     alloc: Global,

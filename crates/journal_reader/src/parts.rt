@@ -1,4 +1,4 @@
-//! The parts of a text between separators, one behind another.
+//! The parts of a text between separators, one after another.
 ghost use Rattle.std.specs.Prelude.{◌≡◌, ◌∷◌, [], MatchOption};
 ghost use Rattle.text_parts.specs.Parts.{parts};
 ghost use Rattle.journal_reader.specs.Reading.{no_more, number_of, signed_of, narrow_of, mask_of};
@@ -30,7 +30,7 @@ impl<'a> Parts<'a> {
         }
     }
 
-    /// The next part, or None where none is left.
+    /// The next part, or None if none is left.
     pub(crate) fn take(&mut self) -> Option<&'a [u8]>
         ensures { MatchOption result (left self.old ≡ [])
             (λ part. left self.old ≡ part.now ∷ left self.new) }

@@ -192,7 +192,7 @@ fn read_closed(alloc: Global, parts: &mut Parts) -> Result<Option<Entry<ServerNo
     }))
 }
 
-/// An entry without a note, where no part is left behind it.
+/// An entry without a note, if no part is left after it.
 #[tactic(auto, unfolding(crate::specs::Reading::whole_of))]
 fn read_whole(name: &[u8], parts: &mut Parts) -> Option<Entry<ServerNote>>
     ensures { result ≡ whole_of name.now (left parts.old) }
@@ -221,7 +221,7 @@ fn read_named(
     }
 }
 
-/// The entry that a line spells, without its line feed; None where it spells none.
+/// The entry that a line spells, without its line feed; None if it spells none.
 #[tactic(auto, unfolding(crate::specs::Reading::entry_of))]
 pub(crate) fn read_entry(alloc: Global, line: &[u8]) -> Result<Option<Entry<ServerNote>>, NoMemory>
     ensures { IfOk result (λ read. read ≡ entry_of line.now) }

@@ -12,7 +12,7 @@ use log_handler::{LoggedRecords, ServerNote};
 use std::alloc::Global;
 use text_parts::is_word;
 
-/// A note, where no part is left.
+/// A note, if no part is left.
 fn at_end(parts: &Parts, note: ServerNote) -> Option<ServerNote>
     ensures { result ≡ at_end (left parts.now) (Some note) }
 {

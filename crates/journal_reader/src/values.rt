@@ -42,7 +42,7 @@ pub(crate) fn read_number(word: &[u8]) -> Option<u64>
     read_digits(word)
 }
 
-/// A number of 64 bits, with a minus sign where it is below 0.
+/// A number of 64 bits, with a minus sign if it is below 0.
 #[tactic(auto, unfolding(crate::specs::Reading::signed_of))]
 pub(crate) fn read_signed(word: &[u8]) -> Option<i64>
     ensures { result ≡ signed_of word.now }
@@ -79,7 +79,7 @@ fn below_zero(number: u64) -> Option<i64>
     }
 }
 
-/// A number of 32 bits, with a minus sign where it is below 0.
+/// A number of 32 bits, with a minus sign if it is below 0.
 #[tactic(auto, unfolding(crate::specs::Reading::narrow_of))]
 pub(crate) fn read_narrow(word: &[u8]) -> Option<i32>
     ensures { result ≡ narrow_of word.now }
@@ -97,7 +97,7 @@ fn narrowed(number: i64) -> Option<i32>
     Some(number as i32)
 }
 
-/// Whether this letter stands here, or a hyphen; None where neither does.
+/// Whether this letter stands here, or a hyphen; None if neither does.
 fn read_letter(letter: u8, byte: u8) -> Option<bool>
     ensures { result ≡ letter_of letter byte }
 {
@@ -193,7 +193,7 @@ pub(crate) fn read_end(word: &[u8]) -> Option<EndKind>
     }
 }
 
-/// An end that has a count behind a colon.
+/// An end that has a count after a colon.
 #[tactic(auto, unfolding(crate::specs::Reading::counted_end_of))]
 fn read_counted_end(word: &[u8]) -> Option<EndKind>
     ensures { result ≡ counted_end_of word.now }

@@ -1,4 +1,4 @@
--- In distinct rows, a code has a name exactly where the name has that code.
+-- In distinct rows, a code has a name exactly if the name has that code.
 use Rattle.std.proofs.Common.{◌≡◌, ◌∙◌, ℕ, Bool, true, false, not, ◌&&◌, ◌||◌, cond, ◌==◌, List, []}
 use Rattle.std.proofs.Common.{◌∷◌, Some, refl, ap, arith}
 use Rattle.std.specs.Prelude.{option_map, unwrap_or}

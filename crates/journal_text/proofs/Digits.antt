@@ -1,4 +1,4 @@
--- Hexadecimal digits of bytes that stand one behind another.
+-- Hexadecimal digits of bytes that stand one after another.
 use Rattle.std.proofs.Common.{◌≡◌, ◌≤◌, ◌+◌, ◌-◌, ◌++◌, List, [], ◌∷◌, ℕ, refl, ap, ◌∙◌, arith, ◌/◌}
 use Rattle.std.proofs.Common.{◌%◌, slice_index, take, drop}
 use Rattle.std.proofs.Math.Seq.{take-add}
@@ -21,7 +21,7 @@ pub encode-none : encode_lower [] ≡ []
 unfolding encode_with
 encode-none = refl
 
--- the digits of the bytes up to a place, and of those behind it up to another
+-- the digits of the bytes up to a place, and of those after it up to another
 pub encode-further : (xs : List ℕ) (at end : ℕ) → at ≤ end
     → encode_lower (take end xs) ≡ encode_lower (take at xs)
     ++ encode_lower (take (end - at) (drop at xs))

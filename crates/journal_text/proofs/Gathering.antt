@@ -65,7 +65,7 @@ wrote_held facts start old new put false sound writes none is g = record {
       (g.whole sound) writes;
 }
 
--- bytes were written where nothing was held back
+-- bytes were written when nothing was held back
 pub wrote_more : {K : Type 0} (facts : K → SinkFacts) (start : SinkFacts) (old new : LentBuffer K)
     (put more : List ℕ) (done : Bool) → old.broken ≡ false
     → WritesAll (facts old.sink.now) more done (facts new.sink.now)

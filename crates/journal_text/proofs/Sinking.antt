@@ -46,7 +46,7 @@ taken facts start buffer put gathers held sound =
     (sym (append-nil whole.written) ∙ ap (λ (back : List ℕ). whole.written ++ back) (sym held)
     ∙ whole.all) whole.takes
 
--- nothing was put since its sink told what it tells, where no write failed and nothing is held back
+-- nothing was put since its sink told what it tells, if no write failed and nothing is held back
 gathers-here : {K : Type 0} (facts : K → SinkFacts) (buffer : SinkBuffer K) → held_of buffer ≡ []
     → buffer.broken ≡ false → Gathers facts (facts (output_of buffer)) buffer []
 gathers-here facts buffer held sound = record {
@@ -156,7 +156,7 @@ module _ {K : Type 0} (facts : K → SinkFacts) (t : Terms) (old : JournalSink K
 
 -- ---- the count of faults
 
--- what is held back was put since its sink told what it tells, where no write failed
+-- what is held back was put since its sink told what it tells, if no write failed
 gathers-now : {K : Type 0} (facts : K → SinkFacts) (buffer : SinkBuffer K) → buffer.broken ≡ false
     → Gathers facts (facts (output_of buffer)) buffer (held_of buffer)
 gathers-now facts buffer sound = record {

@@ -10,7 +10,7 @@ use Rattle.log_handler.specs.declared.note.ServerNote.{ServerNote}
 use Rattle.journal_text.specs.declared.journal_sink.JournalSink.{JournalSink}
 use Rattle.journal_text.specs.JournalSink.{PutsJournal, journal_sink_faults, is_broken, sink_of}
 
--- Where a write failed, the count is above that of the terms, if they have it.
+-- If a write failed, the count is above that of the terms, if they have it.
 pub breaks_above : {K : Type 0} (facts : K → SinkFacts) (t : Terms) (sink : JournalSink K)
     (h : List (Entry ServerNote)) (before : ℕ) → PutsJournal facts t sink h →
     is_broken sink ≡ true → t.output_faults ≡ Some before

@@ -32,14 +32,14 @@ abbrev pub has_begun : List (Entry ServerNote) → Bool
 has_begun [] = false
 has_begun (e ∷ rest) = true
 
--- what the line of one more entry is, behind the first line where that was not put
+-- what the line of one more entry is, after the first line if that was not put
 abbrev pub next_text : ℕ → Bool → Entry ServerNote → List ℕ
 next_text most begun e = if begun then entry_line e else most_line most ++ entry_line e
 
 -- It has seen these entries: since its sink told what it tells at the start, the sink took the text
 -- of the journal so far; or, once a write failed, a front of it, in which is the text of the
 -- entries that it saw before that. The number of its first line, the text and the count of faults
--- at the start are those of the terms, where these have them.
+-- at the start are those of the terms, if these have them.
 pub record PutsJournal {K : Type 0} (facts : K → SinkFacts) (t : Terms) (sink : JournalSink K)
     (h : List (Entry ServerNote)) : Type 0 where
   pub start : SinkFacts

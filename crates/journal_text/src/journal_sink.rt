@@ -14,7 +14,7 @@ use sink_buffer::{SinkBuffer, TextOut};
 
 /// A watch that writes the text of a journal as its entries are appended: the line `most N`
 /// together with the first entry, and from then on a line for each entry. What is due for an entry
-/// is written in one call where it has at most 8,192 bytes and the sink takes all of it, and else
+/// is written in one call if it has at most 8,192 bytes and the sink takes all of it, and else
 /// in several. It holds nothing back between entries, takes no memory, and writes nothing more once
 /// a write failed.
 #[derive(Drop)]
@@ -55,7 +55,7 @@ impl<K: Sink> JournalSink<K> {
     }
 }
 
-/// Puts the line of one more entry, behind the line `most N` where that was not put.
+/// Puts the line of one more entry, after the line `most N` if that was not put.
 fn put_next<T: TextOut>(out: &mut T, most: u64, begun: bool, entry: &Entry<ServerNote>)
     ensures { Puts T.stands out.old (next_text most begun entry.now) out.new }
 {

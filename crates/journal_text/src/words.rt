@@ -20,7 +20,7 @@ pub(crate) fn put_number<T: TextOut>(out: &mut T, number: u64)
     put_unsigned(out, number);
 }
 
-/// Puts a letter where something is wanted, and else a hyphen.
+/// Puts a letter if something is wanted, and else a hyphen.
 fn put_letter<T: TextOut>(out: &mut T, wanted: bool, letter: &[u8])
     ensures { Puts T.stands out.old (if wanted then letter.now else codes "-") out.new }
 {
@@ -85,7 +85,7 @@ pub(crate) fn put_end<T: TextOut>(out: &mut T, end: EndKind)
     }
 }
 
-/// Puts a word and a number behind it.
+/// Puts a word and a number after it.
 pub(crate) fn put_counted<T: TextOut>(out: &mut T, word: &[u8], number: u64)
     ensures { Puts T.stands out.old (word.now ++ decimal number) out.new }
 {

@@ -13,7 +13,7 @@ use sink_buffer::TextOut;
 use std::error::Error;
 use std::fmt;
 
-/// A write failed. Then nothing was written behind it.
+/// A write failed. Then nothing was written after it.
 #[derive(Clone, Copy, PartialEq, Eq, Debug)]
 pub struct WriteFailed;
 
@@ -41,7 +41,7 @@ impl PutText for WholeJournal<'_> {
     }
 }
 
-/// Puts the lines of entries, one behind another.
+/// Puts the lines of entries, one after another.
 fn put_lines<T: TextOut>(out: &mut T, entries: &[Entry<ServerNote>])
     ensures { Puts T.stands out.old (entry_lines entries.now) out.new }
 {
@@ -54,7 +54,7 @@ fn put_lines<T: TextOut>(out: &mut T, entries: &[Entry<ServerNote>])
 /// numbers and messages are. What is beyond a limit of the text is written by the same rules, and
 /// `read_journal` refuses its line. It takes no memory.
 ///
-/// `WriteFailed` comes only where a write of the sink failed; then the sink has taken a front of
+/// `WriteFailed` comes only if a write of the sink failed; then the sink has taken a front of
 /// the text.
 pub fn write_journal<K: Sink>(
     most: u64,

@@ -55,7 +55,7 @@ ViewsText text o p end.NoMemory = p ≡ o
 ViewsText text o p _ = ⊥
 
 -- What each ending says. A journal that is legal was drawn whole, and another up to its first bad
--- entry; but for pictures, or a front of one where a write failed, the output is as it was.
+-- entry; but for pictures, or a front of one if a write failed, the output is as it was.
 abbrev pub Views : ℕ → SourceFacts → SinkFacts → SourceFacts → SinkFacts → ViewEnd → Type 0
 Views limit i o j p end.Drawn = (text : List ℕ) × IsReadWhole limit i j text
     × DrawsText text o p None

@@ -4,7 +4,7 @@ ghost use Rattle.journal_viewer.specs.Endings.{status_of};
 
 use std::fmt;
 
-/// How viewing a journal ended. Its `Display` is the line that tells it, with a line feed; where
+/// How viewing a journal ended. Its `Display` is the line that tells it, with a line feed; if
 /// the whole journal was drawn there is none.
 #[derive(Clone, Copy, PartialEq, Eq, Debug)]
 pub enum ViewEnd {

@@ -46,7 +46,7 @@ pub fn view<S: Source, K: Sink>(alloc: Global, input: S, output: K, limit: u64) 
     }
 }
 
-/// What is left where nothing was written.
+/// What is left if nothing was written.
 fn refused<S, K>(end: ViewEnd, input: S, output: K) -> Viewed<S, K>
     ensures { result ≡ record { end = end; input = input; output = output } }
 {
@@ -72,7 +72,7 @@ fn view_text<K: Sink>(alloc: Global, text: Vec<u8>, output: K) -> (ViewEnd, K)
     (end_of(bad, drawn), output)
 }
 
-/// The first entry that may not follow those before it, or None where the journal is legal.
+/// The first entry that may not follow those before it, or None if the journal is legal.
 fn verdict(alloc: Global, entries: &[Entry<ServerNote>], most: u64) -> Result<Option<u64>, NoMemory>
     ensures { IfOk result (IsVerdict entries.now most) }
 {
@@ -83,7 +83,7 @@ fn verdict(alloc: Global, entries: &[Entry<ServerNote>], most: u64) -> Result<Op
     }
 }
 
-/// How it ends where the journal was found to be this, and its picture was drawn so.
+/// How it ends if the journal was found to be this, and its picture was drawn so.
 fn end_of(bad: Option<u64>, drawn: Drawn) -> ViewEnd
     ensures { result ≡ ended_by bad drawn }
 {

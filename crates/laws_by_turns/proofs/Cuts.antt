@@ -1,7 +1,7 @@
--- Two lists, one behind the other, cut at an element.
+-- Two lists, one after the other, cut at an element.
 use Rattle.std.proofs.Common.{◌≡◌, ◌⊎◌, inl, inr, List, [], ◌∷◌, ◌++◌, refl, sym, ap}
 
--- Where two lists, one behind the other, are cut at an element, it stands in the first or in the
+-- If two lists, one after the other, are cut at an element, it stands in the first or in the
 -- second.
 pub record InFirst {A : Type 0} (xs ys before : List A) (e : A) (behind : List A) : Type 0 where
   pub rest : List A

@@ -1,5 +1,5 @@
 -- Entries that waits, notifications and starts bring go by turns wherever they stand; and what
--- stands behind an entry that goes by turns may grow.
+-- stands after an entry that goes by turns may grow.
 use Rattle.std.proofs.Common.{ℕ, ◌≡◌, true, List, [], ◌∷◌, ◌++◌, Option}
 use Rattle.std.proofs.lemmas.Bool.{false≢true}
 use Rattle.std.specs.List.{list_all}

@@ -52,7 +52,7 @@ pub record MayHere {H E N : Type 0} (means : Handling H E N) (t : Terms) (past :
   pub closes_own : ClosesOwn event.handle past
   pub may : means.may t event.upcall deed
 
--- the timer of a registration: that of the `Scheduled` directly behind it, at the moment and its
+-- the timer of a registration: that of the `Scheduled` directly after it, at the moment and its
 -- delay, or none
 abbrev pub TimerBehind : {N : Type 0} → ℕ → List (Entry N) → Option (ℕ × ℕ) → Type 0
 TimerBehind moment (Scheduled timer handle first every ∷ behind) asked =
@@ -64,7 +64,7 @@ abbrev pub IsRegisteredHere : {N : Type 0} → ℕ → Handle → List (Entry N)
 IsRegisteredHere b handle (Opened opened mask ∷ past) = (opened ≡ handle) × (b ≤ length past)
 IsRegisteredHere b handle _ = ⊥
 
--- directly behind, or behind the `Closed` directly behind, an offered handler was registered or
+-- directly after, or after the `Closed` directly after, an offered handler was registered or
 -- refused
 abbrev pub IsOfferBehind : {N : Type 0} → List (Entry N) → Type 0
 IsOfferBehind (Opened handle mask ∷ behind) = Unit {0}
@@ -75,10 +75,10 @@ abbrev pub OffersBehind : {N : Type 0} → List (Entry N) → Type 0
 OffersBehind (Closed handle note ∷ behind) = IsOfferBehind behind
 OffersBehind behind = IsOfferBehind behind
 
--- the entry, between those before it and those behind it, goes by turns: no handle is suspended or
+-- the entry, between those before it and those after it, goes by turns: no handle is suspended or
 -- resumed; one is removed only once the reactor was stopped; a timer is set only with the
--- registration of its handle; and what a turn may ask for stands only where one was settled that
--- may ask for it
+-- registration of its handle; and what a turn may ask for stands only after one was settled
+-- that may ask for it
 abbrev pub GoesByTurn : {H E N : Type 0} → Handling H E N → Terms → ℕ → List (Entry N) → Entry N
     → List (Entry N) → Type 0
 GoesByTurn means t b past (Suspended handle) behind = ⊥
@@ -126,7 +126,7 @@ abbrev pub BeginsWithNoTimer : {N : Type 0} → List (Entry N) → Type 0
 BeginsWithNoTimer (Scheduled timer handle first every ∷ es) = ⊥
 BeginsWithNoTimer _ = Unit {0}
 
--- each entry of the list goes by turns, behind the past and the entries before it
+-- each entry of the list goes by turns, after the past and the entries before it
 abbrev pub EachGoesByTurn : {H E N : Type 0} → Handling H E N → Terms → ℕ → List (Entry N)
     → List (Entry N) → Type 0
 EachGoesByTurn means t b past [] = Unit {0}

@@ -15,7 +15,7 @@ pub fn goes_on_dispatching<H: EventHandler>()
     ensures { GoesOnDispatching H.means }
 {}
 
-/// It does so still with entries each of which goes by turns behind those before it, as those of a
+/// It does so still with entries each of which goes by turns after those before it, as those of a
 /// turn that is settled.
 pub fn goes_on_by_turns<H: EventHandler>()
     ensures { GoesOnByTurns H.means }

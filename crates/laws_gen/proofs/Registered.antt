@@ -1,4 +1,4 @@
--- Where no handler was refused, each connection of the script has a handler, and no other handle
+-- If no handler was refused, each connection of the script has a handler, and no other handle
 -- was opened but the first.
 use Rattle.std.proofs.Common.{ℕ, suc, ◌≡◌, ◌<◌, true, false, List, ◌∷◌, refl, sym, ◌∙◌, arith}
 use Rattle.std.proofs.Common.{Option}

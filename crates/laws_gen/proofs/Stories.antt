@@ -1,5 +1,5 @@
 -- A connection that was shut and does not fail, and whose bytes are records alone, has read all of
--- them where it was closed.
+-- them when it was closed.
 use Rattle.std.proofs.Common.{◌≡◌, ◌≢◌, ◌∙◌, ◌+◌, ◌⊎◌, inl, inr, ℕ, true, false, List, ◌++◌, Option}
 use Rattle.std.proofs.Common.{Some, None, refl, sym, subst, ap}
 use Rattle.std.specs.Prelude.{flat_map}

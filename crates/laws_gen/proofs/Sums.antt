@@ -69,7 +69,7 @@ one_from f x others (suc j) a le lt =
 pub one_below : (n x : ℕ) (f : ℕ → ℕ) → x < n → ((y : ℕ) → (y ≡ x → ⊥) → f y ≡ 0) → below n f ≡ f x
 one_below n x f lt others = one_from f x others n 0 (omega arith) (omega arith)
 
--- the first of them, and those behind it
+-- the first of them, and those after it
 shifted : (f : ℕ → ℕ) (j a : ℕ) → sum_by f (range_with_len (a + 1) j)
     ≡ sum_by (λ (d : ℕ). f (suc d)) (range_with_len a j)
 shifted f zero a = refl

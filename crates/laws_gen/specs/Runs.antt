@@ -37,7 +37,7 @@ SummariesAreKnown means =
     → list_any is_refusal journal ≡ false → HadMemory journal → Summarizes summary journal
     → SumsUp n seed summary
 
--- None is refused where there is room for all connections beside the acceptor, and the net took
+-- None is refused if there is room for all connections beside the acceptor, and the net took
 -- each end in.
 abbrev pub FullRunsAreKnown : {H E : Type 0} → Handling H E ServerNote → Type 0
 FullRunsAreKnown means =

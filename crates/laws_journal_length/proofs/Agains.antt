@@ -94,7 +94,7 @@ by_connection n (Returned event Again (note.Piece conn took records) ∷ past) l
     counted false k = omega arith
 by_connection n (_ ∷ past) l = by_connection n past (omega (arith, l))
 
--- ---- the acceptor asks again only behind a connection that it accepts
+-- ---- the acceptor asks again only after a connection that it accepts
 
 abbrev AcceptsMore : Item ServerNote → Type 0
 AcceptsMore item = is_more item.answer ≡ true → says_accepted item.note ≡ true

@@ -72,7 +72,7 @@ none_due (e ∷ past) i none =
     by_test true _ h rest = refl
     by_test false e h rest = rest
 
--- where no timer was set, none is armed, and none comes due
+-- if no timer was set, none is armed, and none comes due
 pub record NoTimers (past : List (Entry ServerNote)) : Type 0 where
   pub armed_is : armed past ≡ []
   pub due : list_any is_due past ≡ false
@@ -192,7 +192,7 @@ pub returned_few : (most : ℕ) (past : List (Entry ServerNote)) → is_legal mo
 returned_few most past legal settled = let h = returned_started most past legal settled in
     omega (arith, h)
 
--- each handler that was closed before the end was so behind its turn
+-- each handler that was closed before the end was so after its turn
 closed_turned : (groups : List ScriptGroup) (past : List (Entry ServerNote))
     → EachStep (Steps groups) past → count is_closed past + cond (is_turned past) 1 0
     ≤ count is_returned past

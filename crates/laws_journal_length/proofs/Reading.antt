@@ -43,7 +43,7 @@ is_more _ = false
 abbrev pub asks_more : Item ServerNote → Bool
 asks_more item = is_more item.answer
 
--- how many reads these parts take at most that give bytes, where so many bytes of the first were
+-- how many reads these parts take at most that give bytes, if so many bytes of the first were
 -- given
 abbrev pub reads_of : ℕ → List Part → ℕ
 reads_of at [] = 0
@@ -67,7 +67,7 @@ after given at whole left b = cond b
     (record { given = given; at = at + 4096; left = Piece whole ∷ left })
     (record { given = given ++ Piece whole ∷ []; at = 0; left = left })
 
--- what is left to read behind a read
+-- what is left to read after a read
 read_left : (given : List Part) (at : ℕ) (left : List Part) (bytes : List ℕ)
     → bytes ≡ read_bytes piece_room at left
     → (gives_bytes (read_answer piece_room at left) ≡ true → 1 ≤ length bytes)
@@ -105,7 +105,7 @@ abbrev IsTold : Option Telling → Type 0
 IsTold None = ⊥
 IsTold (Some telling) = Unit {0}
 
--- a turn spends a read where it asks for one more
+-- a turn spends a read if it asks for one more
 record Spends (before : Progress) (item : Item ServerNote) (after : Progress) : Type 0 where
   told : IsTold after.telling
   less : cond (asks_more item) 1 0 + left_to_read after.telling ≤ left_to_read before.telling

@@ -38,7 +38,7 @@ use Rattle.laws_one_worker.specs.log_handler.specs.declared.note.ServerNote.{Ser
 use Rattle.laws_journal_length.proofs.EntryKinds.{is_ready, is_started, is_again}
 use Rattle.laws_journal_length.proofs.Telling.{fewer}
 
--- a list without what passes, where something does
+-- a list without what passes, if something does
 one_less : {A : Type 0} (p : A → Bool) (xs : List A) → list_any p xs ≡ true
     → length (filter (λ x. not (p x)) xs) + 1 ≤ length xs
 one_less p [] h = absurd (false≢true h)

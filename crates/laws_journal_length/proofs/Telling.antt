@@ -176,7 +176,7 @@ due_ready (Polled moment ∷ past) h = refl
 due_ready (Due timer ∷ past) h = refl
 due_ready (_ ∷ past) h = absurd (false≢true h)
 
--- behind a wait without a timer, what is read off the wait of the script
+-- after a wait without a timer, what is read off the wait of the script
 module _ (groups : List ScriptGroup) where
   abbrev all : List Group
   all = groups_told groups
@@ -235,7 +235,7 @@ module _ (groups : List ScriptGroup) where
 
   -- ---- waits
 
-  -- whether the last wait was answered with Over and nothing stands behind its entries
+  -- whether the last wait was answered with Over and nothing stands after its entries
   abbrev pub is_last : List (Entry ServerNote) → ℕ
   is_last past = cond (is_over_here groups past) 1 0
 
@@ -247,7 +247,7 @@ module _ (groups : List ScriptGroup) where
   is_none true h = absurd (false≢true (sym h))
   is_none false h = refl
 
-  -- behind other entries than a wait's own it is not so
+  -- after other entries than a wait's own it is not so
   last_none : (past : List (Entry ServerNote)) → follows_ready past ≡ false → is_last past ≡ 0
   last_none past h = is_none (is_over_here groups past)
       (ap (λ (b : Bool). b && is_over (last_wait all past)) h)
@@ -287,7 +287,7 @@ module _ (groups : List ScriptGroup) where
       + is_last (Polled moment ∷ past)
   polled_more past moment h = omega (arith, h)
 
-  -- each wait takes something of the script, but the last, and those behind which an upcall was
+  -- each wait takes something of the script, but the last, and those after which an upcall was
   -- started
   pub waits_told : (most : ℕ) (past : List (Entry ServerNote)) → is_legal most past ≡ true
       → EachStep Untimed past → EachStep (Steps groups) past

@@ -68,7 +68,7 @@ use Rattle.laws_journal_limits.proofs.Numbers.{live_within}
 use Rattle.laws_journal_limits.proofs.Numbers.{scheduled_within, due_within, started_within}
 use Rattle.laws_journal_limits.proofs.Numbers.{open_within}
 
--- ---- what stands behind the end
+-- ---- what stands after the end
 
 not_ended : {N : Type 0} (most : ℕ) (past : List (Entry N)) (e : Entry N)
     → may_follow most past e ≡ true → winds_up e ≡ false → ended past ≡ false
@@ -156,7 +156,7 @@ module _ {H E : Type 0} (means : Handling H E ServerNote) (t : Terms) (idle : Op
         [] (subst (λ (l : List (Entry ServerNote)). FollowsBefore (groups_told groups) l [])
         (all_is ∙ ap (λ (x : Entry ServerNote). past_of after ++ x ∷ past_of before) q) follows)
 
-    -- an entry that stands neither behind the end nor is it
+    -- an entry that stands neither after the end nor is it
     in_run : winds_up e ≡ false → (e ≡ Ended → ⊥)
         → (m : List (Entry ServerNote)) × (r.run ≡ before ++ e ∷ m)
     in_run winds no_end = by (cuts before e after r.run Ended r.closing (sym is ∙ r.is))

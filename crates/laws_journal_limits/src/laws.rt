@@ -16,7 +16,7 @@ pub fn scripts_are_within()
 {}
 
 /// The text of the journal of a run over a script, however many threads made it and however it
-/// ended, is one that is read again, where no notice was asked for and the script, the idle time,
+/// ended, is one that is read again, if no notice was asked for and the script, the idle time,
 /// the handlers and the entries are as many as the text may name.
 pub fn journals_are_within<H: EventHandler<Note = ServerNote>>()
     ensures { JournalsAreWithin H.means }

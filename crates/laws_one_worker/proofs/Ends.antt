@@ -67,7 +67,7 @@ use Rattle.laws_one_worker.proofs.Rounds.{Front, Ready, loop_ready}
 
 module _ {H E : Type 0} (means : Handling H E ServerNote) (t : Terms)
     (list : List (Entry ServerNote)) (turned : DispatchedByTurns means t 1 list) where
-  -- it does so before those behind it
+  -- it does so before those after it
   pub goes : (later : List (Entry ServerNote)) (e : Entry ServerNote)
       (past : List (Entry ServerNote)) → past_of list ≡ later ++ e ∷ past → 1 ≤ length past
       → GoesByTurn means t 1 past e (reverse later)
@@ -134,7 +134,7 @@ free_starts [] i free last = last
 free_starts (Started event ∷ past) i free last = absurd (false≢true free)
 free_starts (_ ∷ past) i free last = last
 
--- where nothing is open no handle is busy
+-- if nothing is open no handle is busy
 none_busy : (most : ℕ) (past : List (Entry ServerNote)) (x : ℕ) → is_legal most past ≡ true
     → ((i : ℕ) → is_open past i ≡ false) → S.is_busy (summary past) x ≡ false
 none_busy most past x legal none =
@@ -280,7 +280,7 @@ module _ {H M Q W V E : Type 0} (m : Meaning H M Q W V ServerNote E) (q : DeskTe
   pub keeps : list_any winding.removes run ≡ false
   keeps = winding.run_keeps q.run run begins turned_run going
 
-  -- each connection that is accepted has its number, and each handler behind the first its
+  -- each connection that is accepted has its number, and each handler after the first its
   -- acceptance
   pub numbered : EachStep IsNumbered run
   numbered = turns.numbered most (steps_of groups) idle all legal begun left closed

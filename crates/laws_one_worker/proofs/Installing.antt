@@ -1,5 +1,5 @@
--- What is registered, refused and timed in a run over a script: behind each turn that accepted a
--- connection its handler, and its timer behind that, and nothing else.
+-- What is registered, refused and timed in a run over a script: after each turn that accepted a
+-- connection its handler, and its timer after that, and nothing else.
 use Rattle.std.proofs.Common.{ℕ, zero, suc, ◌≡◌, ◌∙◌, ◌+◌, ◌≤◌, ◌<◌, ◌==◌, Bool, true, false, not}
 use Rattle.std.proofs.Common.{◌&&◌, ◌||◌, List, [], ◌∷◌, ◌++◌, length, reverse, Option, Some, None}
 use Rattle.std.proofs.Common.{refl, sym, subst, ap, arith, append_assoc}
@@ -72,7 +72,7 @@ use Rattle.laws_script_serial.specs.Serial.{has_room}
 use Rattle.laws_script_serial.proofs.Quiet.{EndsLast, ends_last}
 use Rattle.laws_one_worker.proofs.Pushing.{each_place}
 
--- ---- the acceptor asks again behind each connection that it accepts
+-- ---- the acceptor asks again after each connection that it accepts
 
 abbrev pub AsksAgain : Item ServerNote → Type 0
 AsksAgain item = says_accepted item.note ≡ true → item.answer ≡ Again
@@ -213,7 +213,7 @@ module _ {H M Q W V E : Type 0} (m : Meaning H M Q W V ServerNote E) (q : DeskTe
       (ends.wound m q ran idle groups journal r ++ Ended ∷ []) ++ l) is
       ∙ sym (append_assoc (ends.wound m q ran idle groups journal r ++ Ended ∷ []) later past)
 
-  -- it goes by turns, before those behind it, and so does the entry before it
+  -- it goes by turns, before those after it, and so does the entry before it
   goes : (later : List (Entry ServerNote)) (e : Entry ServerNote) (past : List (Entry ServerNote))
       → run ≡ later ++ e ∷ past → 1 ≤ length past → GoesByTurn means t 1 past e (reverse later)
   goes later e past is long = ends.goes means t r.run (ends.turned m q ran idle groups journal r)
@@ -301,7 +301,7 @@ module _ {H M Q W V E : Type 0} (m : Meaning H M Q W V ServerNote E) (q : DeskTe
   settles : EachStep IsSettledAtOnce run
   settles = ends.settled m q ran idle groups journal r
 
-  -- only the winding up closes behind a removal
+  -- only the winding up closes after a removal
   pub closes : EachStep OnlyClosesUp run
   closes = each_place OnlyClosesUp run [] run refl (λ later e before is.
       let placed = is ∙ sym (append_assoc later (e ∷ []) before) in
@@ -326,7 +326,7 @@ module _ {H M Q W V E : Type 0} (m : Meaning H M Q W V ServerNote E) (q : DeskTe
       subst (λ (a : Answer). EndsLast (Returned event a (note.Accepted conn) ∷ past) handle.0)
       (accept_again (later ++ Closed handle said ∷ []) past event answer conn placed) ends
 
-  -- ---- behind it
+  -- ---- after it
 
   room_opened : (later past : List (Entry ServerNote)) (handle : Handle) (mask : Mask)
       → run ≡ later ++ Opened handle mask ∷ past → has_room t.most past ≡ true
@@ -355,7 +355,7 @@ module _ {H M Q W V E : Type 0} (m : Meaning H M Q W V ServerNote E) (q : DeskTe
         none,
       )
 
-  -- the entry behind it registers or refuses its handler
+  -- the entry after it registers or refuses its handler
   installed : (later : List (Entry ServerNote)) (e : Entry ServerNote)
       (past : List (Entry ServerNote)) (event : ℕ) (answer : Answer) (conn : ℕ)
       → run ≡ later ++ e ∷ (Returned event answer (note.Accepted conn) ∷ past)
@@ -408,7 +408,7 @@ module _ {H M Q W V E : Type 0} (m : Meaning H M Q W V ServerNote E) (q : DeskTe
       (omega arith)))
   none_accepted later _ d past is none timed = refl
 
-  -- behind a closing neither
+  -- after a closing neither
   closed_quiet : (later : List (Entry ServerNote)) (handle : Handle) (said : ServerNote)
       (past : List (Entry ServerNote)) → run ≡ later ++ Closed handle said ∷ past
       → is_accepted (note_settled (Closed handle said ∷ past)) ≡ false
@@ -417,7 +417,7 @@ module _ {H M Q W V E : Type 0} (m : Meaning H M Q W V ServerNote E) (q : DeskTe
       absurd (not_closed later past handle said event answer conn is)
   closed_quiet later handle said (_ ∷ past) is = refl
 
-  -- ---- behind a registration
+  -- ---- after a registration
 
   timed : (later : List (Entry ServerNote)) (e : Entry ServerNote) (handle : Handle) (mask : Mask)
       (d : Entry ServerNote) (past : List (Entry ServerNote)) (asked : Option ℕ)

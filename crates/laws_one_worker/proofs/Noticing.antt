@@ -1,4 +1,4 @@
--- Where nobody posts, a server is not stopped.
+-- If nobody posts, a server is not stopped.
 use Rattle.std.proofs.Common.{ℕ, ◌≡◌, ◌≢◌, ◌∙◌, Bool, true, false, cond, ◌||◌, List, [], ◌∷◌}
 use Rattle.std.proofs.Common.{length, Option, Some, None, option_map, refl, sym, ap, arith, ⊎_elim}
 use Rattle.std.specs.List.{list_any}

@@ -9,7 +9,7 @@ use Rattle.laws_script_calls.specs.reactor_journal.specs.Past.{past_of}
 use Rattle.laws_script_calls.specs.reactor_journal.specs.Follow.{is_legal, may_follow}
 use Rattle.laws_script_calls.specs.laws_script_runs.specs.Steps.{EachStep}
 
--- the past with these entries behind it
+-- the past with these entries after it
 abbrev pub pushed : {N : Type 0} → List (Entry N) → List (Entry N) → List (Entry N)
 pushed past [] = past
 pushed past (e ∷ es) = pushed (e ∷ past) es
@@ -28,7 +28,7 @@ pub pushed_more : {N : Type 0} (past xs ys : List (Entry N))
 pushed_more past [] ys = refl
 pushed_more past (x ∷ xs) ys = pushed_more (x ∷ past) xs ys
 
--- each of the entries is so, behind the past and the entries before it
+-- each of the entries is so, after the past and the entries before it
 abbrev pub EachPushed : {N : Type 0} → (List (Entry N) → Entry N → Type 0) → List (Entry N)
     → List (Entry N) → Type 0
 EachPushed P past [] = Unit {0}
@@ -39,7 +39,7 @@ pub each_pushed : {N : Type 0} (P : List (Entry N) → Entry N → Type 0) (past
 each_pushed P past [] each new = each
 each_pushed P past (e ∷ es) each new = each_pushed P (e ∷ past) es (new.0, each) new.1
 
--- where each entry is so, each is so in another way
+-- if each entry is so, each is so in another way
 pub each_map : {N : Type 0} (P Q : List (Entry N) → Entry N → Type 0)
     → ((past : List (Entry N)) (e : Entry N) → P past e → Q past e) → (past : List (Entry N))
     → EachStep P past → EachStep Q past
@@ -58,7 +58,7 @@ each_place Q whole later (e ∷ past) is at = (
       (is ∙ sym (append_assoc later (e ∷ []) past)) at,
 )
 
--- a pushed past is legal only where the past before is
+-- a pushed past is legal only if the past before is
 pub legal_before : {N : Type 0} (most : ℕ) (past es : List (Entry N))
     → is_legal most (pushed past es) ≡ true → is_legal most past ≡ true
 legal_before most past [] legal = legal

@@ -128,7 +128,7 @@ module _ (most : ℕ) (past : List (Entry ServerNote)) (legal : is_legal most pa
   alive_named x h = names_alive x (summary past).handles
       (alive_is most past (summary past) x legal (summary_told.told most past legal) ∙ h)
 
--- ---- one removal behind another
+-- ---- one removal after another
 
 -- nothing was begun last: the run was stopped, or a handler closed
 abbrev pub is_shut : List (Entry ServerNote) → Bool
@@ -137,7 +137,7 @@ is_shut (Closed handle said ∷ past) = true
 is_shut _ = false
 
 module _ (most : ℕ) (idle : Option ℕ) (groups : List ScriptGroup) where
-  -- an entry behind the end
+  -- an entry after the end
   pub record Winds (past : List (Entry ServerNote)) (e : Entry ServerNote) : Type 0 where
     pub settles : IsSettledAtOnce past e
     pub installs : InstallsOnly most idle past e
@@ -176,7 +176,7 @@ module _ (most : ℕ) (idle : Option ℕ) (groups : List ScriptGroup) where
     closes = refl;
   }
 
-  -- those who are alive behind the removal of the first were so before, and are others
+  -- those who are alive after the removal of the first were so before, and are others
   record StillAlive (past : List (Entry ServerNote)) (first x : ℕ) : Type 0 where
     before : is_alive past x ≡ true
     other : (first == x) ≡ false

@@ -163,7 +163,7 @@ module _ (most : ℕ) (groups : List ScriptGroup) where
       ∙ ap (λ (b : Bool). was_opened past x && not (b || was_removed past x)) of
       ∙ and_false (was_opened past x)
 
-  -- behind a turn that did not end its handler that is closed, or not
+  -- after a turn that did not end its handler that is closed, or not
   maybe_closed : (b : Bool) (e : Entry ServerNote) (past : List (Entry ServerNote))
       (handle : Handle) (closing : List (Entry ServerNote)) → is_turned (e ∷ past) ≡ true
       → IsClosing b handle closing → Settled groups (e ∷ past)
@@ -186,7 +186,7 @@ module _ (most : ℕ) (groups : List ScriptGroup) where
   maybe_closed false e past handle closing turned c s =
       subst (λ (es : List (Entry ServerNote)). Settled groups (pushed (e ∷ past) es)) (sym c) s
 
-  -- behind the turn its handler is closed where it ended itself
+  -- after the turn its handler is closed if it ended itself
   closed_or_kept : (past : List (Entry ServerNote)) (event : ℕ) (answer : Answer)
       (said : ServerNote) (handle : Handle) (closing : List (Entry ServerNote))
       → is_legal most (Returned event answer said ∷ past) ≡ true
@@ -256,7 +256,7 @@ module _ {H M Q W V E : Type 0} (m : Meaning H M Q W V ServerNote E) (q : DeskTe
     abbrev most : ℕ
     most = q.run.most
 
-    -- where nothing is to be started, no deadline is reached either
+    -- if nothing is to be started, no deadline is reached either
     pub spent : (first : ℕ) (d : Desk H M Q W V ServerNote E) (h : List (Entry ServerNote))
         → DeskStands m q first d h → HasNoPick (past_of h) → IsSpent (past_of h)
     spent first d h stood none = record {

@@ -44,7 +44,7 @@ is_brought (Due timer) = true
 is_brought (Ready handle kind) = true
 is_brought _ = false
 
--- what may stand behind a turn that was settled
+-- what may stand after a turn that was settled
 abbrev pub is_plain : Entry ServerNote → Bool
 is_plain (Polled moment) = false
 is_plain (Due timer) = false
@@ -88,9 +88,9 @@ not_both : (b c : Bool) → b ≡ false → b ≡ true → c ≡ true
 not_both b c f t = absurd (both_ways b f t)
 
 module _ (groups : List ScriptGroup) where
-  -- an entry of the loop: turns are settled at once; a wait comes only where nothing can be
-  -- started, and not behind the last; behind what a wait brought the same lead goes on, or the
-  -- next; and a handler is closed directly behind its turn
+  -- an entry of the loop: turns are settled at once; a wait comes only if nothing can be
+  -- started, and not after the last; after what a wait brought the same lead goes on, or the
+  -- next; and a handler is closed directly after its turn
   pub record Steps (past : List (Entry ServerNote)) (e : Entry ServerNote) : Type 0 where
     pub settles : IsSettledAtOnce past e
     pub waits : WaitsOnly groups past e
@@ -103,7 +103,7 @@ module _ (groups : List ScriptGroup) where
     pub free : is_free past ≡ true
     pub not_over : is_over_here groups past ≡ false
 
-  -- ---- behind a turn
+  -- ---- after a turn
 
   plain_waits : (past : List (Entry ServerNote)) (e : Entry ServerNote) → is_plain e ≡ true
       → WaitsOnly groups past e
@@ -199,7 +199,7 @@ module _ (groups : List ScriptGroup) where
         last = brought_last e past parts.0 ∙ w.last;
       })
 
-  -- a wait where nothing could be started
+  -- a wait when nothing could be started
   pub all_waited : (past : List (Entry ServerNote)) (moment : ℕ) (es : List (Entry ServerNote))
       → list_all is_brought es ≡ true → Between past → IsSpent past
       → Waited (pushed past (Polled moment ∷ es))

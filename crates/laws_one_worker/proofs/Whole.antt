@@ -33,7 +33,7 @@ use Rattle.tp_reactor.specs.reactor_desk.specs.Leading.{IsOver}
 use Rattle.laws_one_worker.proofs.Rounds.{Idle, is_over_named, loop_over}
 use Rattle.laws_one_worker.proofs.Ends as ends
 
--- what stands behind a wait that came to nothing
+-- what stands after a wait that came to nothing
 ends_installing : (most : ℕ) (idle : Option ℕ) (past : List (Entry ServerNote))
     → follows_ready past ≡ true → InstallsOnly most idle past Ended
 ends_installing most idle [] ready = absurd (false≢true ready)
@@ -108,7 +108,7 @@ module _ {H M Q W V E : Type 0} (m : Meaning H M Q W V ServerNote E) (q : DeskTe
   past_is = ap past_of (ends.journal_is m q ran.Over idle groups journal r)
       ∙ past_pushed r.run (Ended ∷ ends.removals m q ran.Over idle groups journal r)
 
-  -- an entry behind the end is so in each way
+  -- an entry after the end is so in each way
   both : (P : List (Entry ServerNote) → Entry ServerNote → Type 0) → EachStep P past → P past Ended
       → ((before : List (Entry ServerNote)) (e : Entry ServerNote) → Winds most idle groups before e
       → P before e) → EachStep P (past_of journal)

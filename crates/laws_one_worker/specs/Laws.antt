@@ -9,7 +9,7 @@ use Rattle.laws_script_calls.specs.log_handler.specs.declared.note.ServerNote.{S
 use Rattle.laws_script_serial.specs.Serial.{Serial}
 use Rattle.laws_one_worker.specs.Alone.{RunsAlone}
 
--- Where its loop ended since nothing could be reported any more, the journal is the serial one of
+-- If its loop ended since nothing could be reported any more, the journal is the serial one of
 -- its script.
 abbrev pub RunIsSerial : {H M Q W V E : Type 0} → Meaning H M Q W V ServerNote E → Type 0
 RunIsSerial m =

@@ -486,7 +486,7 @@ module _ (k : Kind) where
           ∙ and_none (not (handle.0 == x))
       by_entry _ f r = r
 
-  -- where nothing holds events back, only the end of its handle takes one
+  -- if nothing holds events back, only the end of its handle takes one
   taken_removed : {N : Type 0} (past : List (Entry N)) (i x : ℕ) → list_any holds_back past ≡ false
       → belongs_to x (event_at past i) ≡ true → was_taken past i ≡ true → was_removed past x ≡ true
   taken_removed [] i x free b t = absurd (false≢true t)

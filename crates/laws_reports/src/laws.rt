@@ -3,7 +3,7 @@
 
 ghost use Rattle.laws_reports.specs.Laws.{AnswersEach};
 
-/// Where nothing is open and nothing can be started, a handler that is alive has had, for each
+/// If nothing is open and nothing can be started, a handler that is alive has had, for each
 /// report of a kind that it was given, one turn of that kind that did not ask for the next.
 pub fn answers_each<N>()
     ensures { AnswersEach N }

@@ -92,7 +92,7 @@ pub record PlaysOn (groups : List Group) (past : List (Entry ServerNote)) (taken
 module _ {H E : Type 0} (means : Handling H E ServerNote) (t : Terms) (offers : List Offer)
     (groups : List Group) (most : ℕ) (limit : t.limit ≡ Some None)
     (told_of : t.offers ≡ Some offers) (as_server : NamesAsServer means t) where
-  -- where the listener's story is told, an end has the serial number that its handler's origin
+  -- if the listener's story is told, an end has the serial number that its handler's origin
   -- names, and no other
   named : (origin : Option (Origin ServerNote)) (serial : Option ℕ)
       → Names (means.serial t origin) serial → serial ≡ number_accepted origin

@@ -6,7 +6,7 @@ ghost use Rattle.laws_script_calls.specs.Leaving.{EndsTell};
 
 use laws_script_runs::{EventHandler, ServerNote};
 
-/// Where the calls of a net are those that a journal tells, and are answered as a script has it,
+/// If the calls of a net are those that a journal tells, and are answered as a script has it,
 /// the journal follows the script.
 pub fn calls_follow<H: EventHandler<Note = ServerNote>>()
     ensures { CallsFollow H.means }

@@ -69,7 +69,7 @@ took_all_as end.NoMemory c journal steps h = tt
 took_all_as end.Idle c journal steps h = tt
 took_all_as end.Refused c journal steps h = tt
 
--- how it ended itself, where it was closed by its own answer with such a word
+-- how it ended itself, if it was closed by its own answer with such a word
 own_end : (word : EndKind) (kept : Option EndKind) (idle : Option ℕ) (last : _)
     (p : connection.Progress) (pauses steps : ℕ) → AsRead word → kept ≡ Some word
     → EndedSo idle last p kept → ReadToEnd kept pauses steps
@@ -220,7 +220,7 @@ module _ {H E : Type 0} (means : Handling H E ServerNote) (t : Terms) (idle : Op
   abbrev Reads : Type 0
   Reads = ReadToEnd connected.now.kept (pauses_had (had past x)) (steps_on c (steps_of groups))
 
-  -- closed by another, it was alive where the run was over, and so has found nothing as often as
+  -- closed by another, it was alive when the run was over, and so has found nothing as often as
   -- there are steps
   by_another : (reason_of past x ≡ Own → ⊥) → Reads
   by_another other =

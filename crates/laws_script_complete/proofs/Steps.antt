@@ -1,4 +1,4 @@
--- Which steps are left where a run over a script is over.
+-- Which steps are left when a run over a script is over.
 use Rattle.std.proofs.Common.{ℕ, suc, ◌≡◌, ◌∙◌, ◌==◌, ◌+◌, ◌≤◌, ◌<◌, ◌⊎◌, inl, inr, Bool, true}
 use Rattle.std.proofs.Common.{false, not, cond, ◌||◌, List, [], ◌∷◌, ◌++◌, length, reverse, refl}
 use Rattle.std.proofs.Common.{sym, ap, subst, arith, Option, None, ⊎_elim}
@@ -145,7 +145,7 @@ none_else gone (step ∷ steps) h =
         some : suc (steps_at step.end steps) ≡ 0 → ⊥
         some q = omega (arith, q)
 
--- ---- a handler whose life ended was closed, where none waits for that
+-- ---- a handler whose life ended was closed, if none waits for that
 
 shut_if_dead : (past : List (Entry ServerNote)) (x : ℕ) → x < opened past → was_opened past x ≡ true
     → is_alive past x ≡ false → is_busy past x ≡ false → some_wait past ≡ false

@@ -43,7 +43,7 @@ use Rattle.laws_script_complete.specs.Complete.{took_for}
 module _ {H E : Type 0} (means : Handling H E ServerNote) (t : Terms) (idle : Option ℕ)
     (groups : List ScriptGroup) (journal : List (Entry ServerNote))
     (r : RunsOver means t idle groups journal) where
-  -- the acceptor, alive where the run was over, has taken all
+  -- the acceptor, alive when the run was over, has taken all
   pub all_accepted : accepted journal ≡ script.opened (steps_of groups)
   all_accepted =
       living.accepted_journal means t idle groups journal r

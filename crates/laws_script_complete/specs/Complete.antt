@@ -1,4 +1,4 @@
--- What a run over a script has done where it is over.
+-- What a run over a script has done when it is over.
 use Rattle.std.specs.Prelude.{◌≡◌, if◌then◌else◌, ℕ, false, not, List, [], ◌∷◌, ◌++◌, length}
 use Rattle.std.specs.Prelude.{Option}
 use Rattle.std.specs.List.{sum_by, list_any}
@@ -55,7 +55,7 @@ pub record LeavesNoStep (groups : List ScriptGroup) (past : List (Entry ServerNo
   pub no_step : list_any (λ step. not (is_at (told (groups_told groups) past).gone step))
       (told (groups_told groups) past).held ≡ false
 
--- so it is where the run is over, before all handlers that are left are closed
+-- so it is when the run is over, before all handlers that are left are closed
 abbrev pub NoStepIsLeft : {H E : Type 0} → Handling H E ServerNote → Type 0
 NoStepIsLeft means =
     (t : Terms) (idle : Option ℕ) (groups : List ScriptGroup) (journal : List (Entry ServerNote))

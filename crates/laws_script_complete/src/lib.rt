@@ -1,4 +1,4 @@
-//! What a run over a script has done where it is over: all connections were accepted, and what was
+//! What a run over a script has done when it is over: all connections were accepted, and what was
 //! to be read was read.
 #![tactic(auto)]
 

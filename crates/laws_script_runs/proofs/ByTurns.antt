@@ -1,5 +1,5 @@
 -- A run that goes by turns, read backwards: each entry of it beside those before it and the one
--- behind it.
+-- after it.
 use Rattle.std.proofs.Common.{ℕ, ◌≡◌, ◌∙◌, ◌≤◌, Bool, true, false, List, [], ◌∷◌, ◌++◌, length}
 use Rattle.std.proofs.Common.{reverse, refl, sym, ap, subst, Option, Some, None, append-nil}
 use Rattle.std.proofs.Common.{append_assoc}
@@ -46,7 +46,7 @@ IsByTurn may past (Cancelled timer) = ActsBehind may past Cancelling
 IsByTurn may past Ended = ActsBehind may past Stopping
 IsByTurn may past _ = Unit {0}
 
--- behind a turn whose note says that it installs a handler stands `Opened` or `Refused`; one
+-- after a turn whose note says that it installs a handler stands `Opened` or `Refused`; one
 -- `Closed` may stand between
 abbrev pub is_install : {N : Type 0} → Option (Entry N) → Bool
 is_install (Some (Opened handle mask)) = true
@@ -64,7 +64,7 @@ Installs says b (Closed handle other ∷ Returned event answer said ∷ past) ne
     b ≤ length past → says said ≡ true → is_install next ≡ true
 Installs says b _ next = Unit {0}
 
--- from number b on each entry of the past goes by turns, where this stands behind it
+-- from number b on each entry of the past goes by turns, if this stands after it
 abbrev pub TurnsBefore : {N : Type 0} → (Upcall → Deed → Type 0) → (N → Bool) → ℕ → List (Entry N)
     → Option (Entry N) → Type 0
 TurnsBefore may says b [] next = Unit {0}
@@ -114,7 +114,7 @@ module _ {H E N : Type 0} (means : Handling H E N) (t : Terms) (b : ℕ) where
   offered_or_closed (Refused live fault said ∷ later) h = refl
   offered_or_closed (_ ∷ later) h = absurd h
 
-  -- what stands behind a `Returned`, or behind the `Closed` behind one
+  -- what stands after a `Returned`, or after the `Closed` after one
   behind_returned : (later : List (Entry N)) (said : N)
       → (means.installs said ≡ true → OffersBehind later) → means.installs said ≡ true
       → is_install_or_close (first_of later) ≡ true

@@ -144,7 +144,7 @@ no_close (item ∷ items) h = (
     goes Again h = tt
     goes Close h = absurd (false≢true h)
 
--- ---- a handler that is alive where the script is over
+-- ---- a handler that is alive when the script is over
 
 module _ (t : Terms) (groups : List ScriptGroup) (most : ℕ) (past : List (Entry ServerNote))
     (legal : is_legal most past ≡ true) (free : list_any holds_back past ≡ false)
@@ -179,7 +179,7 @@ module _ (t : Terms) (groups : List ScriptGroup) (most : ℕ) (past : List (Entr
   takes_all p few alive course = takes_everything (steps_of groups) (had past 0) p few course
       (listener_quiet alive)
 
-  -- What a connection leaves: its turns over its story, and its lines. Where it was not closed by
+  -- What a connection leaves: its turns over its story, and its lines. If it was not closed by
   -- itself, it was alive here, and has had no turn since.
   pub record Ends (c : ℕ) (all : List (Item ServerNote)) (lines : List ℕ) : Type 0 where
     pub moment : ℕ

@@ -134,7 +134,7 @@ had_found most Q past x legal f =
 
 -- ---- origins
 
--- The first entry registers the acceptor; every other registration stands behind a turn, which
+-- The first entry registers the acceptor; every other registration stands after a turn, which
 -- offered the handler.
 abbrev pub IsBegun : List (Entry ServerNote) → Entry ServerNote → Type 0
 IsBegun [] e = e ≡ Opened first_handle read_alone
@@ -182,7 +182,7 @@ origin_first most (e ∷ (d ∷ past)) legal b =
     below : 1 ≤ opened (d ∷ past) → 0 ≡ opened (d ∷ past) → ⊥
     below h k = omega arith
 
--- every other has that of the turn behind which it was registered
+-- every other has that of the turn after which it was registered
 pub record Offered (past : List (Entry ServerNote)) (x : ℕ) : Type 0 where
   pub later : List (Entry ServerNote)
   pub handle : Handle

@@ -1,4 +1,4 @@
--- Who is alive where a run over a script is over: the acceptor, and each handler that was not
+-- Who is alive when a run over a script is over: the acceptor, and each handler that was not
 -- closed by its own answer.
 use Rattle.std.proofs.Common.{ℕ, ◌≡◌, ◌≢◌, Bool, true, false, cond, List, [], ◌∷◌, ◌++◌, length}
 use Rattle.std.proofs.Common.{refl, sym, ap, ◌∙◌, subst, Option, Some, ⊎_elim, append_assoc}

@@ -67,7 +67,7 @@ pub all_last : {A : Type 0} (P : A → Type 0) (xs : List A) (y : A) (ys : List 
 all_last P [] y ys h = h.0
 all_last P (x ∷ xs) y ys h = all_last P xs y ys h.1
 
--- the number that a turn noted behind these is how many they noted
+-- the number that a turn noted after these is how many they noted
 pub number_next : (first many : ℕ) (xs : List (Item ServerNote)) (item : Item ServerNote)
     (ys : List (Item ServerNote)) (k : ℕ)
     → flat_map number_in ((xs ++ item ∷ []) ++ ys) ≡ numbers_from first many

@@ -1,4 +1,4 @@
--- The handle of each connection, where none was refused.
+-- The handle of each connection, if none was refused.
 use Rattle.std.proofs.Common.{ℕ, suc, ◌≡◌, ◌+◌, Bool, true, false, cond, List, [], ◌∷◌, refl, sym}
 use Rattle.std.proofs.Common.{ap, arith, Option, Some, None}
 use Rattle.std.proofs.lemmas.Bool.{false≢true, both_ways}
@@ -38,7 +38,7 @@ use Rattle.laws_script_runs.proofs.ByTurns.{TurnsBefore, Installs, is_install, i
 use Rattle.laws_script_runs.specs.Steps.{EachStep}
 
 -- What the entries tell that concern numbers: a connection is accepted with the number of those
--- before, and a handler is registered or refused behind a turn that accepted one, but the first,
+-- before, and a handler is registered or refused after a turn that accepted one, but the first,
 -- which is the first entry.
 abbrev pub NumberedNote : ServerNote → List (Entry ServerNote) → Type 0
 NumberedNote (note.Accepted k) past = k ≡ accepted past
@@ -57,7 +57,7 @@ IsNumbered (d ∷ past) e = Unit {0}
 abbrev pub owed : List (Entry ServerNote) → ℕ
 owed past = cond (is_accepted (note_settled past)) 1 0
 
--- behind a wait none is
+-- after a wait none is
 pub nothing_owed : (past : List (Entry ServerNote)) → follows_ready past ≡ true → owed past ≡ 0
 nothing_owed [] h = absurd (false≢true h)
 nothing_owed (Polled moment ∷ past) h = refl
@@ -144,7 +144,7 @@ none_owed : (b : Bool) → (b ≡ true → ⊥) → ◌≡◌ {A = ℕ} (cond b 
 none_owed true h = absurd (h refl)
 none_owed false h = refl
 
--- where the next entry neither installs nor closes, no connection is owed
+-- if the next entry neither installs nor closes, no connection is owed
 pub not_owed : (past : List (Entry ServerNote)) (e : Entry ServerNote) → EachStep IsNumbered past
     → TurnNext past e → is_install_or_close (Some e) ≡ false → owed past ≡ 0
 not_owed [] e n turn plain = refl
@@ -160,7 +160,7 @@ not_owed (Closed handle other ∷ (Returned event answer said ∷ (d ∷ past)))
 not_owed (Closed handle other ∷ (_ ∷ past)) e n turn plain = refl
 not_owed (_ ∷ past) e n turn plain = refl
 
--- behind a `Closed` as much is owed as before it
+-- after a `Closed` as much is owed as before it
 pub closed_owed : (past : List (Entry ServerNote)) (handle : Handle) (other : ServerNote)
     → EachStep IsNumbered past → TurnNext past (Closed handle other)
     → owed (Closed handle other ∷ past) ≡ owed past

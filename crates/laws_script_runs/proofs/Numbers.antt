@@ -1,4 +1,4 @@
--- Where no handler was refused, the handler behind the first one at each handle is that of the
+-- If no handler was refused, the handler after the first one at each handle is that of the
 -- connection of the same number, and there are no others.
 use Rattle.std.proofs.Common.{ℕ, suc, ◌≡◌, ◌+◌, Bool, true, false, cond, List, [], ◌∷◌, ◌++◌}
 use Rattle.std.proofs.Common.{length, refl, sym, ap, ◌∙◌, subst, arith, Option, Some, None}

@@ -1,4 +1,4 @@
--- Where there is room for all connections of a script, none is refused.
+-- If there is room for all connections of a script, none is refused.
 use Rattle.std.proofs.Common.{ℕ, suc, ◌≡◌, ◌==◌, ◌+◌, ◌-◌, ◌≤◌, ◌<◌, Bool, true, false, cond, ◌&&◌}
 use Rattle.std.proofs.Common.{◌||◌, List, [], ◌∷◌, ◌++◌, length, reverse, refl, sym, ap, ◌∙◌, subst}
 use Rattle.std.proofs.Common.{arith, Option, Some, None, append_assoc}
@@ -216,7 +216,7 @@ module _ {H E : Type 0} (means : Handling H E ServerNote) (t : Terms) (idle : Op
         by_entry (Closed handle other) is rest = rest
         by_entry Ended is rest = rest
 
-    -- neither before the end nor behind it
+    -- neither before the end nor after it
     closes_only : (l : List (Entry ServerNote)) → list_all is_closing l ≡ true
         → list_any is_refusal l ≡ false
     closes_only [] h = refl

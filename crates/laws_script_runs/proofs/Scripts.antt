@@ -33,7 +33,7 @@ more_steps : (step : ScriptStep) (steps past : List ScriptStep)
 more_steps step steps past = ap (λ (l : List ScriptStep). l ++ past)
     (reverse-append (step ∷ []) steps) ∙ append_assoc (reverse steps) (step ∷ []) past
 
--- a step of a connection stands only where that goes on
+-- a step of a connection stands only if that goes on
 of_going : (c : ℕ) (step : ScriptStep) (past : List ScriptStep) → may_follow past step ≡ true
     → is_of c step ≡ true → is_done c past ≡ false
 of_going c (Brings conn bytes) past m o =

@@ -1,4 +1,4 @@
--- Which handle stands at which end: that of a connection is the one that was registered behind its
+-- Which handle stands at which end: that of a connection is the one that was registered after its
 -- acceptance, and no other.
 use Rattle.std.proofs.Common.{ℕ, ◌≡◌, ◌≢◌, ◌∙◌, ◌+◌, ◌≤◌, ◌<◌, ◌⊎◌, inl, inr, true, false, List, []}
 use Rattle.std.proofs.Common.{◌∷◌, ◌++◌, refl, sym, ap, arith, Option, Some, None}
@@ -39,7 +39,7 @@ use Rattle.laws_script_runs.specs.Runs.{note_settled, is_accepted}
 use Rattle.laws_script_runs.specs.Steps.{EachStep}
 use Rattle.laws_script_runs.proofs.Numbering.{IsNumbered, NumberOf, settled_number, offered_end}
 
--- the handler was registered behind the acceptance of the connection
+-- the handler was registered after the acceptance of the connection
 abbrev pub OpenedFor : List (Entry ServerNote) → ℕ → ℕ → Type 0
 OpenedFor [] c x = ⊥
 OpenedFor (Opened handle mask ∷ past) c x =
@@ -172,7 +172,7 @@ accepted_total p k m e h = by_note (note_settled p) refl h (settled_number p m)
     by_note (Some (note.Piece conn took records)) is h q = absurd (false≢true h)
     by_note (Some (note.Finished conn end)) is h q = absurd (false≢true h)
 
--- whoever was registered for it was so behind its acceptance
+-- whoever was registered for it was so after its acceptance
 pub for_accepted : (past : List (Entry ServerNote)) (c x : ℕ) → EachStep IsNumbered past
     → OpenedFor past c x → c < accepted past
 for_accepted [] c x n o = absurd o

@@ -119,7 +119,7 @@ module _ {H E : Type 0} (means : Handling H E ServerNote) (t : Terms) (idle : Op
   pub keeps : list_any winding.removes run ≡ false
   keeps = winding.run_keeps t run begins turned_run going
 
-  -- the handler of a connection was registered behind its acceptance
+  -- the handler of a connection was registered after its acceptance
   pub opened_for : (c k moment : ℕ) → was_opened run (suc c) ≡ true
       → origin_of all (suc c) ≡ Some (record { note = note.Accepted k; moment = moment })
       → OpenedFor run k (suc c)
@@ -136,7 +136,7 @@ module _ {H E : Type 0} (means : Handling H E ServerNote) (t : Terms) (idle : Op
       (opened_for_later by.later (Opened by.handle by.mask ∷ (by.first ∷ by.before)) k (suc c)
       (inl (by.mine, end_of_origin (by.first ∷ by.before) by.origin k by.here says)))
 
-  -- each connection that is accepted has its number, and each handler behind the first its
+  -- each connection that is accepted has its number, and each handler after the first its
   -- acceptance
   pub numbered : EachStep IsNumbered run
   numbered = turns.numbered most steps idle all legal begun left closed (wound ++ Ended ∷ []) run

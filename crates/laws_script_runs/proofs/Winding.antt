@@ -1,4 +1,4 @@
--- The end of a run: what was open, who was alive, and what stands behind `Ended`.
+-- The end of a run: what was open, who was alive, and what stands after `Ended`.
 use Rattle.std.proofs.Common.{ℕ, ◌≡◌, ◌==◌, ◌<◌, Bool, true, false, not, ◌||◌, List, [], ◌∷◌, ◌++◌}
 use Rattle.std.proofs.Common.{reverse, refl, sym, ap, ◌∙◌, arith, Option, Some, None, ⊎_elim}
 use Rattle.std.proofs.Common.{append-nil}
@@ -193,7 +193,7 @@ itself_old : (e : Entry ServerNote) (past : List (Entry ServerNote)) (x : ℕ)
     → was_removed past x ≡ true → ended_itself (e ∷ past) x ≡ ended_itself past x
 itself_old e past x h = rw (h, ended_itself) refl
 
--- where nobody removed a handler, one that is not alive any more ended its own life
+-- if nobody removed a handler, one that is not alive any more ended its own life
 pub removed_itself : (past : List (Entry ServerNote)) (x : ℕ) → list_any removes past ≡ false
     → was_removed past x ≡ true → ended_itself past x ≡ true
 removed_itself [] x r h = absurd (false≢true h)
@@ -231,7 +231,7 @@ itself_still [] past x h = refl
 itself_still (e ∷ later) past x h =
     itself_old e (later ++ past) x (removed_later later past x h) ∙ itself_still later past x h
 
--- ---- behind the end
+-- ---- after the end
 
 ended_later : (later past : List (Entry ServerNote)) → ended past ≡ true
     → ended (later ++ past) ≡ true
@@ -279,7 +279,7 @@ no_start (Suspended handle) i h = absurd (false≢true h)
 no_start (Resumed handle) i h = absurd (false≢true h)
 no_start Ended i h = absurd (false≢true h)
 
--- the entries behind the end
+-- the entries after the end
 pub record WoundUp (most : ℕ) (past : List (Entry ServerNote))
     (later : List (Entry ServerNote)) : Type 0 where
   pub none_open : (i : ℕ) → is_open (later ++ past) i ≡ false
@@ -314,7 +314,7 @@ wound_up most past (e ∷ later) legal end none =
           ∙ append-nil (had (later ++ past) x) ∙ rest.had_is x;
     }
 
--- behind the end no handler is registered
+-- after the end no handler is registered
 one_begun_up : (e d : Entry ServerNote) (past : List (Entry ServerNote)) → winds_up e ≡ true
     → IsBegun (d ∷ past) e
 one_begun_up (Opened handle mask) d past h = absurd (false≢true h)
@@ -359,7 +359,7 @@ pub run_keeps : (t : Terms) (past : List (Entry ServerNote)) → Begins past
     → list_any removes past ≡ false
 run_keeps t past b turns end = run_removes t past None b turns end
 
--- ---- what stands behind the end registers nobody and follows no wait
+-- ---- what stands after the end registers nobody and follows no wait
 
 no_open : (e : Entry ServerNote) (x : ℕ) → winds_up e ≡ true → opens x e ≡ false
 no_open (Opened handle mask) x h = absurd (false≢true h)

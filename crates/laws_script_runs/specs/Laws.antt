@@ -25,7 +25,7 @@ pub record ActsAsServer {H E : Type 0} (means : Handling H E ServerNote) (t : Te
   pub installs : (said : ServerNote) → means.installs said ≡ is_accepted said
 
 -- What the two laws below take: a whole journal over a script, which goes by turns alone before it
--- ends, where nothing can be reported any more and nothing is to be started.
+-- ends, when nothing can be reported any more and nothing is to be started.
 pub record RunsOver {H E : Type 0} (means : Handling H E ServerNote) (t : Terms) (idle : Option ℕ)
     (groups : List ScriptGroup) (journal : List (Entry ServerNote)) : Type 0 where
   pub script : are_steps (reverse (steps_of groups)) ≡ true
@@ -39,7 +39,7 @@ pub record RunsOver {H E : Type 0} (means : Handling H E ServerNote) (t : Terms)
   pub follows : Follows (groups_told groups) journal
   pub turns : AreLeft (steps_of groups) idle (past_of journal)
 
--- Where there is room for all connections of the script beside the acceptor, and the net took each
+-- If there is room for all connections of the script beside the acceptor, and the net took each
 -- end in, no handler was refused.
 abbrev pub NoneIsRefused : {H E : Type 0} → Handling H E ServerNote → Type 0
 NoneIsRefused means =
@@ -48,7 +48,7 @@ NoneIsRefused means =
     → opened (steps_of groups) < t.most → list_any is_fault journal ≡ false
     → list_any is_refusal journal ≡ false
 
--- Where no timer was set, no handler refused and none closed for want of memory, the lines of the
+-- If no timer was set, no handler refused and none closed for want of memory, the lines of the
 -- journal, connection after connection, are the grouped text of the script.
 abbrev pub GroupsLines : {H E : Type 0} → Handling H E ServerNote → Type 0
 GroupsLines means =

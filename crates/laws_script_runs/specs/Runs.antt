@@ -27,7 +27,7 @@ pub record HasNoWork {N : Type 0} (past : List (Entry N)) : Type 0 where
   pub no_pick : (i : ℕ) → is_pick past i ≡ false
   pub none_open : (i : ℕ) → is_open past i ≡ false
 
--- here the run may end: directly behind the entries of a wait that the script answered with Over,
+-- here the run may end: directly after the entries of a wait that the script answered with Over,
 -- with nothing to start and nothing open
 pub record IsAtOver (groups : List Group) (past : List (Entry ServerNote)) : Type 0 where
   pub behind : follows_ready past ≡ true
@@ -64,7 +64,7 @@ abbrev pub is_refusal : {N : Type 0} → Entry N → Bool
 is_refusal (Refused live fault said) = true
 is_refusal _ = false
 
--- an `Opened` behind the first entry stands only behind a turn that accepted a connection
+-- an `Opened` after the first entry stands only after a turn that accepted a connection
 abbrev pub note_settled : List (Entry ServerNote) → Option ServerNote
 note_settled (Closed handle said ∷ (Returned event answer note ∷ past)) = Some note
 note_settled (Returned event answer note ∷ past) = Some note

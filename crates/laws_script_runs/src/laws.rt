@@ -5,7 +5,7 @@ ghost use Rattle.laws_script_runs.specs.Laws.{NoneIsRefused, GroupsLines};
 use log_handler::ServerNote;
 use reactor_model::EventHandler;
 
-/// Where there is room for all connections of the script beside the acceptor, a run refuses none.
+/// If there is room for all connections of the script beside the acceptor, a run refuses none.
 pub fn none_is_refused<H: EventHandler<Note = ServerNote>>()
     ensures { NoneIsRefused H.means }
 {}

@@ -90,7 +90,7 @@ module _ (conn : ℕ) (idle : Option ℕ) where
       same_course x.0 p q items (turn_tells item.upcall conn idle start item x.0 x.1.serves t) mp mq
       x.2 (subst (λ (n : Progress). Course conn idle n items q) (sym s.after) y.2)
 
-  -- two turns behind the same turns, of one upcall and at one moment, are one
+  -- two turns after the same turns, of one upcall and at one moment, are one
   pub next_turn : (start p q : Progress) (items : List (Item ServerNote)) (a b : Item ServerNote)
       (more other : List (Item ServerNote)) → Tells start → p.kept ≢ Some end.NoMemory
       → q.kept ≢ Some end.NoMemory

@@ -28,7 +28,7 @@ use Rattle.laws_script_serial.proofs.Leaving.{HasAll}
 use Rattle.laws_script_serial.proofs.Reports.{gathered, follows_front, none_behind}
 
 module _ (most : ℕ) (idle : Option ℕ) (groups : List ScriptGroup) where
-  -- an entry, those behind it and those before it
+  -- an entry, those after it and those before it
   pub record Entrance (later : List (Entry ServerNote)) (e : Entry ServerNote)
       (past : List (Entry ServerNote)) : Type 0 where
     pub legal : is_legal most (later ++ e ∷ past) ≡ true

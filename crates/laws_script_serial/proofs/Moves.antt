@@ -1,4 +1,4 @@
--- What may follow in a serial journal where no turn is under way and no handler is about to be
+-- What may follow in a serial journal when no turn is under way and no handler is about to be
 -- registered or closed.
 use Rattle.std.proofs.Common.{◌≡◌, ◌∙◌, ◌<◌, ◌≤◌, ◌⊎◌, inl, inr, ℕ, ◌==◌, Bool, true, false, not}
 use Rattle.std.proofs.Common.{◌||◌, List, [], ◌∷◌, ◌++◌, Option, refl, sym, ap, arith, append-nil}

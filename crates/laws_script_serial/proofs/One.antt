@@ -1,4 +1,4 @@
--- Two serial journals of one script: behind the same entries stands the same entry, and one ends
+-- Two serial journals of one script: after the same entries stands the same entry, and one ends
 -- where the other does.
 use Rattle.std.proofs.Common.{◌≡◌, ◌∙◌, ℕ, Bool, true, List, [], ◌∷◌, ◌++◌, Option, Some, None}
 use Rattle.std.proofs.Common.{refl, sym, subst, ap, append_assoc, append-nil, reverse}
@@ -264,7 +264,7 @@ module _ (most : ℕ) (idle : Option ℕ) (groups : List ScriptGroup) where
 
   -- ---- the end
 
-  -- where all handlers were closed and the reactor was stopped, nothing follows
+  -- if all handlers were closed and the reactor was stopped, nothing follows
   none_more : (later : List (Entry ServerNote)) (e : Entry ServerNote)
       (past : List (Entry ServerNote)) → Enters later e past → ended past ≡ true
       → ((x : ℕ) → was_opened past x ≡ true → was_closed past x ≡ true) → ⊥

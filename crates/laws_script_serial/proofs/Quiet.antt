@@ -1,5 +1,5 @@
--- Where each turn is settled at once, nothing is open and no handler waits for its closing, but
--- directly behind what makes it so.
+-- If each turn is settled at once, nothing is open and no handler waits for its closing, but
+-- directly after what makes it so.
 use Rattle.std.proofs.Common.{◌≡◌, ◌∙◌, ℕ, Bool, true, false, ◌||◌, List, [], ◌∷◌, sym, ap, Option}
 use Rattle.std.proofs.Common.{Some, None, ⊎_elim}
 use Rattle.std.proofs.lemmas.Bool.{false≢true, or_cases, or_parts, both_ways, eqb-true, eq-eqb}

@@ -1,4 +1,4 @@
--- The reports of a wait that are taken, and how many of them stand behind it so far.
+-- The reports of a wait that are taken, and how many of them stand after it so far.
 use Rattle.std.proofs.Common.{◌≡◌, ◌∙◌, ◌⊎◌, inl, inr, ℕ, true, false, List, [], ◌∷◌, ◌++◌, refl}
 use Rattle.std.proofs.Common.{sym, append_assoc, ⊎_elim}
 use Rattle.std.specs.List.{filter}
@@ -33,7 +33,7 @@ use Rattle.laws_script_runs.specs.reactor_model.specs.Entries.{taken_before}
 use Rattle.laws_script_runs.specs.laws_script_told.specs.Told.{is_taken_in, time_left_in, told}
 
 -- the reports of the last wait that are taken, as the script tells them, and those that stand
--- behind it
+-- after it
 abbrev pub reports_told : List Group → List (Entry ServerNote) → List Report
 reports_told groups [] = []
 reports_told groups (Polled moment ∷ past) =
@@ -71,9 +71,9 @@ told_made groups most (Ready handle kind ∷ past) taken legal h f =
     ∙ sym (append_assoc (reports_made past) (record { handle = handle; kind = kind } ∷ []) taken)
 told_made groups most (_ ∷ past) taken legal h f = absurd (false≢true h)
 
--- ---- what stands behind an entry
+-- ---- what stands after an entry
 
--- the reports that are taken behind it, before the next wait
+-- the reports that are taken after it, before the next wait
 abbrev pub gathered : List (Entry ServerNote) → List Report → List Report
 gathered [] taken = taken
 gathered (e ∷ later) taken = gathered later (taken_before e taken)
@@ -85,8 +85,8 @@ follows_front groups [] past taken f = f
 follows_front groups (e ∷ later) past taken f =
     follows_front groups later past (taken_before e taken) f.1
 
--- none, where the entries of the wait are over: there is a further wait, or no report stands behind
--- at all
+-- none, if the entries of the wait are over: there is a further wait, or no report comes after
+-- this one
 record NoneBehind (later past : List (Entry ServerNote)) : Type 0 where
   keeps : (taken : List Report) → gathered later taken ≡ taken
   over : follows_ready (later ++ past) ≡ false

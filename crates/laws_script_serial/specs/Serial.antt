@@ -45,7 +45,7 @@ is_foreign (Suspended handle) = true
 is_foreign (Resumed handle) = true
 is_foreign _ = false
 
--- Directly behind a `Started` stands the `Returned` of its event, and directly behind a `Returned`
+-- Directly after a `Started` stands the `Returned` of its event, and directly after a `Returned`
 -- with Close the `Closed` of its handle.
 abbrev pub IsSettledAtOnce : List (Entry ServerNote) → Entry ServerNote → Type 0
 IsSettledAtOnce (Started event ∷ past) (Returned returned answer said) = returned ≡ event
@@ -55,8 +55,8 @@ IsSettledAtOnce (Returned event Close said ∷ past) (Closed handle other) =
 IsSettledAtOnce (Returned event Close said ∷ past) e = ⊥
 IsSettledAtOnce past e = Unit {0}
 
--- Directly behind a turn that accepted a connection it is registered or, where there is no room for
--- it, refused; and directly behind that stands its timer, where there is an idle time. There are no
+-- Directly after a turn that accepted a connection it is registered or, if there is no room for
+-- it, refused; and directly after that stands its timer, if there is an idle time. There are no
 -- other registrations but the first entry, no other timers and no other refusals.
 abbrev pub has_room : ℕ → List (Entry ServerNote) → Bool
 has_room most past = not (live past == most) && not (opened past == most_handles)
@@ -86,7 +86,7 @@ InstallsOnly most idle (Opened handle mask ∷ (d ∷ past)) e = IsTimedBy idle 
 InstallsOnly most idle past e = is_installing e ≡ false
 
 -- Before each wait there is nothing to start and no deadline is reached; and the reactor is stopped
--- directly behind the entries of the first wait that the script answers with Over and that leaves
+-- directly after the entries of the first wait that the script answers with Over and that leaves
 -- neither.
 pub record IsSpent {N : Type 0} (past : List (Entry N)) : Type 0 where
   pub no_pick : (i : ℕ) → is_pick past i ≡ false
@@ -100,7 +100,7 @@ WaitsOnly groups past (Polled moment) = IsSpent past × (is_over_here groups pas
 WaitsOnly groups past Ended = IsSpent past × (is_over_here groups past ≡ true)
 WaitsOnly groups past e = Unit {0}
 
--- Behind `Ended` stand, for each handle alive there in rising order, its `Removed` and `Closed`.
+-- After `Ended` stand, for each handle alive there in rising order, its `Removed` and `Closed`.
 -- There is no other `Removed`.
 abbrev pub ClosesUp : List (Entry ServerNote) → Entry ServerNote → Type 0
 ClosesUp past (Removed handle) = (ended past ≡ true) × (any_below handle.0 (is_alive past) ≡ false)

@@ -175,7 +175,7 @@ module _ {H E : Type 0} (means : Handling H E ServerNote) (t : Terms) (offers : 
       answers-tell past taken calls (and_parts _ _ legal).1 are plays in
       record { last = more.last; many = more.many }
 
--- where the wait of the last number was answered Over, the last answer was
+-- if the wait of the last number was answered Over, the last answer was
 pub over-last : (n : ℕ) (told : List Waited) → n ≡ length told → IsOverAt n told
     → is_over (last_of told) ≡ true
 over-last n told many o = first o.later o.parts where
@@ -188,7 +188,7 @@ over-last n told many o = first o.later o.parts where
             → ⊥
         too-many later more = let counted = o.count in omega (arith, many, counted, more)
 
--- ---- behind the end
+-- ---- after the end
 
 -- removals and closings leave the last wait, and the number of waits
 pub closings-wait : (groups : List Group) (closing past : List (Entry ServerNote))

@@ -47,7 +47,7 @@ pub record FollowsScript (groups : List ScriptGroup) (idle : Option ℕ)
   pub turns : AreLeft (steps_of groups) idle (past_of journal)
   pub none_failed : list_any is_fault journal ≡ false
 
--- The run goes by turns behind the registration of the acceptor, and ended behind a wait that the
+-- The run goes by turns after the registration of the acceptor, and ended after a wait that the
 -- net answered Over, with nothing to start and nothing open; then the handlers that were alive were
 -- closed.
 pub record IsServedToOver (G : Ghosts ScriptEnd) (t : Terms) (journal : List (Entry ServerNote))

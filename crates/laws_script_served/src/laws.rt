@@ -18,7 +18,7 @@ pub fn scripts_are_followed()
     ensures { ScriptsAreFollowed ⟦<ScriptEnd as PeerEnd>⟧ }
 {}
 
-/// Where the run ended behind a wait that the net answered Over, the script answers it so too.
+/// If the run ended after a wait that the net answered Over, the script answers it so too.
 pub fn scripts_end_over()
     ensures { ScriptsEndOver ⟦<ScriptEnd as PeerEnd>⟧ }
 {}

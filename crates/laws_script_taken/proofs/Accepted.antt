@@ -1,4 +1,4 @@
--- Each note of a connection stands behind its acceptance.
+-- Each note of a connection stands after its acceptance.
 use Rattle.std.proofs.Common.{ℕ, zero, suc, ◌≡◌, ◌⊎◌, ◌∙◌, inl, inr, true, List, [], ◌∷◌, ◌++◌, sym}
 use Rattle.std.proofs.Common.{ap, subst, Option, Some, None, append_assoc}
 use Rattle.std.specs.List.{list_any}
@@ -50,7 +50,7 @@ use Rattle.laws_script_taken.proofs.Whole.{BegunRun, as_begun, no_turn}
 abbrev AcceptedIn : ℕ → List (Entry ServerNote) → Type 0
 AcceptedIn c past = list_any (accepts_connection c) past ≡ true
 
--- where a handler was offered, its connection was accepted
+-- if a handler was offered, its connection was accepted
 offered_in : (c : ℕ) (s : List (Entry ServerNote)) (o : Origin ServerNote) → offered_here s ≡ Some o
     → o.note ≡ note.Accepted c → AcceptedIn c s
 offered_in c s o here says = let turn = accepted_here s o c here says in

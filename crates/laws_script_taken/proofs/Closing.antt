@@ -1,4 +1,4 @@
--- The handler of a connection that was accepted, or none where it was refused, with all its turns,
+-- The handler of a connection that was accepted, or none if it was refused, with all its turns,
 -- and the entry that closes it.
 use Rattle.std.proofs.Common.{ℕ, suc, ◌≡◌, ◌≢◌, ◌<◌, ◌∙◌, arith, Bool, true, false, cond, ◌||◌}
 use Rattle.std.proofs.Common.{List, [], ◌∷◌, ◌++◌, refl, sym, ap, subst, Option, Some, None, ⊎_elim}
@@ -78,7 +78,7 @@ use Rattle.laws_script_taken.proofs.Notes.{had_of}
 use Rattle.laws_script_taken.proofs.Whole as whole
 use Rattle.laws_script_taken.proofs.Whole.{BegunRun}
 
--- why it was closed with this word: by its own end; removed behind the end of the run; or refused
+-- why it was closed with this word: by its own end; removed after the end of the run; or refused
 pub data Because (kept : Option EndKind) (word : EndKind) (items : List (Item ServerNote))
     (past : List (Entry ServerNote)) : Type 0 where
   by_itself : kept ≡ Some word → Because kept word items past
@@ -87,7 +87,7 @@ pub data Because (kept : Option EndKind) (word : EndKind) (items : List (Item Se
       → Because kept word items past
   refused : word ≡ end.Refused → kept ≡ None → items ≡ [] → Because kept word items past
 
--- what stands directly behind it
+-- what stands directly after it
 data OfferOf (behind : List (Entry ServerNote)) : Type 0 where
   opened_here : (handle : Handle) (mask : _) (rest : List (Entry ServerNote))
       → behind ≡ Opened handle mask ∷ rest → OfferOf behind
@@ -494,7 +494,7 @@ module _ {H E : Type 0} (means : Handling H E ServerNote) (t : Terms) (idle : Op
     base_is : past_of (before ++ turn ∷ []) ≡ base
     base_is = past_split before [] turn
 
-    -- directly behind the turn
+    -- directly after the turn
     at_base : (e : Entry ServerNote) (rest : List (Entry ServerNote)) → behind ≡ e ∷ rest
         → all ≡ past_of rest ++ e ∷ base
     at_base e rest b =
@@ -503,7 +503,7 @@ module _ {H E : Type 0} (means : Handling H E ServerNote) (t : Terms) (idle : Op
         ∙ past_split (before ++ turn ∷ []) rest e
         ∙ ap (λ (p : List (Entry ServerNote)). past_of rest ++ e ∷ p) base_is
 
-    -- behind a closing between
+    -- after a closing between
     at_close : (handle : Handle) (word : ServerNote) (e : Entry ServerNote)
         (rest : List (Entry ServerNote)) → behind ≡ Closed handle word ∷ (e ∷ rest)
         → all ≡ past_of rest ++ e ∷ (Closed handle word ∷ base)

@@ -1,5 +1,5 @@
 -- What a connection took of the story that a script has of it: a front of its bytes, and all of
--- them where it came to the end or to a failure.
+-- them if it came to the end or to a failure.
 use Rattle.std.proofs.Common.{◌≡◌, ◌∙◌, ◌+◌, ◌-◌, ◌≤◌, ℕ, min, arith, Bool, true, false, List, []}
 use Rattle.std.proofs.Common.{◌∷◌, ◌++◌, length, take, drop, Option, Some, None, refl, sym, subst}
 use Rattle.std.proofs.Common.{ap, append-nil, append_assoc, length-append, take-append-drop}
@@ -239,7 +239,7 @@ course_takes c idle steps moment had p course =
       is = ap (take (length p.taken)) (sym whole) ∙ take-append_seam p.taken r.rest;
     }
 
--- ---- where it came to the end, or to a failure
+-- ---- if it came to the end, or to a failure
 
 abbrev pub stops_reading : Part → Bool
 stops_reading Ending = true

@@ -221,7 +221,7 @@ module _ (most : ℕ) (steps : List ScriptStep) (idle : Option ℕ) (all : List 
       }) refl))
       (λ (n : accepts_connection c e ≡ false). n) (cases_Bool (accepts_connection c e))
 
-  -- behind its acceptance both say the same
+  -- after its acceptance both say the same
   pub hears : (later k : List (Entry ServerNote)) → all ≡ later ++ (k ++ turn ∷ past)
       → Hears (k ++ turn ∷ past)
   hears later [] is = ap (λ (b : Bool). cond b (started_at past event) (last_heard c past))

@@ -206,7 +206,7 @@ last_note c (e ∷ past) ns said is = ⊎_elim
 
 -- ---- the turns of its handler
 
--- what a handler has had, and nothing where there is none
+-- what a handler has had, and nothing if there is none
 abbrev pub had_of : Option ℕ → List (Entry ServerNote) → List (Item ServerNote)
 had_of None past = []
 had_of (Some x) past = had past x

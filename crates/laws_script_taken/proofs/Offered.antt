@@ -1,4 +1,4 @@
--- What stands behind the turns that return behind the end of a run.
+-- What comes after the turns that return after the end of a run.
 use Rattle.std.proofs.Common.{ℕ, ◌≡◌, ◌≤◌, ◌⊎◌, ◌∙◌, inl, inr, true, List, [], ◌∷◌, ◌++◌, length}
 use Rattle.std.proofs.Common.{sym, ap, arith, append_assoc}
 use Rattle.std.specs.List.{list_all}

@@ -98,7 +98,7 @@ accept_turn c _ h = absurd (false≢true h)
 
 -- ---- offers
 
--- directly behind an entry, or behind the `Closed` directly behind it
+-- directly after an entry, or after the `Closed` directly after it
 pub data Behind (a : Entry ServerNote) (p s : List (Entry ServerNote)) : Type 0 where
   directly : s ≡ a ∷ p → Behind a p s
   closed_between : (handle : Handle) (said : ServerNote) → s ≡ Closed handle said ∷ (a ∷ p)
@@ -477,7 +477,7 @@ module _ (most : ℕ) (steps : List ScriptStep) (idle : Option ℕ) (all : List 
           → h ≡ k
       handles q = cc
 
-  -- and no handler where it was refused
+  -- and no handler if it was refused
   pub not_both : (c x live : ℕ) (fault : Bool) (said : ServerNote) (s : List (Entry ServerNote))
       → OpenedFor c x → OfferAt c (Refused live fault said) s → ⊥
   not_both c x live fault said s o w = other (one_offer c _ _ _ _ o.offer w).offer

@@ -53,7 +53,7 @@ cuts {A} (x ∷ xs) a ys (u ∷ us) b vs h = more (head h) (cuts xs a ys us b vs
     more e (second_cut m i k) = second_cut m
         (ap (λ (z : A). z ∷ xs) e ∙ ap (λ (l : List A). u ∷ l) i) k
 
--- no list is a part of itself behind an entry
+-- no list is a part of itself after an entry
 pub not_behind_itself : {A : Type 0} (m : List A) (a : A) (s : List A) → s ≡ m ++ a ∷ s → ⊥
 not_behind_itself m a s h =
     let long : length s ≡ length (m ++ a ∷ s) = ap length h in

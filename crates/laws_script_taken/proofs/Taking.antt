@@ -1,5 +1,5 @@
--- What a connection took and noted in a run over a script, and what stands behind the word with
--- which it was closed.
+-- What a connection took and noted in a run over a script, and what led to the word with which it
+-- was closed.
 use Rattle.std.proofs.Common.{ℕ, suc, ◌≡◌, ◌≢◌, ◌∙◌, ◌+◌, ◌-◌, ◌≤◌, ◌<◌, ◌||◌, Bool, true, false}
 use Rattle.std.proofs.Common.{List, [], ◌∷◌, ◌++◌, length, take, reverse, refl, sym, ap, subst}
 use Rattle.std.proofs.Common.{arith, Option, Some, None, ⊎_elim, append-nil, append_assoc}
@@ -122,7 +122,7 @@ ended_itself kept word items past (lacking e k) s r = k ∙ ap Some (sym e)
 ended_itself kept word items past (removed e k g) s r = absurd (s e)
 ended_itself kept word items past (refused e k i) s r = absurd (r e)
 
--- where the word is another than that for want of memory, there was memory
+-- if the word is another than that for want of memory, there was memory
 had_memory : (kept : Option EndKind) (word : EndKind) (items : List (Item ServerNote))
     (past : List (Entry ServerNote)) → Because kept word items past → word ≢ end.NoMemory
     → kept ≢ Some end.NoMemory
@@ -326,7 +326,7 @@ module _ {H E : Type 0} (means : Handling H E ServerNote) (t : Terms) (idle : Op
       append_notes [] = refl
       append_notes (item ∷ items) = ap (λ (s : List ServerNote). item.note ∷ s) (append_notes items)
 
-  -- it stands behind the acceptance, and at its moment
+  -- it stands after the acceptance, and at its moment
   record Timed (l : Lasts c idle start e.now (had_of e.owner all)) (event : ℕ)
       (before : List (Entry ServerNote)) : Type 0 where
     moment : l.item.moment ≡ started_at before event

@@ -63,7 +63,7 @@ use Rattle.laws_script_taken.proofs.Offers.{accept_turn}
 use Rattle.laws_script_taken.proofs.Places.{found, Cuts, same_cut, first_cut, second_cut, cuts}
 use Rattle.laws_script_taken.proofs.Places.{holds_at}
 
--- ---- what stands behind a turn, with more behind it
+-- ---- what stands after a turn, with more after it
 
 offer_more : {N : Type 0} (m more : List (Entry N)) → IsOfferBehind m → IsOfferBehind (m ++ more)
 offer_more [] more h = absurd h
@@ -78,7 +78,7 @@ offers_more (Opened handle mask ∷ m) more h = tt
 offers_more (Refused live fault said ∷ m) more h = tt
 offers_more (_ ∷ m) more h = absurd h
 
--- ---- handlers are removed only behind the end
+-- ---- handlers are removed only after the end
 
 abbrev RemovesBehind : List (Entry ServerNote) → Entry ServerNote → Type 0
 RemovesBehind past e = winding.removes e ≡ true → ended past ≡ true
@@ -139,7 +139,7 @@ module _ {H E : Type 0} (means : Handling H E ServerNote) (t : Terms) (idle : Op
   abbrev pub wound : List (Entry ServerNote)
   wound = past_of r.closing
 
-  -- the whole past: what stands behind the end, the end, and the run
+  -- the whole past: what stands after the end, the end, and the run
   abbrev pub all : List (Entry ServerNote)
   all = past_of journal
 
@@ -197,7 +197,7 @@ module _ {H E : Type 0} (means : Handling H E ServerNote) (t : Terms) (idle : Op
   first_opened = ap (λ (p : List (Entry ServerNote)). was_opened p 0) all_is
       ∙ opened_later wound (Ended ∷ run) 0 first_run
 
-  -- ---- a handler that did not end itself is closed behind the end
+  -- ---- a handler that did not end itself is closed after the end
 
   removes : EachStep RemovesBehind all
   removes = subst (EachStep RemovesBehind) (sym all_is)
@@ -261,7 +261,7 @@ module _ {H E : Type 0} (means : Handling H E ServerNote) (t : Terms) (idle : Op
 
 -- ---- a run that registered nobody
 
--- behind an end that nothing stands before, no turn returns
+-- after an end that nothing stands before, no turn returns
 module _ (most : ℕ) (wound : List (Entry ServerNote))
     (legal : is_legal most (wound ++ Ended ∷ []) ≡ true) where
   none_returned : (later past : List (Entry ServerNote)) (event : ℕ) (answer : Answer)
@@ -283,7 +283,7 @@ module _ (most : ℕ) (wound : List (Entry ServerNote))
 module _ {H E : Type 0} (means : Handling H E ServerNote) (t : Terms) (idle : Option ℕ)
     (groups : List ScriptGroup) (journal : List (Entry ServerNote))
     (r : RunsSomehow means t idle groups journal) where
-  -- where nobody was registered, no turn returns
+  -- if nobody was registered, no turn returns
   pub no_turn : r.run ≡ [] → (before : List (Entry ServerNote)) (event : ℕ) (answer : Answer)
       (said : ServerNote) (after : List (Entry ServerNote))
       → journal ≡ before ++ Returned event answer said ∷ after → ⊥

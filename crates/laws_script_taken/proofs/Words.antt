@@ -1,4 +1,4 @@
--- What stands behind the last turn of a connection, and what it has taken before.
+-- What stands after the last turn of a connection, and what it has taken before.
 use Rattle.std.proofs.Common.{ℕ, ◌≡◌, ◌≢◌, ◌∙◌, ◌≤◌, ◌⊎◌, inl, inr, Bool, true, false, List, []}
 use Rattle.std.proofs.Common.{◌∷◌, ◌++◌, length, refl, sym, ap, subst, Option, Some, None}
 use Rattle.laws_script_complete.specs.ev_types.specs.declared.upcall.Upcall.{Upcall}
@@ -36,7 +36,7 @@ use Rattle.laws_script_complete.specs.log_handler.specs.Connection.{piece_room}
 
 -- ---- turns before the last
 
--- the turns of a course before some more: it went on behind them
+-- the turns of a course before some more: it went on after them
 pub record Earlier (conn : ℕ) (idle : Option ℕ) (start : Progress)
     (had : List (Item ServerNote)) : Type 0 where
   pub then : Progress

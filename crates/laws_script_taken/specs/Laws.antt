@@ -22,7 +22,7 @@ use Rattle.laws_script_complete.specs.laws_script_runs.specs.Runs.{IsWhole, firs
 use Rattle.laws_script_complete.specs.laws_script_runs.specs.Runs.{is_closing}
 use Rattle.laws_script_taken.specs.Taken.{accepts_connection, IsTaken}
 
--- behind each turn that installs a handler, or behind the `Closed` directly behind it, that handler
+-- after each turn that installs a handler, or after the `Closed` directly after it, that handler
 -- is registered or refused
 abbrev pub OffersEach : {H E N : Type 0} → Handling H E N → List (Entry N) → Type 0
 OffersEach {N = N} means entries =
@@ -30,8 +30,8 @@ OffersEach {N = N} means entries =
     → entries ≡ before ++ Returned event answer said ∷ behind
     → means.installs said ≡ true → OffersBehind behind
 
--- So it is behind the end of a run, where nothing stands there but removals and closings, or where
--- the journal goes by turns behind its end too.
+-- So it is after the end of a run, if nothing stands there but removals and closings, or if
+-- the journal goes by turns after its end too.
 abbrev pub OffersBehindTheEnd : {H E N : Type 0} → Handling H E N → Type 0
 OffersBehindTheEnd {N = N} means =
     (t : Terms) (run closing : List (Entry N)) → (list_all is_closing closing ≡ true)
@@ -39,7 +39,7 @@ OffersBehindTheEnd {N = N} means =
 
 -- What the next laws take: a whole journal over a script, however its run ended. Its run registered
 -- no handler, or begins with the registration of the acceptor; it goes by turns alone before it
--- ends. The upcalls that were open at its end return behind that, and what they install is refused
+-- ends. The upcalls that were open at its end return after that, and what they install is refused
 -- there. Each handler leaves what it does that had its turns over its story.
 pub record RunsSomehow {H E : Type 0} (means : Handling H E ServerNote) (t : Terms)
     (idle : Option ℕ) (groups : List ScriptGroup) (journal : List (Entry ServerNote)) : Type 0 where
@@ -64,7 +64,7 @@ ConnectionsAreTaken means =
     → (c : ℕ) → list_any (accepts_connection c) journal ≡ true
     → IsTaken (steps_of groups) idle journal c
 
--- Each note of a connection, of its turns and of its end, stands behind its acceptance.
+-- Each note of a connection, of its turns and of its end, stands after its acceptance.
 abbrev pub NotesAreOfAccepted : {H E : Type 0} → Handling H E ServerNote → Type 0
 NotesAreOfAccepted means =
     (t : Terms) (idle : Option ℕ) (groups : List ScriptGroup) (journal : List (Entry ServerNote))

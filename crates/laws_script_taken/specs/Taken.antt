@@ -84,7 +84,7 @@ stop_taken c steps entries = (decode (taken c steps entries)).stop
 abbrev pub IsSound : ℕ → List ScriptStep → List (Entry ServerNote) → Type 0
 IsSound c steps entries = (at : ℕ) → stop_taken c steps entries ≢ Malformed at
 
--- where it goes on, it has noted the records of the bytes taken, and no bad record is among these
+-- if it goes on, it has noted the records of the bytes taken, and no bad record is among these
 pub record GoesOn (c : ℕ) (steps : List ScriptStep) (entries : List (Entry ServerNote)) : Type 0
   where
     pub records : noted c entries ≡ records_taken c steps entries
@@ -153,7 +153,7 @@ pub record WasQuiet (c : ℕ) (steps : List ScriptStep) (idle : Option ℕ)
   pub quiet : time ≤ started_at (past_of before) event - last_heard c (past_of before)
   pub sound : IsSound c steps journal
 
--- What stands behind the word with which it was closed; these entries stand before its closing.
+-- What the word tells with which it was closed; these entries stand before its closing.
 abbrev pub IsClosedAs : EndKind → ℕ → List ScriptStep → Option ℕ → List (Entry ServerNote)
     → List (Entry ServerNote) → Type 0
 IsClosedAs end.End c steps idle journal before = ReachedEnd c steps journal Clean
@@ -166,14 +166,14 @@ IsClosedAs end.Idle c steps idle journal before = WasQuiet c steps idle journal
 IsClosedAs end.Stopped c steps idle journal before = ended (past_of before) ≡ true
 IsClosedAs end.Refused c steps idle journal before = took c journal ≡ 0
 
--- the entry closes connection c with this word: `Refused` stands exactly where its handler was not
+-- the entry closes connection c with this word: `Refused` stands exactly if its handler was not
 -- registered
 abbrev pub ClosesAs : ℕ → EndKind → Entry ServerNote → Type 0
 ClosesAs c word (Closed handle said) = (said ≡ note.Finished c word) × (word ≢ end.Refused)
 ClosesAs c word (Refused live fault said) = (said ≡ note.Finished c word) × (word ≡ end.Refused)
 ClosesAs c word _ = ⊥
 
--- the one closing of connection c in a journal, which stands behind its acceptance
+-- the one closing of connection c in a journal, which stands after its acceptance
 pub record IsClosedOnce (c : ℕ) (journal : List (Entry ServerNote))
     (before : List (Entry ServerNote)) (word : EndKind) : Type 0 where
   pub closing : Entry ServerNote
@@ -190,12 +190,12 @@ pub record IsTaken (steps : List ScriptStep) (idle : Option ℕ) (journal : List
   -- the script has it, and it took no more bytes than it brings there
   pub came : c < opened steps
   pub within : took c journal ≤ length (bytes_of c steps)
-  -- it was closed once, and what stands behind the word holds
+  -- it was closed once, and what the word tells is so
   pub before : List (Entry ServerNote)
   pub word : EndKind
   pub once : IsClosedOnce c journal before word
   pub cause : IsClosedAs word c steps idle journal before
-  -- it noted the records of the bytes taken; those of the last turn are missing where there was no
+  -- it noted the records of the bytes taken; those of the last turn are missing if there was no
   -- memory for them
   pub records : word ≢ end.NoMemory → noted c journal ≡ records_taken c steps journal
   -- so it did before each of its turns

@@ -13,14 +13,14 @@ pub fn connections_are_taken<H: EventHandler<Note = ServerNote>>()
     ensures { ConnectionsAreTaken H.means }
 {}
 
-/// Each note of a connection in the journal of a run, of its turns and of its end, stands behind
+/// Each note of a connection in the journal of a run, of its turns and of its end, stands after
 /// its acceptance.
 pub fn notes_are_of_accepted<H: EventHandler<Note = ServerNote>>()
     ensures { NotesAreOfAccepted H.means }
 {}
 
-/// Behind the end of a run each handler that a turn installs is refused, where nothing stands there
-/// but removals and closings, or where the journal goes by turns there too.
+/// After the end of a run each handler that a turn installs is refused, if nothing stands there
+/// but removals and closings, or if the journal goes by turns there too.
 pub fn offers_behind_the_end<H: EventHandler>()
     ensures { OffersBehindTheEnd H.means }
 {}

@@ -405,7 +405,7 @@ module _ (groups : List ScriptGroup) (most x : ℕ) (end : StepEnd) where
       none_filtered (is_taken_in past) _ none ∙ sym none)
       (cases_Bool (was_opened past x))
 
-  -- reports stand only behind a wait, so these are all there are, or there are none
+  -- reports stand only after a wait, so these are all there are, or there are none
   abbrev Aligned : List Report → List (Entry ServerNote) → Type 0
   Aligned taken past = (taken ≡ []) ⊎ (follows_ready past ≡ true)
 

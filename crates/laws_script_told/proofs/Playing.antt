@@ -50,7 +50,7 @@ AreSeatsRight x end (seat ∷ seats) = is_seat_right x end seat × AreSeatsRight
 abbrev pub is_read : Step → Bool
 is_read step = is_input (upcall_of step.kind)
 
--- a step that is reported is reported of the handle exactly where it is at the end
+-- a step that is reported is reported of the handle exactly if it is at the end
 abbrev ReportsRight : ℕ → StepEnd → Step → Option Report → Type 0
 ReportsRight x end step None = Unit {0}
 ReportsRight x end step (Some report) = is_report_of x report ≡ is_step_at end step
@@ -335,7 +335,7 @@ over_leaves most p over = by_given (given p.seats most_reports p.held) refl over
     by_given [] none h = by_groups p.groups refl none h
     by_given (report ∷ reports) some h = absurd (not_over _ _ h)
 
--- where the handle has a seat at the end, to be read, nothing at the end is held that cannot be
+-- if the handle has a seat at the end, to be read, nothing at the end is held that cannot be
 -- reported
 abbrev pub has_seat : StepEnd → Seat → Bool
 has_seat end seat = is_end seat.end end && seat.mask.read

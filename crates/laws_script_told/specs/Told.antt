@@ -68,7 +68,7 @@ abbrev pub IsToldEntry : List Group → List (Entry ServerNote) → List Report 
 IsToldEntry groups past taken (Polled moment) = IsTold groups past moment taken
 IsToldEntry groups past taken _ = Unit {0}
 
--- each wait of the past was as the script tells, where these reports were taken behind it
+-- each wait of the past was as the script tells, if these reports were taken after it
 abbrev pub FollowsBefore : List Group → List (Entry ServerNote) → List Report → Type 0
 FollowsBefore groups [] taken = Unit {0}
 FollowsBefore groups (e ∷ past) taken =

@@ -52,7 +52,7 @@ plain-right (Pausing ∷ a) b h = plain-right a b h
 plain-right (Ending ∷ a) b h = absurd (cc h)
 plain-right (Failing ∷ a) b h = absurd (cc h)
 
--- pieces, each with a pause behind it
+-- pieces, each with a pause after it
 abbrev pub paired : List (List ℕ) → List Part
 paired [] = []
 paired (bytes ∷ pieces) = Piece bytes ∷ Pausing ∷ paired pieces

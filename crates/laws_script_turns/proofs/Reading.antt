@@ -48,7 +48,7 @@ pub record Reads (parts : List Part) (quiet : ℕ) (p : Progress) : Type 0 where
   pub plain : is_plain given ≡ true
   pub quiets : (quiet ≡ pauses given) ⊎ ((left ≡ []) × (pauses given ≤ quiet))
 
--- reading stopped at a part, behind all the bytes before it
+-- reading stopped at a part, after all the bytes before it
 pub record StopsAt (part : Part) (parts : List Part) (p : Progress) : Type 0 where
   pub given : List Part
   pub rest : List Part

@@ -47,7 +47,7 @@ whole_bytes pieces tail = bytes_in-append (paired pieces) (tail_parts tail)
     ∙ ap (λ (t : List ℕ). bytes_in (paired pieces) ++ t) (no_bytes tail)
     ∙ append-nil (bytes_in (paired pieces))
 
--- where the end, or a failure, stands in it, it is what the story ends with
+-- if the end, or a failure, stands in it, it is what the story ends with
 record IsAtEnd (part : Part) (pieces : List (List ℕ)) (tail : Tail) (given : List Part) : Type 0
   where
     before : given ≡ paired pieces
@@ -117,7 +117,7 @@ at_end part (bytes ∷ pieces) tail (g ∷ k ∷ given) rest stop e =
         → g ∷ k ∷ given ≡ Piece bytes ∷ Pausing ∷ paired pieces
     heads h i = cc
 
--- where as many turns found nothing as there are steps, nothing is left, and neither the end nor a
+-- if as many turns found nothing as there are steps, nothing is left, and neither the end nor a
 -- failure is told
 record HasAll (tail : Tail) (left : List Part) : Type 0 where
   open_ : tail ≡ OpenTail
@@ -218,7 +218,7 @@ fail_tail OpenTail h = absurd (cc h)
 fail_tail ShutTail h = absurd (cc h)
 fail_tail FailTail h = refl
 
--- where reading stopped at the end or a failure, all was taken
+-- if reading stopped at the end or a failure, all was taken
 record TookAll (part : Part) (c : ℕ) (steps : List ScriptStep) (p : Progress) (tail : Tail) : Type 0
   where
     taken : p.taken ≡ bytes_of c steps
@@ -333,7 +333,7 @@ says_everything c steps moment had p reason word orderly course all own closing 
 
 -- ---- all bytes taken
 
--- nothing of the story is left where it neither ended nor failed, and as many turns found nothing
+-- nothing of the story is left if it neither ended nor failed, and as many turns found nothing
 -- as there are steps
 all_taken : (c : ℕ) (steps : List ScriptStep) (p : Progress) (quiet : ℕ)
     → Shape (story c steps) (bytes_of c steps) (was_shut c steps) (has_failed c steps)

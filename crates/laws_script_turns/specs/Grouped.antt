@@ -28,7 +28,7 @@ abbrev pub grouped_lines : ℕ → List ScriptStep → List ℕ
 grouped_lines c steps = record_lines c (decode (bytes_of c steps)).records
     ++ closing_line c (closing_word c steps)
 
--- what the first so many numbers give, one behind another
+-- what the first so many numbers give, one after another
 abbrev pub each_below : ℕ → (ℕ → List ℕ) → List ℕ
 each_below zero lines = []
 each_below (suc n) lines = each_below n lines ++ lines n

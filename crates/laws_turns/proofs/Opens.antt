@@ -1,4 +1,4 @@
--- An event stands among the open ones once, and exactly where it is open; and the moment that a
+-- An event stands among the open ones once, and exactly if it is open; and the moment that a
 -- journal sums up to.
 use Rattle.std.proofs.Common.{ℕ, ◌+◌, ◌≡◌, ◌==◌, Bool, true, false, not, ◌&&◌, List, [], ◌∷◌, refl}
 use Rattle.std.proofs.Common.{sym, ap, ◌∙◌, arith, cond, subst, ⊎_elim}

@@ -59,7 +59,7 @@ had_none most (e ∷ past) x legal h =
     ap (λ items. items ++ items_made past x e) (had_none most past x parts.1 old)
     ∙ quiet past x e (no_mine most e past x parts.1 parts.0 old)
 
--- the turn that the entry records is not answered by Close, where the entry ends no life
+-- the turn that the entry records is not answered by Close, if the entry ends no life
 item_stays : {N : Type 0} (x : ℕ) (event : Option Event) (moment : ℕ) (answer : Answer) (note : N)
     → (answer ≡ Close → belongs_to x event ≡ false)
     → list_all (λ (item : Item N). stays item.answer) (item_of x event moment answer note) ≡ true

@@ -8,7 +8,7 @@ pub fn no_close_while_alive<N>()
     ensures { NoCloseWhileAlive N }
 {}
 
-/// Where a handler ended its own life, Close is the last answer that it gave.
+/// If a handler ended its own life, Close is the last answer that it gave.
 pub fn closed_itself_last<N>()
     ensures { ClosesLast N }
 {}

@@ -82,7 +82,7 @@ module _ {E : Type 0} where
   pub shorter-length : (xs ys : List E) → length (shorter xs ys) ≤ length (longer xs ys)
   shorter-length xs ys = both-of xs ys (λ s l. length s ≤ length l) (λ le. le) (λ lt. omega arith)
 
-  -- where the shorter begins the longer, both begin it
+  -- if the shorter begins the longer, both begin it
   pub both-begin : (xs ys : List E) → Begins (shorter xs ys) (longer xs ys)
       → Begins xs (longer xs ys) × Begins ys (longer xs ys)
   both-begin xs ys = both-of xs ys (λ s l. Begins s l → Begins xs l × Begins ys l)

@@ -27,7 +27,7 @@ module _ {E Q T : Type 0} (stands : Q → ℕ → T → List E → Type 0) (open
   Exact = (q : Q) (n m : ℕ) (t : T) (base g h : List E) → Begins base g → Begins base h
       → stands q n t g → stands q m t h → g ≡ h
 
-  -- what was put back is what the caller had in mind, where the value stands for no other list that
+  -- what was put back is what the caller had in mind, if the value stands for no other list that
   -- the base begins
   pub put_is_at : (v : View E Q) (t : T) (w : View E Q) (mine : MayPut stands opens marks v t)
       → ((m : ℕ) (g : List E) → Begins mine.base.list g → stands v.terms m t g → g ≡ mine.list)
@@ -47,7 +47,7 @@ module _ {E Q T : Type 0} (stands : Q → ℕ → T → List E → Type 0) (open
       )) in
       put.view ∙ (λ i. put_view v (marks t) (list i) (own i))
 
-  -- the same, where a value stands for one list at most among those that begin alike
+  -- the same, if a value stands for one list at most among those that begin alike
   pub put_is : Exact → (v : View E Q) (t : T) (w : View E Q)
       → (mine : MayPut stands opens marks v t) → IsPut stands opens marks v t w
       → w ≡ put_view v (marks t) mine.list mine.mine

@@ -2,7 +2,7 @@
 use Rattle.std.specs.Prelude.{◌≡◌, ℕ, ◌+◌, ◌≤◌, List, [], ◌∷◌, ◌++◌, length, max, slice_index, cond}
 use Rattle.std.specs.Prelude.{◌==◌, nat_lt, Option, Some, None}
 
--- The second list is the first with more behind it, or the same.
+-- The second list is the first with more after it, or the same.
 abbrev pub Begins : {E : Type 0} → List E → List E → Type 0
 Begins {E} xs ys = (rest : List E) × (xs ++ rest ≡ ys)
 
@@ -16,7 +16,7 @@ greater [] ys = ys
 greater (x ∷ xs) [] = x ∷ xs
 greater (x ∷ xs) (y ∷ ys) = max x y ∷ greater xs ys
 
--- The longer of two lists: the first, where they are equally long.
+-- The longer of two lists: the first, if they are equally long.
 abbrev pub longer : {E : Type 0} → List E → List E → List E
 longer xs ys = cond (nat_lt (length xs) (length ys)) ys xs
 
@@ -24,7 +24,7 @@ longer xs ys = cond (nat_lt (length xs) (length ys)) ys xs
 abbrev pub shorter : {E : Type 0} → List E → List E → List E
 shorter xs ys = cond (nat_lt (length xs) (length ys)) xs ys
 
--- 1 where the event is e, else 0: how often e stands among one event or none.
+-- 1 if the event is e, else 0: how often e stands among one event or none.
 abbrev pub is_event : ℕ → Option ℕ → ℕ
 is_event e None = 0
 is_event e (Some x) = cond (e == x) 1 0

@@ -1,5 +1,5 @@
 -- The rule of a token: what holds of its word, its slot and the views of all passes between any two
--- steps, and what each step tells. The word is 0 where the token is free and 1 where a pass holds
+-- steps, and what each step tells. The word is 0 when the token is free and 1 when a pass holds
 -- it.
 use Rattle.std.specs.Prelude.{◌≡◌, ℕ, ◌+◌, ◌-◌, ◌≤◌, List, [], ◌∷◌, length, cond, true, false}
 use Rattle.std.specs.Prelude.{Option, Some, None}
@@ -13,7 +13,7 @@ use Rattle.leader_token.specs.Passes.{first_view, IsGot, IsPut, IsOpenLater}
 use Rattle.leader_token.specs.declared.kept.Found.{Found}
 use Rattle.leader_token.specs.declared.kept.View.{View}
 
--- 1 where there is something, else 0.
+-- 1 if there is something, else 0.
 abbrev pub has : {A : Type 0} → Option A → ℕ
 has None = 0
 has (Some x) = 1
@@ -84,10 +84,10 @@ module _ {E Q : Type 0} where
       pub found : List ℕ
       pub word : ℕ
       pub words : s.words ≡ word ∷ []
-      -- the word is 1 exactly where a pass holds the token, and then only one does
+      -- the word is 1 exactly if a pass holds the token, and then only one does
       pub low : word ≤ 1
       pub turns : total turn s.views ≡ word
-      -- the value is in the slot exactly where the token is free
+      -- the value is in the slot exactly if the token is free
       pub home : word ≡ 0 → (t : T) × (first : ℕ) × (get_elem? s.homes 0 ≡ some (some (Some t)))
           × stands q first t list × (marks t ≡ found)
       pub out : word ≡ 1 → get_elem? s.homes 0 ≡ some none
@@ -137,7 +137,7 @@ module _ {E Q : Type 0} where
     children = v.children - 1;
   }
 
-  -- What the load behind a join tells: of the two lists the shorter begins the longer, and the
+  -- What the load after a join tells: of the two lists the shorter begins the longer, and the
   -- root's own event is open in a list that the longer begins.
   abbrev pub Compared : {T : Type 0} → (List E → List ℕ) → Me (Option T) (View E Q)
       → Me (Option T) (View E Q) → Type 0

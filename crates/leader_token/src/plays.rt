@@ -21,7 +21,7 @@ impl<T: Kept> TableRule<Option<Box<T>>, View<T::Entry, T::Terms>, Key<T>> for To
     ghost first = { λ key. named T.blank key.log };
 }
 
-/// The token is taken where it is free.
+/// The token is taken if it is free.
 pub struct Claim<T> {
     marker: PhantomData<T>,
 }

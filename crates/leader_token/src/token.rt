@@ -40,7 +40,7 @@ impl<T: Kept> Token<T> {
         started::<T, Brand>(alloc, value)
     }
 
-    // Takes the token and the value where the token is free.
+    // Takes the token and the value if the token is free.
     fn claim(&self, seat: &mut Seat<Option<Box<T>>, View<T::Entry, T::Terms>>) -> Option<Box<T>>
         requires table { seat.old.table_id ≡ id_of self.now }
         requires free { (seat.old.me.0.spent ≡ false) × (seat.old.me.0.base ≡ None)
@@ -62,7 +62,7 @@ impl<T: Kept> Token<T> {
 
     /// Waits for the value and gets it. It stands for a list that begins with all that the pass has
     /// seen, its marks are at least the pass's, and the pass's own event is open in it. The root,
-    /// where every other pass was joined, gets it as the root has seen it.
+    /// once every other pass was joined, gets it as the root has seen it.
     pub fn get<R: Wait>(&self, rt: &R, pass: &mut Pass<T>) -> Held<T>
         requires token { token_of pass.old ≡ id_of self.now }
         requires free { (view_of pass.old).base ≡ None }
@@ -79,7 +79,7 @@ impl<T: Kept> Token<T> {
         unreachable!()
     }
 
-    /// Gets the value where nobody has it, as `get` does, and does not wait. None leaves all as it
+    /// Gets the value if nobody has it, as `get` does, and does not wait. None leaves all as it
     /// was.
     pub fn try_get(&self, pass: &mut Pass<T>) -> Option<Held<T>>
         requires token { token_of pass.old ≡ id_of self.now }

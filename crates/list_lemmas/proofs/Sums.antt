@@ -37,7 +37,7 @@ module _ {A : Type 0} (g : A → ℕ) where
       → total g (set l j w) ≡ total g l
   total-same l j v w e same = omega (arith, total-set l j v w e)
 
-  -- where g is 0, f is
+  -- if g is 0, f is
   abbrev Under : (A → ℕ) → List A → Type 0
   Under f l = (k : ℕ) (x : A) → get_elem? l k ≡ some x → g x ≡ 0 → f x ≡ 0
 
@@ -49,7 +49,7 @@ module _ {A : Type 0} (g : A → ℕ) where
     none_there f xs (λ k. u (suc k)) (omega arith),
   )
 
-  -- where one alone has g, the sum of f is its own
+  -- if one alone has g, the sum of f is its own
   pub alone : (f : A → ℕ) (l : List A) (j : ℕ) (v : A) → Under f l → total g l ≡ 1
       → get_elem? l j ≡ some v → g v ≡ 1 → total f l ≡ f v
   alone f [] j v u e at one = absurd (some-ne-none v (sym at))

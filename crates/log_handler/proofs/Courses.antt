@@ -1,4 +1,4 @@
--- Turns of a connection, one behind another.
+-- Turns of a connection, one after another.
 use Rattle.std.proofs.Common.{◌≡◌, ◌∙◌, ℕ, List, [], ◌∷◌, ◌++◌, true, false, inl, inr, Option, Some}
 use Rattle.std.proofs.Common.{None, IsSome, refl, sym, subst, ap}
 use Rattle.cdr_record.specs.ev_types.specs.declared.upcall.Answer.{Answer}
@@ -18,7 +18,7 @@ use Rattle.log_handler.specs.declared.note.ServerNote.{ServerNote}
 use Rattle.log_handler.specs.Connection.{Progress, Turns, Course, ServesUpcall, ServesRead}
 use Rattle.log_handler.specs.Connection.{AnswersTimeout, answer_to, kept_at, is_idle}
 
--- a course and more turns behind it
+-- a course and more turns after it
 pub course-more : (conn : ℕ) (idle : Option ℕ) (start : Progress)
     (had items : List (Item ServerNote)) (p q : Progress) →
     Course conn idle start had p → Course conn idle p items q
@@ -98,7 +98,7 @@ closed Keep kept g h = absurd g
 closed Again kept g h = absurd g
 closed Close kept g h = h
 
--- where no answer was Close, the connection did not end
+-- if no answer was Close, the connection did not end
 pub course-goes : (conn : ℕ) (idle : Option ℕ) (start p : Progress) (had : List (Item ServerNote))
     → start.kept ≡ None → Course conn idle start had p → NoClose had → p.kept ≡ None
 course-goes conn idle start p [] none course open_ = ap (λ (q : Progress). q.kept) course ∙ none
@@ -107,7 +107,7 @@ course-goes conn idle start p (item ∷ had) none course open_ =
     (going item.answer course.0.kept open_.0 (ends-turn conn idle start course.0 item course.1))
     course.2 open_.1
 
--- where the last answer was Close, it did
+-- if the last answer was Close, it did
 pub course-closed : (conn : ℕ) (idle : Option ℕ) (start p : Progress) (had : List (Item ServerNote))
     → Course conn idle start had p → EndsInClose had → IsSome p.kept
 course-closed conn idle start p [] course close = absurd close

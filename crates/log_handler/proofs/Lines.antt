@@ -19,7 +19,7 @@ use Rattle.log_handler.specs.declared.line_sink.LineSink.{LineSink}
 use Rattle.log_handler.specs.Notes.{entry_lines, journal_lines}
 use Rattle.log_handler.specs.LineSink.{PutsLines}
 
--- nothing was put since its sink told what it tells, where no write failed
+-- nothing was put since its sink told what it tells, if no write failed
 written-here : {K : Type 0} (facts : K → SinkFacts) (sink : DirectSink K) → is_broken sink ≡ false
     → HasWritten facts (facts (output_of sink)) sink []
 written-here facts sink sound = record {

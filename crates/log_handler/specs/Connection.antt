@@ -33,7 +33,7 @@ pub record Progress : Type 0 where
   -- how many reads it made, and what the last came to
   pub reads : ℕ
   pub last_read : Option Try
-  -- how far the story of its end was told, where that is told
+  -- how far the story of its end was told, if that is told
   pub telling : Option Telling
   -- how it ended, once it did so itself
   pub kept : Option EndKind
@@ -126,7 +126,7 @@ ServesRead conn before got.Over bytes telling item after =
 ServesRead conn before got.Failed bytes telling item after =
     TakesNothing conn before Faulted telling Close (Some end.Failed) item after
 
--- the turn makes one read, of at most 4,096 bytes, which takes the next of the end's story where
+-- the turn makes one read, of at most 4,096 bytes, which takes the next of the end's story if
 -- that is told
 pub record ReadsOnce (conn : ℕ) (before : Progress) (item : Item ServerNote)
     (after : Progress) : Type 0 where
@@ -147,7 +147,7 @@ pub record MakesNoRead (conn : ℕ) (before : Progress) (answer : Answer) (kept 
   pub answers : item.answer ≡ answer
   pub leaves : after ≡ record before { kept = kept }
 
--- at a timeout it closes exactly where it was quiet for too long
+-- at a timeout it closes exactly if it was quiet for too long
 abbrev pub AnswersTimeout : Bool → ℕ → Progress → Item ServerNote → Progress → Type 0
 AnswersTimeout true conn before item after =
     MakesNoRead conn before Close (Some end.Idle) item after
@@ -164,13 +164,13 @@ ServesUpcall Except conn idle before item after = MakesNoRead conn before Keep N
 ServesUpcall (Notice kind) conn idle before item after =
     MakesNoRead conn before Keep None item after
 
--- A turn comes only where the connection did not end.
+-- A turn comes only if the connection did not end.
 pub record Turns (conn : ℕ) (idle : Option ℕ) (before : Progress) (item : Item ServerNote)
     (after : Progress) : Type 0 where
   pub goes_on : before.kept ≡ None
   pub serves : ServesUpcall item.upcall conn idle before item after
 
--- turns one behind another, each from where the one before left it
+-- turns one after another, each from where the one before left it
 abbrev pub Course : ℕ → Option ℕ → Progress → List (Item ServerNote) → Progress → Type 0
 Course conn idle start [] p = p ≡ start
 Course conn idle start (item ∷ items) p =

@@ -20,7 +20,7 @@ use Rattle.log_handler.specs.declared.note.ServerNote.TheVariants as note
 use Rattle.log_handler.specs.declared.connection.LogConnection.{LogConnection}
 use Rattle.log_handler.specs.Connection.{Progress, at_start, Course}
 
--- What an origin says of the serial number of a handler's end: where the terms have the listener's
+-- What an origin says of the serial number of a handler's end: if the terms have the listener's
 -- story, it is that of the connection accepted in it, and an end that was not accepted has none.
 abbrev pub accepted_in : ServerNote → Option ℕ
 accepted_in (note.Accepted conn) = Some conn
@@ -31,8 +31,8 @@ serial_named t origin = elim t.offers
     [ None ↦ None | Some offers ↦ Some (option_and_then (λ o. accepted_in o.note) origin) ]
 
 -- A connection of this number, made at this moment, may have this origin under the terms, its end
--- this serial number, and it this idle time: where the terms have the listener's story, it was
--- offered by the turn that accepted the connection of its number; and where its end has a serial
+-- this serial number, and it this idle time: if the terms have the listener's story, it was
+-- offered by the turn that accepted the connection of its number; and if its end has a serial
 -- number, that is its own.
 pub record MayComeFrom (t : Terms) (origin : Option (Origin ServerNote)) (conn : ℕ)
     (idle : Option ℕ) (moment : ℕ) (serial : Option ℕ) : Type 0 where
@@ -42,7 +42,7 @@ pub record MayComeFrom (t : Terms) (origin : Option (Origin ServerNote)) (conn :
   pub waits : (time : Option ℕ) → t.idle ≡ Some time → idle ≡ time
   pub numbered : (number : ℕ) → serial ≡ Some number → number ≡ conn
 
--- at the start the whole story of its end was left, where the terms have it in parts
+-- at the start the whole story of its end was left, if the terms have it in parts
 abbrev pub BeginsStory : Terms → ℕ → Option ℕ → Option Telling → Type 0
 BeginsStory t conn serial telling =
     (parts : List Part) → story_of t conn ≡ Some (OfParts parts) → serial ≡ Some conn

@@ -52,7 +52,7 @@ on_input item = is_input item.upcall
 abbrev pub asks_again : Item ServerNote → Bool
 asks_again item = is_again item.answer
 
--- the last turn, where there was one, and how many bytes it took
+-- the last turn, if there was one, and how many bytes it took
 abbrev pub last_turn : List (Item ServerNote) → Option (Item ServerNote)
 last_turn [] = None
 last_turn (item ∷ []) = Some item
@@ -70,7 +70,7 @@ pub record OfFront (records : List LogRecord) (count : ℕ) (taken : List ℕ) :
   pub counts : length lost ≡ count
   pub decoded : records ≡ (decode front).records
 
--- These are the records of what was taken. Where the connection ended for want of memory, they are
+-- These are the records of what was taken. If the connection ended for want of memory, they are
 -- those of what was taken before the last piece, which has so many bytes.
 abbrev pub HasRecords : List LogRecord → ℕ → List ℕ → Option EndKind → Type 0
 HasRecords records count taken (Some end.NoMemory) = OfFront records count taken
@@ -81,10 +81,10 @@ abbrev pub WasIdle : Option ℕ → ℕ → Option (Item ServerNote) → Type 0
 WasIdle idle last None = ⊥
 WasIdle idle last (Some item) = is_idle idle last item.moment ≡ true
 
--- What stands behind how a connection ended itself: `End` and `Partial` only where a read found the
--- end of the input, and reading what was taken stops so; `Malformed` only where reading stops
--- there; `Failed` only where the last read failed; `NoMemory` only where it gave bytes; `Idle` only
--- where it was quiet for too long. While it goes on, reading stops at no bad record.
+-- Why a connection ended itself as it did: `End` and `Partial` only if a read found the
+-- end of the input, and reading what was taken stops so; `Malformed` only if reading stops
+-- there; `Failed` only if the last read failed; `NoMemory` only if it gave bytes; `Idle` only
+-- if it was quiet for too long. While it goes on, reading stops at no bad record.
 abbrev pub EndedSo : Option ℕ → Option (Item ServerNote) → Progress → Option EndKind → Type 0
 EndedSo idle last p None = (at : ℕ) → (decode p.taken).stop ≢ Malformed at
 EndedSo idle last p (Some end.End) = (p.last_read ≡ Some WasOver) × ((decode p.taken).stop ≡ Clean)

@@ -49,7 +49,7 @@ pub struct LogConnection<E: PeerEnd> {
 }
 
 impl<E: PeerEnd> LogConnection<E> {
-    /// The handler of connection number `conn`, accepted at the moment `now` in milliseconds. Where
+    /// The handler of connection number `conn`, accepted at the moment `now` in milliseconds. If
     /// `idle` is given, it is closed at a timeout once so many milliseconds brought no bytes. It
     /// takes no memory.
     pub fn new(alloc: Global, conn: u64, end: E, idle: Option<u64>, now: u64) -> LogConnection<E>
@@ -132,7 +132,7 @@ impl<E: PeerEnd> LogConnection<E> {
         self.close_with(EndKind::NoMemory, took, LoggedRecords::none())
     }
 
-    /// Closes where nothing came for too long.
+    /// Closes if nothing came for too long.
     fn check_idle(&mut self, now: u64) -> Turn<LogConnection<E>>
         ensures same { IsSame E.tells E.keeps self.old self.new }
         ensures serves { (timer : ℕ) → Serves E.tells (Timeout timer) now self.old self.new result }
@@ -201,7 +201,7 @@ impl<E: PeerEnd> LogConnection<E> {
     }
 }
 
-/// No records, to be given room for those of a piece of so many bytes, where they are of usual
+/// No records, to be given room for those of a piece of so many bytes, if they are of usual
 /// size.
 fn room_for(alloc: Global, bytes: usize) -> GatheredRecords
     ensures { result ≡ [] }
@@ -239,7 +239,7 @@ impl<E: PeerEnd> EventHandler for LogConnection<E> {
         ensures quiet { result.act ≡ None }
         ensures noted { is_piece result.note ≡ true }
 
-        // Input is answered Keep exactly where its one read paused.
+        // Input is answered Keep exactly if its one read paused.
         ensures pauses { up ≡ Input → (result.answer ≡ Keep)
             ↔ ((E.tells (end_of_connection self.new)).last_read ≡ Some Paused) }
     {

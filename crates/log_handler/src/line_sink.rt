@@ -18,7 +18,7 @@ use reactor_model::{Entry, Watch};
 use sink_buffer::{DirectSink, ShortText, TextOut};
 
 /// A watch that writes the lines of the notes of a journal as its entries are appended. The text of
-/// a piece's lines is written in one call where its note has it, and a closing line in one too.
+/// a piece's lines is written in one call if its note has it, and a closing line in one too.
 /// Lines without a text are made here, a record at a time. It holds nothing back, takes no memory,
 /// and writes nothing more once a write failed.
 #[derive(Drop)]
@@ -87,7 +87,7 @@ fn put_note<T: TextOut>(out: &mut T, note: &ServerNote)
     }
 }
 
-/// Puts the lines of a piece's records: their text at once, where it is there, and else a line at a
+/// Puts the lines of a piece's records: their text at once, if it is there, and else a line at a
 /// time.
 fn put_piece<T: TextOut>(out: &mut T, conn: u64, records: &LoggedRecords)
     ensures { Puts T.stands out.old (record_lines conn records.now) out.new }
@@ -107,7 +107,7 @@ fn put_each<T: TextOut>(out: &mut T, conn: u64, records: Unpacked<'_>)
     }
 }
 
-/// Puts a record's line, at once where it is short.
+/// Puts a record's line, at once if it is short.
 fn put_record<T: TextOut>(out: &mut T, conn: u64, entry: RecordRef<'_>)
     ensures { Puts T.stands out.old (record_line conn (owned entry.entry)) out.new }
 {

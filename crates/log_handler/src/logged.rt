@@ -20,7 +20,7 @@ const BESIDE_MESSAGE: usize = 64;
 enum Content {
     /// One record alone, whose message is short. The text of its line is made where it is written.
     One(ShortRecord),
-    /// Any records, and the text of their lines for a connection's number, where that was made.
+    /// Any records, and the text of their lines for a connection's number, if that was made.
     Many {
         records: PackedRecords,
         number: Option<u64>,
@@ -28,7 +28,7 @@ enum Content {
     },
 }
 
-/// The records of a piece, in order, and where it was made the text of their lines, so that a watch
+/// The records of a piece, in order, and if it was made the text of their lines, so that a watch
 /// writes it as it is. A contract sees the list of the records. However many they are, they take at
 /// most four allocations. One alone whose message has at most 104 bytes takes one, and no records
 /// take none.
@@ -75,7 +75,7 @@ impl LoggedRecords {
         LoggedRecords::keeping(alloc, content)
     }
 
-    /// These records, with the text of their lines for this connection's number where they are
+    /// These records, with the text of their lines for this connection's number if they are
     /// packed. On `NoMemory` they are dropped.
     pub fn with_lines(
         alloc: Global,
@@ -112,7 +112,7 @@ impl LoggedRecords {
         }
     }
 
-    /// What is kept, where there is a record.
+    /// What is kept, if there is a record.
     fn content(&self) -> Option<&Content>
         ensures { MatchOption result (self.now ≡ [])
             (λ content. (self.now ≡ records_of content.now) × HasItsText content.now) }
@@ -142,7 +142,7 @@ impl LoggedRecords {
         }
     }
 
-    /// The text of the lines for this connection's number, where it was made for that.
+    /// The text of the lines for this connection's number, if it was made for that.
     pub fn lines_for(&self, conn: u64) -> Option<&[u8]>
         ensures { IfSome result (λ text. text.now ≡ record_lines conn self.now) }
     {

@@ -64,7 +64,7 @@ plain_text xs all =
     let P : ℕ → Type 0 = λ n. flat_map byte_text (take n xs) ≡ take n xs in
     subst P (sym whole) (flat_map-plain xs) ∙ ap (λ n. take n xs) (whole ∙ all) ∙ take-length xs
 
--- the bytes so far, a run, and the first bytes behind it
+-- the bytes so far, a run, and the first bytes after it
 pub escaped_next : (xs rest behind : List ℕ) (at plain n : ℕ) → rest ≡ drop at xs
     → plain ≡ prefix_len is_plain rest → behind ≡ drop plain rest →
     flat_map byte_text (take (at + (plain + n)) xs)

@@ -18,7 +18,7 @@ run_first p x xs n false e all run =
     subst (λ b. (b && list_all p (take n xs)) ≡ true) e all in
     absurd (cc never)
 
--- where the first n pass, the run is n and the run behind them
+-- if the first n pass, the run is n and the run after them
 run_on : (p : ℕ → Bool) (xs : List ℕ) (n : ℕ) → n ≤ length xs → list_all p (take n xs) ≡ true
     → prefix_len p xs ≡ n + prefix_len p (drop n xs)
 run_on p xs zero le all = omega arith

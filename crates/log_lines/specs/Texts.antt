@@ -59,7 +59,7 @@ record_text r =
 unfoldable pub record_line : ℕ → LogRecord → List ℕ
 record_line connection r = decimal connection ++ codes " " ++ record_text r ++ codes "\n"
 
--- the lines of records, one behind another
+-- the lines of records, one after another
 abbrev pub record_lines : ℕ → List LogRecord → List ℕ
 record_lines connection records = flat_map (record_line connection) records
 

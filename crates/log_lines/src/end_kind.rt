@@ -3,7 +3,7 @@
 /// How a connection ended, as its closing line tells.
 #[derive(Clone, Copy, PartialEq, Eq, Hash, Debug)]
 pub enum EndKind {
-    /// The input ended behind a whole record, or without a byte.
+    /// The input ended after a whole record, or without a byte.
     End,
     /// The input ended inside a record, of which so many bytes are there.
     Partial(u64),

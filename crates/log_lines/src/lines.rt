@@ -38,7 +38,7 @@ pub fn put_borrowed_line<T: TextOut>(out: &mut T, connection: u64, entry: Record
     out.put(b"\n");
 }
 
-/// Puts the lines of records, one behind another.
+/// Puts the lines of records, one after another.
 pub fn put_record_lines<T: TextOut>(out: &mut T, connection: u64, records: Unpacked<'_>)
     ensures { Puts T.stands out.old (record_lines connection records.entry) out.new }
 {

@@ -8,7 +8,7 @@ ghost use Rattle.sink_buffer.specs.Texts.{Puts};
 use sink_buffer::TextOut;
 
 /// Puts the text of a message: its bytes before the first zero byte, or all of them, with escapes.
-/// Most messages need none, and are put as they are behind one look at their bytes.
+/// Most messages need none, and are put as they are after one look at their bytes.
 pub fn put_message<T: TextOut>(out: &mut T, message: &[u8])
     ensures { Puts T.stands out.old (message_text message.now) out.new }
 {

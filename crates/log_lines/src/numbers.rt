@@ -14,7 +14,7 @@ pub fn put_unsigned<T: TextOut>(out: &mut T, number: u64)
     out.put(digits.format(number).as_bytes());
 }
 
-/// Puts a number in decimal digits, behind a minus sign if it is below 0.
+/// Puts a number in decimal digits, after a minus sign if it is below 0.
 pub fn put_signed<T: TextOut>(out: &mut T, number: i64)
     ensures { Puts T.stands out.old (signed_decimal number) out.new }
 {

@@ -131,7 +131,7 @@ fn keep_freed_memory(rt: &HostRuntime) {
     let _ = Vec::<u8>::with_capacity(rt.alloc(), LARGE_BLOCK);
 }
 
-/// The words after the program's name, or the status with which to end where there are none to be
+/// The words after the program's name, or the status with which to end if there are none to be
 /// had: a word that is not UTF-8 is a faulty command line.
 fn given_words(rt: &HostRuntime) -> Result<Vec<String>, Status> {
     let args = env::args(rt).map_err(|error| match error.kind() {
@@ -154,7 +154,7 @@ fn has_several_workers(alloc: Global, words: &[String]) -> bool {
     }
 }
 
-/// The host, which listens to an address and which the end of standard input ends where it is its
+/// The host, which listens to an address and which the end of standard input ends if it is its
 /// control: for several workers one that closes connections by a thread of its own.
 fn host_for<R: Net + Clock + Threads + Wait + Copy + Send + 'static>(
     rt: R,

@@ -108,7 +108,7 @@ module _ {S K V M : Type 0} (source : S → SourceFacts) (sink : K → SinkFacts
     }
 
   -- The server was run over the script of so many connections that is generated from a seed, and so
-  -- it ended. The lines of the summary were written; where no connection was closed for want of
+  -- it ended. The lines of the summary were written; if no connection was closed for want of
   -- memory, they are those of all that the script has. The input is as it was.
   pub record HasGenerated (G : Ghosts ScriptEnd) (connections seed : ℕ)
       (served : Served K S M V) : Type 0 where

@@ -12,7 +12,7 @@ line_status line = line.status
 abbrev pub line_at : FaultLine → ℕ
 line_at line = line.at
 
--- the line of a status, where there is one
+-- the line of a status, if there is one
 abbrev pub line_of_any : Option Status → List ℕ
 line_of_any None = []
 line_of_any (Some status) = line_of status

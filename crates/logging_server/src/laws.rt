@@ -8,7 +8,7 @@ use log_handler::ServerNote;
 use reactor_model::Volumes;
 use script_net::ScriptEnd;
 
-/// The text that a replay writes in the form of a journal, where it ended as it was asked to and
+/// The text that a replay writes in the form of a journal, if it ended as it was asked to and
 /// no notice was asked for, is found legal with as many entries as the run has, unless a read or a
 /// write fails, it is longer than may be read, or there is no memory.
 pub fn replayed_journals_pass<K: Sink, V: Volumes<ServerNote>>()

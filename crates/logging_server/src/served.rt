@@ -14,7 +14,7 @@ pub struct Served<K, S, M, V> {
     /// failed.
     pub status: u8,
     /// The entries of the reactor's journal that were not handed over to the volumes, from number
-    /// `first` on. Where no reactor was made there are none.
+    /// `first` on. If no reactor was made there are none.
     pub journal: Journal<ServerNote>,
     /// How many entries were handed over.
     pub first: u64,
@@ -22,7 +22,7 @@ pub struct Served<K, S, M, V> {
     pub input: S,
     /// The sink that was handed in.
     pub output: K,
-    /// The net that the host gave in this call, as it stands behind the run: none where `listen`
+    /// The net that the host gave in this call, as it stands after the run: none if `listen`
     /// was not called, or was refused.
     pub net: Option<M>,
     /// The keeper of volumes that was handed in.
@@ -33,7 +33,7 @@ pub struct Served<K, S, M, V> {
 }
 
 impl<K, S, M, V> Served<K, S, M, V> {
-    /// What is left where nothing was done.
+    /// What is left if nothing was done.
     pub(crate) fn untouched(
         alloc: Global,
         status: u8,

@@ -29,10 +29,10 @@ use std::time::Clock;
 /// host; `gen` those of a generated script, and writes the summary of its run. The output has the
 /// lines of the journal's notes, or what the options of `replay` ask for, and the journal is handed
 /// over to `volumes` in volumes of the size that these say. `display` writes the text of each
-/// record of the input and a line feed. `audit` writes `legal N` where the input is the text of a
+/// record of the input and a line feed. `audit` writes `legal N` if the input is the text of a
 /// legal journal of N entries.
 ///
-/// Status 1 comes exactly where the words are no command; then, and where there is no memory to
+/// Status 1 comes exactly if the words are no command; then, and if there is no memory to
 /// read them, nothing was done.
 pub fn logd_main<
     R: Clock + Threads + Wait + Copy + Send + Sync + 'static,
@@ -61,7 +61,7 @@ where
         (record { faults = H.faults host.old; ports = H.ports host.old })
         (record { faults = H.faults host.new; ports = H.ports host.new }) result
         ⊎ ((result.status ≡ 6) × IsUntouched input output volumes result × (host.new ≡ host.old)) }
-    // Status 1 comes where the words are no command, and nowhere else.
+    // Status 1 comes exactly if the words are no command.
     ensures usage { result.status ≡ 1 → command_of (map string_bytes words.now) ≡ None }
     // The host is not asked but by `serve`.
     ensures host { (IsServe (command_of (map string_bytes words.now)) → ⊥) → host.new ≡ host.old }

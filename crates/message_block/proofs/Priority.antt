@@ -156,7 +156,7 @@ pub falls-filled : (held arrivals : List MessageState) → FallsByPriority held
 falls-filled held [] f = f
 falls-filled held (m ∷ ms) f = falls-filled (put_by_priority m held) ms (falls-put m held f)
 
--- where not all are of lower priority from a place on, not all are at all
+-- if not all are of lower priority from a place on, not all are at all
 not_all_from : (q : ℕ) (xs : List MessageState) (k : ℕ) → list_all (is_below q) (drop k xs) ≡ false
     → list_all (is_below q) xs ≡ false
 not_all_from q [] zero h = h

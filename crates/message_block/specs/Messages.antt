@@ -45,8 +45,8 @@ held_bytes queue = held_in queue.messages
 abbrev pub is_below : ℕ → MessageState → Bool
 is_below priority message = nat_lt message.priority priority
 
--- A message put by its priority stands directly behind the last one of equal or higher priority,
--- and at the head where all that are there are of lower priority.
+-- A message put by its priority stands directly after the last one of equal or higher priority,
+-- and at the head if all that are there are of lower priority.
 abbrev pub put_by_priority : MessageState → List MessageState → List MessageState
 put_by_priority message [] = message ∷ []
 put_by_priority message (first ∷ rest) =

@@ -7,7 +7,7 @@ use std::alloc::Global;
 use std::marker::Model;
 
 /// A block of so many bytes, with a read place and a write place (ACE's `ACE_Message_Block`). What
-/// was written and not yet read stands between the two places; what is left of the block behind the
+/// was written and not yet read stands between the two places; what is left of the block after the
 /// write place is its space.
 #[derive(Drop)]
 pub struct Block {
@@ -74,7 +74,7 @@ impl Block {
         memory
     }
 
-    /// Writes bytes at the write place. `NoSpace` comes exactly where they are more than the space;
+    /// Writes bytes at the write place. `NoSpace` comes exactly if they are more than the space;
     /// it tells the space, and the block is as before.
     pub fn write(&mut self, bytes: &[u8]) -> Result<(), NoSpace>
         ensures fits { OnOk result (length bytes.now ≤ self.old.space) }

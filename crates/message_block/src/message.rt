@@ -91,7 +91,7 @@ impl Message {
         }
     }
 
-    /// Puts a block behind the others, of which there are fewer than 1,024. `NoMemory` gives it
+    /// Puts a block after the others, of which there are fewer than 1,024. `NoMemory` gives it
     /// back, and the message is as before.
     pub fn cont(&mut self, b: Block) -> Result<(), (Block, NoMemory)>
         requires { length self.old.blocks < 1024 }
@@ -110,7 +110,7 @@ impl Message {
         }
     }
 
-    /// Puts a block of these bytes, at most 1,048,576, without space behind the others, of which
+    /// Puts a block of these bytes, at most 1,048,576, without space after the others, of which
     /// there are fewer than 1,024. After `NoMemory` the message is as before.
     pub fn cont_bytes(&mut self, alloc: Global, bytes: &[u8]) -> Result<(), NoMemory>
         requires blocks { length self.old.blocks < 1024 }

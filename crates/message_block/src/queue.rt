@@ -97,8 +97,8 @@ impl MessageQueue {
         }
     }
 
-    /// Puts a message behind all others. A refusal gives it back, and the queue is as before:
-    /// `Inactive` comes exactly while the queue is not active, `Full` exactly where it is active
+    /// Puts a message after all others. A refusal gives it back, and the queue is as before:
+    /// `Inactive` comes exactly while the queue is not active, `Full` exactly if it is active
     /// and holds as many bytes as its high mark or more.
     pub fn enqueue_tail(&mut self, m: Message) -> Result<(), (Message, EnqueueRefused)>
         ensures accepts { OnOk result (TakesMessages self.old) }
@@ -143,8 +143,8 @@ impl MessageQueue {
         }
     }
 
-    /// Puts a message directly behind the last one of equal or higher priority, and at the head
-    /// where there is none. Refusals are those of `enqueue_tail`.
+    /// Puts a message directly after the last one of equal or higher priority, and at the head
+    /// if there is none. Refusals are those of `enqueue_tail`.
     pub fn enqueue_prio(&mut self, m: Message) -> Result<(), (Message, EnqueueRefused)>
         ensures accepts { OnOk result (TakesMessages self.old) }
         ensures queued { OnOk result (self.new ≡ record self.old {
@@ -168,7 +168,7 @@ impl MessageQueue {
     }
 
     /// Takes the first message. `Inactive` comes exactly while the queue is not active, `Empty`
-    /// exactly where it is active and has no message; the queue is then as before.
+    /// exactly if it is active and has no message; the queue is then as before.
     pub fn dequeue_head(&mut self) -> Result<Dequeued, DequeueRefused>
         ensures taken { IfOk result (λ taken. TakesFirst self.old taken self.new) }
         ensures refused { IfErr result (λ why. GivesNone self.old why × (self.new ≡ self.old)) }
@@ -222,7 +222,7 @@ impl MessageQueue {
     }
 }
 
-/// The place directly behind the last message of this priority or a higher one: the least from
+/// The place directly after the last message of this priority or a higher one: the least from
 /// which on all are of lower priority.
 fn place_by_priority(messages: &VecDeque<Message>, priority: u32) -> usize
     ensures within { result ≤ deque_len messages.now }

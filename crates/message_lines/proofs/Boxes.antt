@@ -18,7 +18,7 @@ pub singly_more : (items : List Item) (item : Item)
     → singly (items ++ item ∷ []) ≡ singly items ++ each_of item
 singly_more items item = sym (flat_map_more each_of [] items item)
 
--- more messages came, where the end did not
+-- more messages came, if the end did not
 more_came : (got : List Item) (messages more all : List MessageState) (over : Bool) → over ≡ false →
     got ≡ ones messages ++ stop_if over → messages ++ more ≡ all
     → got ++ ones more ≡ ones all ++ stop_if over

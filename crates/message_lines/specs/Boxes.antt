@@ -25,7 +25,7 @@ stop_if true = Stop ∷ []
 stop_if false = []
 
 -- what was got through a line, message by message: the messages that were answered, those in the
--- inbox, those that were dropped for want of memory, and then the end, where it came
+-- inbox, those that were dropped for want of memory, and then the end, if it came
 pub record IsIn (got : List Item) (answered : List MessageState) (inbox : Inbox) : Type 0 where
   pub dropped : List MessageState
   pub none : inbox.lost ≡ false → dropped ≡ []

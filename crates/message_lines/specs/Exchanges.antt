@@ -2,7 +2,7 @@
 use Rattle.std.specs.Prelude.{◌≡◌, ℕ, ◌+◌, Bool, true, false, Option, Some, None, Result, Ok, Err}
 use Rattle.message_lines.specs.declared.line.Item.{Item}
 
--- How many items wait, where that is told, before and after the next was taken in: one was there
+-- How many items wait, if that is told, before and after the next was taken in: one was there
 -- and is taken, or there was none, or there was no memory and it waits on.
 abbrev pub TakesNext : {E : Type 0} → Option ℕ → Result Bool E → Option ℕ → Type 0
 TakesNext None result new = new ≡ None
@@ -10,7 +10,7 @@ TakesNext (Some n) (Ok true) new = (m : ℕ) × (n ≡ m + 1) × (new ≡ Some m
 TakesNext (Some n) (Ok false) new = (n ≡ 0) × (new ≡ Some n)
 TakesNext (Some n) (Err e) new = new ≡ Some n
 
--- where it is told how many items wait, none does
+-- if it is told how many items wait, none does
 abbrev pub NoneWaits : Option ℕ → Type 0
 NoneWaits waiting = (n : ℕ) → waiting ≡ Some n → n ≡ 0
 

@@ -11,7 +11,7 @@ use std::sync::Wait;
 pub(crate) trait Exchanges {
     ghost use Rattle.message_lines.specs.declared.line.Item.{Item};
 
-    /// How many items wait to be taken in, where that is told.
+    /// How many items wait to be taken in, if that is told.
     ghost waiting: { Self → Option ℕ };
 
     /// What came in between was taken in, and nothing was put.
@@ -20,13 +20,13 @@ pub(crate) trait Exchanges {
     /// An item was put, and nothing was taken in.
     ghost has_put: { Self → Item → Self → Type 0 };
 
-    /// Takes in the next item, if one has come, and tells whether it did. It takes none where there
+    /// Takes in the next item, if one has come, and tells whether it did. It takes none if there
     /// is no memory for it.
     fn take_next(&mut self) -> Result<bool, NoMemory>
         ensures keeps { keeps self.old self.new }
         ensures takes { TakesNext (waiting self.old) result (waiting self.new) };
 
-    /// Puts an item where there is room, and else gives it back.
+    /// Puts an item if there is room, and else gives it back.
     fn try_put(&mut self, item: Item) -> Result<(), Item>
         ensures put { OnOk result (has_put self.old item self.new) }
         ensures refused { IfErr result (λ back. (back ≡ item) × keeps self.old self.new) }
@@ -69,7 +69,7 @@ pub(crate) fn exchange<S: Exchanges, R: Wait>(rt: &R, side: &mut S, item: Item) 
     unreachable!()
 }
 
-/// Takes in all that has come. It stops where there is no memory for what may come.
+/// Takes in all that has come. It stops if there is no memory for what may come.
 fn take_all<S: Exchanges, R: Wait>(rt: &R, side: &mut S) -> Result<(), NoMemory>
     ensures keeps { S.keeps side.old side.new }
     ensures all { OnOk result (NoneWaits (S.waiting side.new)) }

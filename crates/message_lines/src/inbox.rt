@@ -36,7 +36,7 @@ impl Inbox {
         }
     }
 
-    /// Makes room for whatever comes next. Where nothing is held that is a place for one message,
+    /// Makes room for whatever comes next. If nothing is held that is a place for one message,
     /// since many come in a list of their own, which is taken over.
     pub(crate) fn make_room(&mut self) -> Result<(), NoMemory>
         ensures room { OnOk result (HasRoom self.new) }
@@ -53,7 +53,7 @@ impl Inbox {
         Ok(())
     }
 
-    /// Accepts what came. Where there is no memory for a message it is lost, and all behind it.
+    /// Accepts what came. If there is no memory for a message it is lost, and all after it.
     pub(crate) fn accept(&mut self, item: Item)
         requires { self.old.over ≡ false }
         ensures accepted { (got : List Item) (base : List MessageState) → IsIn got base self.old
@@ -67,7 +67,7 @@ impl Inbox {
         }
     }
 
-    /// Keeps a message behind the others.
+    /// Keeps a message after the others.
     fn keep(&mut self, message: Message)
         requires { self.old.over ≡ false }
         ensures accepted { (got : List Item) (base : List MessageState) → IsIn got base self.old
@@ -84,7 +84,7 @@ impl Inbox {
         }
     }
 
-    /// Keeps messages behind the others. Where there are none, their list is taken over.
+    /// Keeps messages after the others. If there are none, their list is taken over.
     fn keep_all(&mut self, batch: Batch)
         requires { self.old.over ≡ false }
         ensures accepted { (got : List Item) (base : List MessageState) → IsIn got base self.old
@@ -105,7 +105,7 @@ impl Inbox {
         }
     }
 
-    /// Gives the messages, and holds none from now on. Where there are none, the memory for the
+    /// Gives the messages, and holds none from now on. If there are none, the memory for the
     /// next is kept.
     pub fn take(&mut self) -> Vec<Message>
         ensures given { result.items ≡ self.old.messages.items }

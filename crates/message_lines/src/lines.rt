@@ -96,7 +96,7 @@ impl Lines {
         exchange(rt, self, item)
     }
 
-    /// Takes in one item, if one has come, and tells whether it did. Where there is no memory for a
+    /// Takes in one item, if one has come, and tells whether it did. If there is no memory for a
     /// message it is lost.
     fn take_one(&mut self) -> bool
         ensures came { KeepsWhatCame self.old self.new }

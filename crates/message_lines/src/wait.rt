@@ -6,15 +6,15 @@ use std::sync::atomic::{AtomicU64, Ordering};
 use std::thread::yield_now;
 use std::time::Duration;
 
-/// How often a thread only waits a moment before it looks again: where both run on processors of
+/// How often a thread only waits a moment before it looks again: if both run on processors of
 /// their own, the next items come within a microsecond.
 const SPINS: u32 = 2;
 
 /// How many turns the first of these moments has. The next is twice as long.
 const FIRST_SPINS: u32 = 4;
 
-/// How often it looks before it sleeps, from then on letting other threads run in between: where
-/// both share a processor, the other goes on then. All these looks take some 100 microseconds where
+/// How often it looks before it sleeps, from then on letting other threads run in between: if
+/// both share a processor, the other goes on then. All these looks take some 100 microseconds if
 /// nothing else runs. A sleep with its wake takes as long, and on a virtual machine whose processor
 /// stood still many times as long, in which the other thread runs ahead until it has to wait in its
 /// turn.
@@ -61,7 +61,7 @@ impl Parking {
         self.state.store(state, Ordering::SeqCst);
     }
 
-    /// Comes after a change that the thread may wait for, and wakes it where it sleeps, but where
+    /// Comes after a change that the thread may wait for, and wakes it if it sleeps, but if
     /// it dozes only for many changes. The thread says that it is about to sleep before it looks
     /// for the last time, so no change is missed.
     pub(crate) fn tell(&self) {
@@ -79,7 +79,7 @@ impl Parking {
         }
     }
 
-    /// Wakes the thread where it dozes and was not told of a change.
+    /// Wakes the thread if it dozes and was not told of a change.
     fn wake_untold(&self) {
         if self.state() == DOZING && self.untold.load(Ordering::SeqCst) > 0 {
             self.wake();

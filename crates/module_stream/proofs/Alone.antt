@@ -11,7 +11,7 @@ use Rattle.cdr_record.proofs.Cutting.{first_nil}
 use Rattle.module_stream.specs.Tasks.{formatted, text_or}
 use Rattle.module_stream.specs.Laws.{FormatsRecords, LeavesOthers}
 
--- no record stands alone but where there is one record and nothing is left
+-- no record stands alone but if there is one record and nothing is left
 none_spelled : (records : List LogRecord) (left : List ℕ)
     → ((entry : LogRecord) → records ≡ entry ∷ [] → left ≡ [] → ⊥)
     → record_alone records left ≡ None

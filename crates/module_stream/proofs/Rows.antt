@@ -1,4 +1,4 @@
--- Messages that go through tasks one behind another.
+-- Messages that go through tasks one after another.
 use Rattle.std.proofs.Common.{◌≡◌, ℕ, zero, suc, ◌+◌, ◌-◌, ◌<◌, ◌≤◌, List, [], ◌∷◌, ◌++◌, length}
 use Rattle.std.proofs.Common.{get_or, set, take, drop, refl, sym, ap, ◌∙◌, subst, arith}
 use Rattle.std.proofs.Common.{append_assoc}
@@ -14,7 +14,7 @@ pub through-append : {T : Type 0} (gives : T → List MessageState → List Mess
 through-append gives [] ys messages = refl
 through-append gives (x ∷ xs) ys messages = through-append gives xs ys (gives x messages)
 
--- what is left behind one more
+-- what is left after one more
 drop_one : {T : Type 0} (xs : List T) (i : ℕ) → drop 1 (drop i xs) ≡ drop (suc i) xs
 drop_one [] zero = refl
 drop_one [] (suc i) = refl
@@ -161,7 +161,7 @@ passed_by gives before now place next put messages h past = record {
   same = later_drop now before place next past.order h.same;
 }
 
--- a message is put behind the first tasks of a row, which give what they get
+-- a message is put after the first tasks of a row, which give what they get
 pub passed_first : {T : Type 0} (gives : T → List MessageState → List MessageState) (tasks : List T)
     (place : ℕ) (put : List MessageState)
     → IsPassedBy gives tasks 0 place → HasPassed gives tasks tasks place put put

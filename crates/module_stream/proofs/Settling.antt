@@ -25,7 +25,7 @@ first_is x y xs ys e = ap (λ l. get_or l 0 x) e
 rest_is : (x y : Item) (xs ys : List Item) → x ∷ xs ≡ y ∷ ys → xs ≡ ys
 rest_is x y xs ys e = ap (drop 1) e
 
--- where what was got through a line has come to its end, it is all that was sent
+-- if what was got through a line has come to its end, it is all that was sent
 pub got_all : (sent got : List MessageState) (more : List Item)
     → ones sent ++ Stop ∷ [] ≡ (ones got ++ Stop ∷ []) ++ more → sent ≡ got
 unfolding is_stop message_or

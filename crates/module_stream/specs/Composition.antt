@@ -14,7 +14,7 @@ abbrev pub GiveTheSame : (List MessageState → List MessageState)
     → (List MessageState → List MessageState) → Type 0
 GiveTheSame first second = (messages : List MessageState) → first messages ≡ second messages
 
--- what tasks that stand one behind another give together: each gets what the one before it gives
+-- what tasks that stand one after another give together: each gets what the one before it gives
 abbrev pub through : {T : Type 0} → (T → List MessageState → List MessageState) → List T
     → List MessageState → List MessageState
 through gives [] messages = messages
@@ -22,7 +22,7 @@ through gives (task ∷ tasks) messages = through gives tasks (gives task messag
 
 -- The part of a row of tasks from one place up to another gives what it gets: the row before it
 -- gives as much as the row up to its end, and the row from its beginning on as much as the row
--- behind it.
+-- after it.
 pub record IsPassedBy {T : Type 0} (gives : T → List MessageState → List MessageState)
     (tasks : List T) (from to : ℕ) : Type 0 where
   pub order : from ≤ to

@@ -1,4 +1,4 @@
--- What boxed tasks that stand one behind another give together. The parameters X and F are those of
+-- What boxed tasks that stand one after another give together. The parameters X and F are those of
 -- a boxed task, and the first argument gives what a boxed task means.
 use Rattle.std.specs.Prelude.{ℕ, List}
 use Rattle.std.specs.declared.alloc.Global.{Global}

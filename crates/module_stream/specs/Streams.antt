@@ -71,7 +71,7 @@ pub record TakesModule {X : Type 0} {F : X → Type 0} (stream : Stream X F) (na
   pub other_name : has_name stream name ≡ false
   pub below : length (names_of stream) < 16
 
--- A module of the same name, and 16 modules, are why one is refused. Only where the stream takes
+-- A module of the same name, and 16 modules, are why one is refused. Only if the stream takes
 -- the module can memory lack for it.
 abbrev pub RefusesModule : {X : Type 0} {F : X → Type 0} → Stream X F → ℕ → PushRefused → Type 0
 RefusesModule stream name push.SameName = has_name stream name ≡ true

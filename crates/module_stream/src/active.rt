@@ -19,7 +19,7 @@ use std::thread::{self, PromisedHandle, Threads};
 
 /// A task that runs on a thread of its own. Messages go to it through a queue of 64 places, one by
 /// one or some together, and what comes out comes back through another. Whoever waits for the other
-/// looks a few times and then sleeps. Where no thread can be started, the caller runs the task
+/// looks a few times and then sleeps. If no thread can be started, the caller runs the task
 /// inside `put` and `finish`. An active task is ended by `finish` and cannot be let go otherwise,
 /// so that no thread is left behind.
 pub struct ActiveTask<T: Task> {
@@ -129,7 +129,7 @@ impl<T: Task + Send + 'static> ActiveTask<T> {
 
     /// Ends the list of messages, waits until the thread has ended, and gives all that was not
     /// given yet. With what `put` gave before, that is what the task gives for all messages that
-    /// were put. `NoMemory` comes where the task refused a message or its end, or where there was
+    /// were put. `NoMemory` comes if the task refused a message or its end, or if there was
     /// no memory for what came out; the messages that it gives are those that came before the first
     /// that was lost.
     pub fn finish<R: Threads + Wait>(self, rt: &R) -> Result<Messages, (Messages, NoMemory)>

@@ -17,7 +17,7 @@ pub enum Passed {
 }
 
 impl Passed {
-    /// The messages as a list. It takes memory where there is no list yet.
+    /// The messages as a list. It takes memory if there is no list yet.
     pub fn into_messages(self, alloc: Global) -> Result<Messages, NoMemory>
         ensures { IfOk result (λ messages. messages ≡ passed_on self) }
     {

@@ -1,4 +1,4 @@
-//! Tasks that stand one behind another.
+//! Tasks that stand one after another.
 ghost use Rattle.std.specs.Prelude.{◌≡◌, ◌≤◌, true, [], ◌∷◌, ◌++◌, length, IfOk, vec_len};
 ghost use Rattle.module_stream.specs.Composition.{Comes, GiveTheSame};
 ghost use Rattle.module_stream.specs.Flows.{flow, ArePassedBy};
@@ -32,7 +32,7 @@ fn end(task: &mut Box<dyn Task>) -> Result<Messages, NoMemory>
     task.finish()
 }
 
-/// Messages behind others. Where there are no others the list is kept as it is.
+/// Messages after others. If there are no others the list is kept as it is.
 fn joined(first: Vec<Message>, second: Vec<Message>) -> Result<Vec<Message>, NoMemory>
     ensures { IfOk result (λ all. all.items ≡ first.items ++ second.items) }
 {
@@ -44,7 +44,7 @@ fn joined(first: Vec<Message>, second: Vec<Message>) -> Result<Vec<Message>, NoM
     Ok(first)
 }
 
-/// What comes out of a task behind other messages.
+/// What comes out of a task after other messages.
 fn add(out: Vec<Message>, given: Passed) -> Result<Vec<Message>, NoMemory>
     ensures { IfOk result (λ all. all.items ≡ out.items ++ passed_on given) }
 {

@@ -85,8 +85,8 @@ impl Stream {
     }
 
     /// Pushes a module just below the head, before the first message. A refusal gives it back, and
-    /// the stream is as before: `SameName` comes exactly where a module of that name is in the
-    /// stream, `Full` exactly where it is not and there are 16.
+    /// the stream is as before: `SameName` comes exactly if a module of that name is in the
+    /// stream, `Full` exactly if it is not and there are 16.
     pub fn push(&mut self, m: Module) -> Result<(), (Module, PushRefused)>
         requires { has_started self.old ≡ false }
         ensures accepts { OnOk result (TakesModule self.old m.name) }
@@ -130,7 +130,7 @@ impl Stream {
         self.readers.reserve(1)
     }
 
-    /// Takes the module just below the head, before the first message. None comes exactly where
+    /// Takes the module just below the head, before the first message. None comes exactly if
     /// there is none.
     pub fn pop(&mut self) -> Option<Module>
         requires { has_started self.old ≡ false }
@@ -156,8 +156,8 @@ impl Stream {
     }
 
     /// Puts a message at the head. It goes through the writers down to the tail, and the answer is
-    /// what leaves the last; the changed stream gives the rest. `Spent` comes exactly where there
-    /// was no memory in an earlier `put`, `put_up` or `finish`, or where the stream was finished;
+    /// what leaves the last; the changed stream gives the rest. `Spent` comes exactly if there
+    /// was no memory in an earlier `put`, `put_up` or `finish`, or if the stream was finished;
     /// the message is dropped then. After `NoMemory` the stream is spent.
     pub fn put(&mut self, m: Message) -> Result<Messages, StreamRefused>
         ensures given { IfOk result (λ out. Comes (flow ⟦<dyn Task as Task>⟧ (writers_of self.old))
@@ -178,7 +178,7 @@ impl Stream {
         }
     }
 
-    /// Puts a message at the head as `put` does. Where one message leaves the last task, no list is
+    /// Puts a message at the head as `put` does. If one message leaves the last task, no list is
     /// made for it.
     // Within its callers, since a `Passed` that a call returns goes through memory.
     #[inline(always)]
@@ -225,7 +225,7 @@ impl Stream {
         }
     }
 
-    /// Puts a message at the tail as `put_up` does. Where one message leaves the last task, no list
+    /// Puts a message at the tail as `put_up` does. If one message leaves the last task, no list
     /// is made for it.
     // Within its callers, since a `Passed` that a call returns goes through memory.
     #[inline(always)]

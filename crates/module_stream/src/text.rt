@@ -18,7 +18,7 @@ const MOST_BYTES: usize = 1_048_576;
 /// with numbers of at most 20, 11, 11 and 12 bytes.
 const MOST_BEFORE_MESSAGE: usize = 59;
 
-/// How many bytes the text of a record with this message has at most where no byte of it is
+/// How many bytes the text of a record with this message has at most if no byte of it is
 /// escaped: so many are put without growing.
 fn room_for(message: &[u8]) -> usize {
     MOST_BEFORE_MESSAGE.saturating_add(message.len())

@@ -110,7 +110,7 @@ impl<T: Task> Worker<T> {
         self.keep_memory(messages);
     }
 
-    /// Takes the memory of a list of which nothing is left for what is gathered next, where nothing
+    /// Takes the memory of a list of which nothing is left for what is gathered next, if nothing
     /// is: so lists that go through the lines need no memory anew, and the threads do not wait for
     /// each other at the allocator.
     fn keep_memory(&mut self, list: Vec<Message>)
@@ -154,7 +154,7 @@ impl<T: Task> Worker<T> {
         }
     }
 
-    /// Gathers a message behind the others. After `NoMemory` it is lost.
+    /// Gathers a message after the others. After `NoMemory` it is lost.
     fn gather<R: Wait>(
         &mut self,
         rt: &R,
@@ -178,7 +178,7 @@ impl<T: Task> Worker<T> {
         }
     }
 
-    /// Sends what was gathered where that is as much as goes together.
+    /// Sends what was gathered if that is as much as goes together.
     fn make_room<R: Wait>(&mut self, rt: &R, came: &Line, waits: &Waits)
         requires { IsPassOf came.now self.old.puts × ((view self.old.puts).puts ≡ true) }
         ensures same { IsSamePass self.old.puts self.new.puts }

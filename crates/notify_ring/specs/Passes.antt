@@ -81,7 +81,7 @@ HasPosted v handle kind (Ok n) w =
 HasPosted v handle kind (Err f) w =
     (256 ≤ f.held) × (w ≡ record v { claims = v.claims + 1; found = f.held })
 
--- The posting behind those taken: the next number, and as many of its poster before it as were
+-- The posting after those taken: the next number, and as many of its poster before it as were
 -- taken.
 pub record IsNext (got : List Posting) (x : Posting) : Type 0 where
   pub number : x.number ≡ length got

@@ -18,21 +18,21 @@ use Rattle.notify_ring.specs.Passes.{blank, owns}
 abbrev pub first_view : View
 first_view = record blank { drains = true; posts = true; root = true; posters = 1 }
 
--- 1 where a claim is in flight.
+-- 1 if a claim is in flight.
 abbrev pub claim_of : Flight → ℕ
 claim_of Idle = 0
 claim_of (Claimed r) = 1
 claim_of (Drawn x) = 0
 claim_of (Written x) = 0
 
--- 1 where it found less than 256.
+-- 1 if it found less than 256.
 abbrev pub good_of : Flight → ℕ
 good_of Idle = 0
 good_of (Claimed r) = flag (nat_lt r 256)
 good_of (Drawn x) = 0
 good_of (Written x) = 0
 
--- 1 where number n was drawn and its gate is not stored.
+-- 1 if number n was drawn and its gate is not stored.
 abbrev pub pends_of : ℕ → Flight → ℕ
 pends_of n Idle = 0
 pends_of n (Claimed r) = 0

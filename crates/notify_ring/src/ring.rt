@@ -62,7 +62,7 @@ impl Ring {
     }
 
     /// Posts a notification and gives its number. It neither waits nor takes memory. `Full` comes
-    /// exactly where 256 places or more were held or in flight when it looked, and then nothing is
+    /// exactly if 256 places or more were held or in flight when it looked, and then nothing is
     /// posted.
     pub fn post(&self, poster: &mut Poster, handle: Handle, kind: Kind) -> Result<u64, Full>
         requires ring { poster_ring poster.old ≡ id_of self.now }
@@ -96,7 +96,7 @@ impl Ring {
         self.peek_gate(&mut drainer.seat, place) == 0
     }
 
-    /// Takes the next posting, or None where its gate was empty at this call's one look. It neither
+    /// Takes the next posting, or None if its gate was empty at this call's one look. It neither
     /// waits nor takes memory.
     pub fn next(&self, drainer: &mut Drainer) -> Option<Posting>
         requires ring { drainer_ring drainer.old ≡ id_of self.now }

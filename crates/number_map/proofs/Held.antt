@@ -134,7 +134,7 @@ module _ {V : Type 0} where
   some_of None h = absurd cc
   some_of (Some v) h = (v, refl)
 
-  -- where a place has a value, it is held at the index to which the place leads
+  -- if a place has a value, it is held at the index to which the place leads
   pub stands : (held : List (ℕ × V)) (leads : List ℕ) (now : List (Option V)) (i p : ℕ)
       → values_from held 0 leads ≡ now → IsSome (get_or now i None) → slice_get leads i ≡ Some p
       → (h : ℕ × V) × (slice_get held p ≡ Some h) × (h.0 ≡ i)
@@ -208,7 +208,7 @@ module _ {V : Type 0} where
           (λ (n : q ≡ p → ⊥). l.led q g (sym (get_set_other held p q (i, v) n) ∙ there))
           c
 
-  -- a value is held where the place had none
+  -- a value is held when the place had none
   pub pushed : (held : List (ℕ × V)) (leads : List ℕ) (i : ℕ) (v : V) → i < length leads
       → values_from (held ++ (i, v) ∷ []) 0 (set leads i (length held))
       ≡ set (values_from held 0 leads) i (Some v)
@@ -421,7 +421,7 @@ module _ {V : Type 0} where
       ∙ ap (λ (vs : List (Option V)). set vs i None)
       (ap (λ (xs : List (ℕ × V)). values_from xs 0 leads) (sym parts) ∙ is)
 
-  -- there is no place that has a value where none is held
+  -- there is no place that has a value if none is held
   pub none_stands : (held : List (ℕ × V)) (leads : List ℕ) (now : List (Option V)) (i p : ℕ)
       → values_from held 0 leads ≡ now → IsSome (get_or now i None) → slice_get leads i ≡ Some p
       → length held ≡ 0 → ⊥

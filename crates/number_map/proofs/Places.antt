@@ -204,7 +204,7 @@ module _ {V : Type 0} where
           (lookup (is_at (nat_cmp q)) (entries_from 0 places)) (not_equal i q other))))
           (cases_eq i q))
 
-  -- the same, where the entries are known under another name
+  -- the same, if the entries are known under another name
   pub updates_same : (places : List (Option V)) (i : ℕ) (value : Option V) (es : List (ℕ × V))
       → i < length places → entries_from 0 places ≡ es
       → Updates (record { entries = es }) (record { entries = entries_from 0 (set places i value) })
@@ -239,7 +239,7 @@ module _ {V : Type 0} where
           none r = cc
       some (Some w) q = refl
 
-  -- nothing stands behind the last place
+  -- nothing stands after the last place
   pub nothing_past : (places : List (Option V)) (i : ℕ) (es : List (ℕ × V)) → length places ≤ i
       → entries_from 0 places ≡ es → lookup (is_at (nat_cmp i)) es ≡ None
   nothing_past places i es past is =

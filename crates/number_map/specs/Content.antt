@@ -9,7 +9,7 @@ pub record Content (V : Type 0) : Type 0 where
   pub entries : List (ℕ × V)
 
 module _ {V : Type 0} where
-  -- the values of these places, each with its number, where the first place has this number
+  -- the values of these places, each with its number, if the first place has this number
   abbrev pub entries_from : ℕ → List (Option V) → List (ℕ × V)
   entries_from number [] = []
   entries_from number (None ∷ rest) = entries_from (number + 1) rest

@@ -1,5 +1,5 @@
--- Values that are held one behind another, each with the number of its place. A place leads to the
--- index at which its value is held; where it has none, what it leads to is the value of another
+-- Values that are held one after another, each with the number of its place. A place leads to the
+-- index at which its value is held; if it has none, what it leads to is the value of another
 -- place, or nothing.
 use Rattle.std.specs.Prelude.{ℕ, ◌≡◌, ◌+◌, ◌==◌, Bool, false, List, [], ◌∷◌, Option, Some, None}
 use Rattle.std.specs.Prelude.{if◌then◌else◌}
@@ -15,7 +15,7 @@ module _ {V : Type 0} where
   own number None = None
   own number (Some held) = if held.0 == number then Some held.1 else None
 
-  -- the values of the places that lead to these indices, where the first place has this number
+  -- the values of the places that lead to these indices, if the first place has this number
   abbrev pub values_from : List (ℕ × V) → ℕ → List ℕ → List (Option V)
   values_from held number [] = []
   values_from held number (lead ∷ leads) =

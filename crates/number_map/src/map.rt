@@ -45,7 +45,7 @@ impl<V: Copy> NumberMap<V> {
         self.places.get(number as usize)
     }
 
-    /// Gives a number a value, in place of one that it had. `NoMemory` comes only where it had
+    /// Gives a number a value, in place of one that it had. `NoMemory` comes only if it had
     /// none, and then all is as before. More values at once than 32 bits count are answered so too.
     pub fn insert(&mut self, number: u64, value: V) -> Result<(), NoMemory>
         ensures entries { OnOk result (self.new.entries ≡ insert_entry nat_cmp self.old.entries
@@ -83,7 +83,7 @@ impl<V: Copy> NumberMap<V> {
     }
 }
 
-/// Makes a place of this number, where there is none.
+/// Makes a place of this number, if there is none.
 fn make_place<V: Copy>(places: &mut Places<V>, place: usize) -> Result<(), NoMemory>
     ensures entries { entries_from 0 places.new ≡ entries_from 0 places.old }
     ensures there { OnOk result (place < length places.new) }

@@ -8,8 +8,8 @@ use ev_types::NoMemory;
 use std::alloc::Global;
 use std::marker::Model;
 
-/// A list of places, each with a value or without. The values are held one behind another, each
-/// with the number of its place, and each place has the index at which its value is held. Where it
+/// A list of places, each with a value or without. The values are held one after another, each
+/// with the number of its place, and each place has the index at which its value is held. If it
 /// has none, what that index leads to is the value of another place, or nothing. So a place without
 /// a value takes four bytes.
 #[derive(Drop)]
@@ -77,7 +77,7 @@ impl<V: Copy> Places<V> {
         }
     }
 
-    /// Gives a place a value, in place of one that it had. `NoMemory` comes only where it had none.
+    /// Gives a place a value, in place of one that it had. `NoMemory` comes only if it had none.
     pub(crate) fn put(&mut self, place: usize, value: V) -> Result<(), NoMemory>
         requires { place < length self.old }
         ensures ok { OnOk result (self.new ≡ set self.old place (Some value)) }

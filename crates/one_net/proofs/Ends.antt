@@ -18,7 +18,7 @@ pub faults_rose : (failed : Bool) (start old new : ℕ) → FaultsSince failed s
 faults_rose true start old new before now = rose_again start old new before now
 faults_rose false start old new before now = subst (λ n. Rose n new) before now
 
--- the bytes that were given, where one byte more was read that is kept
+-- the bytes that were given, if one byte more was read that is kept
 same_given : (count : ℕ) (given kept : List ℕ) → length kept ≡ 1
     → passed_on 1 count (given ++ kept) ≡ passed_on 0 count given
 same_given count given kept one =

@@ -26,7 +26,7 @@ limit_of end = end.limit
 abbrev pub count_of : {S : Type 0} → OneEnd S → ℕ
 count_of end = end.given
 
--- the byte behind the limit that it met and keeps, if there was one
+-- the byte past the limit that it met and keeps, if there was one
 abbrev pub extra_of : {S : Type 0} → OneEnd S → List ℕ
 extra_of end = option_to_list end.extra
 
@@ -49,7 +49,7 @@ last_bytes count bytes = drop (length bytes - count) bytes
 abbrev pub passed_on : ℕ → ℕ → List ℕ → List ℕ
 passed_on kept count given = last_bytes count (take (length given - kept) given)
 
--- The bytes that the end gave since it was made, where the source tells its bytes: those that the
+-- The bytes that the end gave since it was made, if the source tells its bytes: those that the
 -- source gave before are not among them.
 abbrev pub given_by : ℕ → ℕ → Option ReaderBytes → List ℕ
 given_by kept count None = []
@@ -78,11 +78,11 @@ abbrev pub last_of : ℕ → Option Try
 last_of zero = None
 last_of (suc writes) = Some Paused
 
--- a read answered Over: it made one, met no byte behind the limit, and the source is over
+-- a read answered Over: it made one, met no byte past the limit, and the source is over
 abbrev pub is_over : ℕ → Option ℕ → Bool → Bool
 is_over reads extra over = nat_lt 0 reads && (is_none extra && over)
 
--- It is the connection's end of number 0. It counts its own faults, tells its bytes where the
+-- It is the connection's end of number 0. It counts its own faults, tells its bytes if the
 -- source does, and tells neither what is written, since it takes nothing, nor parts of a story.
 abbrev pub one_end_facts : {S : Type 0} → (S → SourceFacts) → OneEnd S → EndFacts
 one_end_facts facts end = record {
@@ -111,7 +111,7 @@ pub record SourceFails {S : Type 0} (facts : S → SourceFacts) (old new : OneEn
   pub rose : Rose (facts (input_of old)).faults (facts (input_of new)).faults
   pub extra : extra_of new ≡ []
 
--- a byte behind the limit was met, now or before
+-- a byte past the limit was met, now or before
 pub record MeetsByte {S : Type 0} (facts : S → SourceFacts) (old new : OneEnd S) : Type 0 where
   pub extra : extra_of new ≢ []
   pub behind : extra_of old ≡ [] → count_of old ≡ limit_of old
@@ -123,7 +123,7 @@ abbrev pub TakesAll : {S : Type 0} → (S → SourceFacts) → OneEnd S → OneE
 TakesAll facts old new = (facts (input_of new)).gave + took_of old
     ≡ (facts (input_of old)).gave + took_of new
 
--- Why a read answers what it answers. A fault is one of the source, or a byte behind the limit.
+-- Why a read answers what it answers. A fault is one of the source, or a byte past the limit.
 abbrev pub OneReads : {S : Type 0} → (S → SourceFacts) → OneEnd S → Got → OneEnd S → Type 0
 OneReads facts old (got.Bytes n) new =
     (count_of new ≡ count_of old + n) × (extra_of new ≡ []) × (failed_of new ≡ failed_of old)

@@ -28,7 +28,7 @@ start_bytes None before = None
 
 -- The source's bytes at the start, read off the terms. The terms of the command have, as story of
 -- number 0, the bytes that the source had left at the start, and under number 1, which no end has,
--- those that it gave before. Where the source tells no bytes, they have no story.
+-- those that it gave before. If the source tells no bytes, they have no story.
 abbrev pub bytes_at_start : Terms → Option ReaderBytes
 bytes_at_start t = start_bytes (story_of t 0) (story_of t 1)
 
@@ -44,7 +44,7 @@ pub record StartsAt (t : Terms) (source : SourceFacts) : Type 0 where
   pub bytes : bytes_at_start t ≡ source.bytes
   pub story : IsStoryOfSource t
 
--- where the source tells its bytes, the end gave this many
+-- if the source tells its bytes, the end gave this many
 abbrev pub IsCountOf : List ℕ → Option ReaderBytes → ℕ → Type 0
 IsCountOf given None count = Unit {0}
 IsCountOf given (Some bytes) count = length given ≡ count
@@ -59,13 +59,13 @@ pub record OneEndKeeps {S : Type 0} (facts : S → SourceFacts) (t : Terms) (end
         → (one_end_facts facts end).reads ≤ count_of end
     -- no read paused
     pub never_pauses : (one_end_facts facts end).last_read ≢ Some Paused
-    -- a byte behind the limit was met only behind as many bytes as the limit, and is a fault
+    -- a byte past the limit was met only after as many bytes as the limit, and is a fault
     pub too_long : extra_of end ≢ [] → (count_of end ≡ limit_of end)
         × (1 ≤ (one_end_facts facts end).faults)
-    -- its faults are failures of the source and bytes behind the limit
+    -- its faults are failures of the source and bytes past the limit
     pub sound : (one_end_facts facts end).faults ≡ 0 → (failed_of end ≡ false) × (extra_of end ≡ [])
     pub cause : 1 ≤ (one_end_facts facts end).faults → (failed_of end ≡ true) ⊎ (extra_of end ≢ [])
-    -- the source's count of faults is that of the start, or rose where a read of it failed
+    -- the source's count of faults is that of the start, or rose if a read of it failed
     pub source_faults : (f : ℕ) → t.input_faults ≡ Some f
         → FaultsSince (failed_of end) f (facts (input_of end)).faults
     -- since the start the source gave as many bytes as the end took, whether it tells them or not
@@ -75,7 +75,7 @@ pub record OneEndKeeps {S : Type 0} (facts : S → SourceFacts) (t : Terms) (end
         (facts (input_of end)).bytes
     -- and those are as many as it counts
     pub counts : IsCountOf (given_of facts end) (facts (input_of end)).bytes (count_of end)
-    -- where a read found the end, nothing is left and no byte was met behind the limit
+    -- if a read found the end, nothing is left and no byte was met past the limit
     pub at_end : (one_end_facts facts end).over ≡ true → NothingLeft (facts (input_of end)).bytes
         × (extra_of end ≡ [])
     pub story : IsStoryOfSource t

@@ -50,7 +50,7 @@ abbrev pub last_answer : List Call → Option Waited
 last_answer (Waits most answer reports ∷ calls) = Some answer
 last_answer _ = None
 
--- It follows no script: such a run has terms that lay down no groups. Where its last call was a
+-- It follows no script: such a run has terms that lay down no groups. If its last call was a
 -- wait, that was answered by what is attached.
 pub record OneNetKeeps {S : Type 0} (t : Terms) (net : OneNet S) : Type 0 where
   pub no_script : t.groups ≡ None

@@ -8,7 +8,7 @@ use ev_base::{Got, PeerEnd, Sent, Source, Taken};
 /// The end of the connection of number 0, which reads a source, of which it gives so many bytes at
 /// most.
 ///
-/// A failing source is a fault of the end too. Where `limit` bytes were given, a read asks the
+/// A failing source is a fault of the end too. If `limit` bytes were given, a read asks the
 /// source for one byte more. If there is one, the end keeps it, and from then on each read is a
 /// fault and asks no more. It never pauses at a read, and it has nowhere to write, so each write
 /// pauses. It owns the source, which `into_input` gives back.
@@ -18,7 +18,7 @@ pub struct OneEnd<S> {
     limit: u64,
     // How many bytes it gave.
     given: u64,
-    // The byte behind the limit, once it was met.
+    // The byte past the limit, once it was met.
     extra: Option<u8>,
     // Whether a read of the source failed.
     failed: bool,
@@ -61,7 +61,7 @@ impl<S: Source> OneEnd<S> {
         }
     }
 
-    /// Whether a byte behind the limit was met.
+    /// Whether a byte past the limit was met.
     pub fn is_too_long(&self) -> bool
         ensures met { result ≡ true → extra_of self.now ≢ [] }
         ensures not_met { result ≡ false → extra_of self.now ≡ [] }
@@ -91,7 +91,7 @@ impl<S: Source> OneEnd<S> {
         input
     }
 
-    // A read where a byte behind the limit was met before: it fails, and the source isn't asked.
+    // A read when a byte past the limit was met before: it fails, and the source isn't asked.
     fn refuse(&mut self) -> Got
         requires { extra_of self.old ≢ [] }
         ensures reads { (buffer : List ℕ) → EndReads (one_end_facts S.facts self.old) buffer result
@@ -110,7 +110,7 @@ impl<S: Source> OneEnd<S> {
         Got::Failed
     }
 
-    // A read where the end gave as many bytes as it may: it looks whether there is one more.
+    // A read once the end gave as many bytes as it may: it looks whether there is one more.
     fn look_behind(&mut self) -> Got
         requires none { extra_of self.old ≡ [] }
         requires full { count_of self.old ≡ limit_of self.old }

@@ -9,7 +9,7 @@ use std::alloc::Global;
 
 /// A demultiplexer whose ends can be read at any time, and nothing else.
 ///
-/// Each wait reports the end that was attached first as readable, at moment 0, where its mask has
+/// Each wait reports the end that was attached first as readable, at moment 0, if its mask has
 /// that; else nothing can be reported any more. It never fails, and only `reserve` takes memory. It
 /// holds the ends that it took back, which are not let go: so it ends by `into_retired` or by
 /// `close`.
@@ -48,7 +48,7 @@ impl<S: Source> OneNet<S> {
         }
     }
 
-    /// The end that was retired, where it is the only one that the net took.
+    /// The end that was retired, if it is the only one that the net took.
     pub fn into_retired(self) -> OneEnd<S>
         requires { (handle : ℕ) × (end : OneEnd S) × ((one_net_facts self).retired
             ≡ Some ((handle, end) ∷ [])) × ((one_net_facts self).turned_away ≡ Some []) }

@@ -42,7 +42,7 @@ use Rattle.one_run.proofs.Phases.{so_more, notes_more, none_closed}
 
 -- ---- waits
 
--- where no timer is armed none comes due
+-- if no timer is armed none comes due
 none_due : (s : Summary) (timers : List ℕ) → s.armed ≡ [] → AreDue s timers → timers ≡ []
 none_due s [] none due = refl
 none_due s (timer ∷ rest) none due =
@@ -51,7 +51,7 @@ none_due s (timer ∷ rest) none due =
     no_first : false ≡ true → ⊥
     no_first q = cc
 
--- where no handle is live no report is taken
+-- if no handle is live no report is taken
 none_taken : (s : Summary) (reports : List Report) → s.handles ≡ []
     → filter (is_taken s) reports ≡ []
 none_taken s [] none = refl
@@ -195,7 +195,7 @@ read_goes {N} h r = record {
   );
 }
 
--- what is removed at the end where one handler is alive and at home, and where none is
+-- what is removed at the end if one handler is alive and at home, and if none is
 one_removal : {N : Type 0} (busy : ℕ → Bool) (entries : List (Entry N)) → busy 0 ≡ false
     → AreRemovals busy (one_live ∷ []) entries
     → (said : N) × (entries ≡ Removed one_handle ∷ Closed one_handle said ∷ [])

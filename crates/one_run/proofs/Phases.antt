@@ -78,7 +78,7 @@ pub summary_closed : {N : Type 0} (e : ℕ) (note said : N)
     ≡ closed_summary (suc (suc (suc (suc e)))) 0 false
 summary_closed e note said = rw (same e) refl
 
--- ---- the entries behind the first
+-- ---- the entries after the first
 
 pub so_more : {N : Type 0} (h : List (Entry N)) (e : Entry N) → is_served e ≡ true → IsServedSo h
     → IsServedSo (h ++ e ∷ [])
@@ -102,7 +102,7 @@ read_more (first ∷ items) item all one = (all.0, read_more items item all.1 on
 
 -- ---- one turn
 
--- the turns behind an upcall of the event e that was settled
+-- the turns after an upcall of the event e that was settled
 turns_returned : {N : Type 0} (most : ℕ) (h : List (Entry N)) (e : ℕ) (answer : Answer) (note : N)
     → is_legal most (Started e ∷ past_of h) ≡ true → summary (past_of h) ≡ waiting_summary e
     → had (Returned e answer note ∷ Started e ∷ past_of h) 0

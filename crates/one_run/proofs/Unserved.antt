@@ -19,7 +19,7 @@ use Rattle.log_handler.specs.declared.line_sink.LineSink.{LineSink}
 use Rattle.log_handler.specs.LineSink.{PutsLines, is_broken, sink_of}
 use Rattle.one_run.specs.Opening.{CountsWrite}
 
--- where nothing was put the text is what it was
+-- if nothing was put the text is what it was
 grows_nothing : (old new : Option (List ℕ)) (text more : List ℕ) → old ≡ Some text → more ≡ []
     → GrowsBy old more new → new ≡ Some text
 grows_nothing old new text more was none grows =
@@ -74,7 +74,7 @@ pub none_or_end : {N : Type 0} (F : ℕ) (entries journal : List (Entry N)) → 
 none_or_end zero entries journal is within held = inr (held ∙ is)
 none_or_end (suc F) entries journal is within held = absurd (omega (arith, within))
 
--- a sink of lines broke where the count of faults rose, and else that stands
+-- a sink of lines broke if the count of faults rose, and else that stands
 pub sink_faults : {K : Type 0} (facts : K → SinkFacts) (t : Terms) (sink : LineSink K)
     (journal : List (Entry ServerNote)) (n : ℕ) → t.output_faults ≡ Some n
     → PutsLines facts t sink journal

@@ -1,4 +1,4 @@
--- The waits of a run of one connection: the first reports it, and none behind its close.
+-- The waits of a run of one connection: the first reports it, and none after its close.
 use Rattle.std.proofs.Common.{ℕ, ◌≡◌, ◌==◌, Bool, true, false, ◌&&◌, ◌||◌, List, [], ◌∷◌, ◌++◌, map}
 use Rattle.std.proofs.Common.{length, refl, sym, ap, ◌∙◌, subst, arith, Option, Some, None, ◌⊎◌}
 use Rattle.std.proofs.Common.{inl, inr, ⊎_elim}
@@ -169,7 +169,7 @@ module _ {S K V : Type 0} (G : Ghosts (OneEnd S)) (source : S → SourceFacts) (
           (waits_first h w.timers opened (subst
           (λ (n : ℕ). AreDue (after (summary (past_of h)) (Polled n)) w.timers) now w.due)))
 
-  -- what holds of the history behind either of the two waits
+  -- what holds of the history after either of the two waits
   pub either_wait : (old new : the_core) (F : ℕ) (h : List (Entry ServerNote)) (polled : Found)
       → IsOpened h ⊎ IsShut [] h → Stands (one_meaning source sink volumes) t old F h
       → Polls (one_meaning source sink volumes) t F h None polled old new

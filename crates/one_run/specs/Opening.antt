@@ -58,13 +58,13 @@ pub record TakesNothing (v w : VolumesFacts ServerNote) : Type 0 where
   pub taken : w.taken ≡ v.taken
   pub faults : w.faults ≡ v.faults
 
--- a sink counts one failed write more where one failed, and else none
+-- a sink counts one failed write more if one failed, and else none
 abbrev pub CountsWrite : Bool → ℕ → ℕ → Type 0
 CountsWrite true before now = now ≡ counted before
 CountsWrite false before now = now ≡ before
 
 -- No handler was registered: the journal is empty, or the end alone, and the text of the output is
--- what it was. The output counts one failed write more where one failed.
+-- what it was. The output counts one failed write more if one failed.
 pub record LeavesNothing {S K V : Type 0} (sink : K → SinkFacts) (t : Terms)
     (left : Unopened S K V) : Type 0 where
   pub journal : (left.journal.entries ≡ []) ⊎ (left.journal.entries ≡ entry.Ended ∷ [])

@@ -131,7 +131,7 @@ abbrev pub AllReadOn : {N : Type 0} → List (Item N) → Type 0
 AllReadOn [] = Unit {0}
 AllReadOn (item ∷ items) = ReadsOn item × AllReadOn items
 
--- the kinds of entries that stand behind the first one until the end: waits and reports, upcalls
+-- the kinds of entries that stand after the first one until the end: waits and reports, upcalls
 -- and closings
 abbrev pub is_served : {N : Type 0} → Entry N → Bool
 is_served (entry.Polled now) = true
@@ -159,7 +159,7 @@ first_entry = entry.Opened one_handle read_mask
 abbrev pub IsOpened : {N : Type 0} → List (Entry N) → Type 0
 IsOpened h = h ≡ first_entry ∷ []
 
--- the entries behind the first, of the kinds of a connection that is served
+-- the entries after the first, of the kinds of a connection that is served
 pub record IsServedSo {N : Type 0} (h : List (Entry N)) : Type 0 where
   pub served : List (Entry N)
   pub is : h ≡ first_entry ∷ served
@@ -191,7 +191,7 @@ is_rest (entry.Polled now) = true
 is_rest entry.Ended = true
 is_rest _ = false
 
--- The handler was closed: behind these entries, for this reason and with this note, and waits and
+-- The handler was closed: after these entries, for this reason and with this note, and waits and
 -- the end follow.
 pub record HasClosed {N : Type 0} (h : List (Entry N)) : Type 0 where
   pub before : List (Entry N)
@@ -242,7 +242,7 @@ WasShut h = (moments : List ℕ) × (length moments ≤ 1) × IsShut moments h
 abbrev pub CanEnd : {N : Type 0} → List (Entry N) → Type 0
 CanEnd h = IsOpened h ⊎ (IsRead h ⊎ WasShut h)
 
--- the closing of h is that of the history that is finished, behind which the reactor was stopped
+-- the closing of h is that of the history that is finished, after which the reactor was stopped
 pub record ClosesAs {N : Type 0} {h : List (Entry N)} (closed : HasClosed h) (over : List (Entry N))
     (finished : IsFinished over) : Type 0 where
   pub reason : finished.closed.reason ≡ closed.reason

@@ -50,7 +50,7 @@ pub record AreOfOne (t : Terms) : Type 0 where
   pub limit : FitsLimit t None
   pub idle : t.idle ≡ Some None
 
--- a call is right where the core stands for a history with P
+-- a call is right if the core stands for a history with P
 abbrev pub CanRun : {H M Q W V N E : Type 0} → Meaning H M Q W V N E → (List (Entry N) → Type 0)
     → Core H M Q W V N E → Type 0
 CanRun {N = N} m P core = StandsWith m (λ t h. AreOfOne t × P h) core
@@ -60,13 +60,13 @@ abbrev pub StandsIn : {H M Q W V N E : Type 0} → Meaning H M Q W V N E → Ter
     → (List (Entry N) → Type 0) → Core H M Q W V N E → Type 0
 StandsIn {N = N} m t P core = (F : ℕ) × (h : List (Entry N)) × Stands m t core F h × P h
 
--- where the core stood for a history with P, it stands now for one that is R to it
+-- if the core stood for a history with P, it stands now for one that is R to it
 abbrev pub LeadsBy : {H M Q W V N E : Type 0} → Meaning H M Q W V N E → (List (Entry N) → Type 0)
     → (List (Entry N) → List (Entry N) → Type 0) → Core H M Q W V N E → Core H M Q W V N E → Type 0
 LeadsBy {N = N} m P R old new = (t : Terms) (F : ℕ) (h : List (Entry N)) → Stands m t old F h
     → AreOfOne t → P h → StandsIn m t (R h) new
 
--- where it stood for a history with P, it stands now for one with Q
+-- if it stood for a history with P, it stands now for one with Q
 abbrev pub Leads : {H M Q W V N E : Type 0} → Meaning H M Q W V N E → (List (Entry N) → Type 0)
     → (List (Entry N) → Type 0) → Core H M Q W V N E → Core H M Q W V N E → Type 0
 Leads m P Q old new = LeadsBy m P (λ before h. Q h) old new
@@ -96,7 +96,7 @@ pub record IsWholeUntilLast {N : Type 0} (whole : ℕ) (h : List (Entry N)) : Ty
 abbrev pub HasRead : {N : Type 0} → ℕ → List (Entry N) → Type 0
 HasRead turns h = IsRead h × (turns ≤ length (turns_in h))
 
--- the volumes' count of faults rose where the run was halted for them, and else stands
+-- the volumes' count of faults rose if the run was halted for them, and else stands
 abbrev pub VolumesSince : Option Halt → ℕ → ℕ → Type 0
 VolumesSince (Some halt.VolumesFailed) before now = Rose before now
 VolumesSince _ before now = now ≡ before
@@ -128,14 +128,14 @@ closes_lost _ = false
 abbrev pub IsShutAs : List ℕ → Bool → List (Entry ServerNote) → Type 0
 IsShutAs moments lost h = (s : IsShut moments h) × (lost ≡ is_lost s.closed.note)
 
--- a run was halted, or went on until its connection had closed itself and one wait was made behind
+-- a run was halted, or went on until its connection had closed itself and one wait was made after
 -- that
 abbrev pub HasEnded : Option Halt → Bool → List (Entry ServerNote) → Type 0
 HasEnded None lost h = (now : ℕ) × IsShutAs (now ∷ []) lost h
 HasEnded (Some why) lost h = CanEnd h
 
 -- The handler of a journal that is finished had closed itself, and this tells whether for want of
--- memory. Behind its closing one wait was made, and then the reactor was stopped.
+-- memory. After its closing one wait was made, and then the reactor was stopped.
 pub record ClosedItself (lost : Bool) (h : List (Entry ServerNote)) (over : IsFinished h) : Type 0
   where
     pub own : over.closed.reason ≡ Own

@@ -20,7 +20,7 @@ use timer_queue::SortedTimers;
 /// How many bytes are read at most: 2^40.
 const MOST_INPUT: u64 = 1 << 40;
 
-/// What is left where there was no memory to begin a run.
+/// What is left if there was no memory to begin a run.
 #[derive(Drop)]
 pub struct Unopened<S, K, V> {
     /// The journal: nothing, or the end of a reactor that had no handler.

@@ -40,14 +40,14 @@ pub enum Halt {
 /// How a run ended.
 #[derive(Clone, Copy, PartialEq, Eq, Debug)]
 pub struct Ending {
-    /// Why it was halted, or None where it went on until its connection had closed itself.
+    /// Why it was halted, or None if it went on until its connection had closed itself.
     pub halt: Option<Halt>,
     /// Whether the connection closed itself for want of memory.
     pub lost: bool,
 }
 
 /// Serves the connection until it closed itself and a wait was over, or the run is halted. A failed
-/// write halts it: nothing is read behind it.
+/// write halts it: nothing is read after it.
 pub fn run<S: Source, K: Sink, V: Volumes<ServerNote>>(core: &mut OneCore<S, K, V>) -> Ending
     requires { CanRun (one_meaning S.facts K.facts V.facts) IsOpened core.old }
     ensures leads { Leads (one_meaning S.facts K.facts V.facts) IsOpened
@@ -102,7 +102,7 @@ pub fn finish<S: Source, K: Sink, V: Volumes<ServerNote>>(
     core.into_parts()
 }
 
-/// Hands a volume over where one is due.
+/// Hands a volume over if one is due.
 fn hand_over<S: Source, K: Sink, V: Volumes<ServerNote>>(
     core: &mut OneCore<S, K, V>,
 ) -> Result<(), Halt>
@@ -179,7 +179,7 @@ fn serve<S: Source, K: Sink, V: Volumes<ServerNote>>(
     unreachable!("a journal has at most 2^62 entries")
 }
 
-/// Serves one upcall, where no write failed yet. Where the connection closed itself, tells whether
+/// Serves one upcall, if no write failed yet. If the connection closed itself, tells whether
 /// that was for want of memory.
 fn turn<S: Source, K: Sink, V: Volumes<ServerNote>>(
     core: &mut OneCore<S, K, V>,

@@ -1,4 +1,4 @@
--- One more record behind packed ones, and how many they are.
+-- One more record after packed ones, and how many they are.
 use Rattle.std.proofs.Common.{◌≡◌, ◌≤◌, ℕ, ◌+◌, List, [], ◌∷◌, ◌++◌, length, take, drop, refl, ap}
 use Rattle.std.proofs.Common.{◌∙◌, arith}
 use Rattle.std.proofs.lemmas.List.{take-append-le, drop-append-le, length-drop, take_all}
@@ -16,7 +16,7 @@ unpacked-length [] messages = refl
 unpacked-length (h ∷ heads) messages = let more = unpacked-length heads (drop h.length messages) in
     omega (arith, more)
 
--- one record is its head's, where nothing stands before its message
+-- one record is its head's, if nothing stands before its message
 first-more : (h : Head) (messages text : List ℕ) → 0 ≡ length messages → h.length ≡ length text
     → unpacked (h ∷ []) (messages ++ text) ≡ whole h text ∷ []
 first-more h [] text none is = ap (λ (message : List ℕ). whole h message ∷ [])

@@ -1,4 +1,4 @@
--- Log records whose messages stand one behind another.
+-- Log records whose messages stand one after another.
 use Rattle.std.specs.Prelude.{ℕ, zero, ◌+◌, List, [], ◌∷◌, length, take, drop}
 use Rattle.cdr_record.specs.declared.record.LogRecord.{LogRecord}
 use Rattle.cdr_record.specs.declared.record.RecordRef.{RecordRef}

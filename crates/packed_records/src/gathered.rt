@@ -41,7 +41,7 @@ impl Room {
     }
 }
 
-/// Log records in order, gathered one by one: the first alone takes no memory where its message is
+/// Log records in order, gathered one by one: the first alone takes no memory if its message is
 /// short, and more are packed. A contract sees the list of the records.
 #[derive(Debug, Drop)]
 pub struct GatheredRecords {
@@ -60,7 +60,7 @@ impl Model for GatheredRecords {
 }
 
 impl GatheredRecords {
-    /// No records. Where they are packed, they are given room for so many whose messages have so
+    /// No records. If they are packed, they are given room for so many whose messages have so
     /// many bytes in all. It takes no memory.
     pub fn new(alloc: Global, records: usize, bytes: usize) -> GatheredRecords
         ensures { result ≡ [] }

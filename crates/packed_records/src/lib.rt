@@ -1,4 +1,4 @@
-//! Log records with their messages packed one behind another, so that a list of them takes two
+//! Log records with their messages packed one after another, so that a list of them takes two
 //! allocations, however many they are, and one alone whose message is short takes none.
 #![tactic(auto)]
 

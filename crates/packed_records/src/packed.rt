@@ -46,7 +46,7 @@ pub(crate) fn head_of(entry: RecordRef<'_>) -> Head
     }
 }
 
-/// Log records in order, whose messages stand one behind another in one list. A contract sees the
+/// Log records in order, whose messages stand one after another in one list. A contract sees the
 /// list of the records.
 #[derive(Debug, Drop)]
 pub struct PackedRecords {

@@ -31,7 +31,7 @@ impl Model for ShortRecord {
 }
 
 impl ShortRecord {
-    /// This record, copied, or None where its message has more than 104 bytes.
+    /// This record, copied, or None if its message has more than 104 bytes.
     pub fn of(entry: RecordRef<'_>) -> Option<ShortRecord>
         ensures record { IfSome result (λ short. short ≡ owned entry.entry) }
         ensures short { IsSome result ↔ (length entry.entry.text.now ≤ 104) }

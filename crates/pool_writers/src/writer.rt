@@ -52,7 +52,7 @@ impl<S: Service> Writer<S> {
             number,
             mut service,
         } = self;
-        // Behind a take that found none the count and the end are read before the next take, so that
+        // After a take that found none the count and the end are read before the next take, so that
         // no item that was put before them is passed over.
         let mut looked = None;
         for _ in rt.forever() {

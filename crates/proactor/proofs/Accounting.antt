@@ -50,7 +50,7 @@ grows (Some old) (Some new) before more w g = g ∙ ap (λ (xs : List ℕ). xs +
 
 -- ---- a part of a turn more
 
--- what these events add, where it stood so before and stands so after them
+-- what these events add, if it stood so before and stands so after them
 pub record Adds (s : State) (es : List Event) (t : State) : Type 0 where
   pub reads : s.standing.reads ++ reads_in (flat_map asked_by es)
       ≡ completed_reads es ++ t.standing.reads

@@ -175,7 +175,7 @@ writes_stay all s es t w k = record {
 
 -- ---- the first write was tried
 
--- what comes of it: bytes go in order, and where the end goes on none of its writes failed
+-- what comes of it: bytes go in order, and if the end goes on none of its writes failed
 record Writes (first : Op) (all : List Event) (s : State) (es : List Event) (t : State) : Type 0
   where
     in_order : GaveInOrder (asked_writes first (all ++ es)) (all ++ es)

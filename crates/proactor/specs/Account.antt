@@ -50,7 +50,7 @@ completed_ids done = map (λ c. c.id) done
 
 -- ---- bytes
 
--- these bytes were written and no others, where it is told
+-- these bytes were written and no others, if it is told
 abbrev pub IsWritten : Option (List ℕ) → List ℕ → Type 0
 IsWritten None bytes = Unit {0}
 IsWritten (Some written) bytes = written ≡ bytes
@@ -90,7 +90,7 @@ pub record Operates (first : Op) (all : List Event) (s : State) : Type 0 where
   pub took_so_many : s.facts.gave ≡ length (taken all)
   -- the bytes of writes were given to it
   pub gave : IsWritten s.facts.written (given all)
-  -- an operation failed only where a call of the end did, a read was over only where its input was,
+  -- an operation failed only if a call of the end did, a read was over only if its input was,
   -- and none was cancelled
   pub failed : some_of fails all ≡ true → 1 ≤ s.facts.faults
   pub over : some_of finds_over all ≡ s.facts.over

@@ -38,7 +38,7 @@ pub record FollowsEcho (first : Op) (list : List Told) : Type 0 where
   pub echoes : AllByRecursion IsEcho list
 
 -- The bytes that were given to the end are a front of those that were taken from it, in order; and
--- all of them, where a read found the end of its input.
+-- all of them, if a read found the end of its input.
 pub record WritesBack (all : List Event) : Type 0 where
   pub waiting : List ℕ
   pub back : taken all ≡ given all ++ waiting

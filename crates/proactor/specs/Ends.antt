@@ -31,7 +31,7 @@ use Rattle.proactor.specs.Parts.{state_of, sums_of}
 
 -- ---- masks
 
--- reports to read, and to write too where a write stands
+-- reports to read, and to write too if a write stands
 abbrev pub mask_by : Bool → Mask
 mask_by writing = record { read = true; write = writing; except = false }
 
@@ -88,7 +88,7 @@ pub record AsynchFits {E C : Type 0} {G : Ghosts E} (tells : E → EndFacts)
   pub kept_end : keeps t (end_of handler)
 
 -- What an end leaves that had these turns: the operations that stood were cancelled, and the note
--- counts all that happened. Where it closed itself the handler was done, an operation failed, or
+-- counts all that happened. If it closed itself the handler was done, an operation failed, or
 -- there was no memory.
 pub record AsynchGone {E C : Type 0} (tells : E → EndFacts) (keeps : Terms → E → Type 0)
     (follows : C → Op → List Told → Type 0) (t : Terms)

@@ -44,7 +44,7 @@ abbrev pub done_in : Reply → Bool
 done_in (Asked up others done) = done
 done_in FoundNoMemory = false
 
--- as the handler was told: of nothing where it found no memory
+-- as the handler was told: of nothing if it found no memory
 abbrev pub told_in : Completed → Reply → List Told
 told_in c (Asked up others done) = record { completed = c; asked = up ++ others; done = done } ∷ []
 told_in c FoundNoMemory = []

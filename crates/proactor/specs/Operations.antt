@@ -37,7 +37,7 @@ pub record Told : Type 0 where
 abbrev pub told_of : Completed → Next → Told
 told_of c next = record { completed = c; asked = ops_of next.ops; done = next.done }
 
--- it was told of one completion more; and of none where it found no memory
+-- it was told of one completion more; and of none if it found no memory
 abbrev pub FollowsOn : (List Told → Type 0) → List Told → Completed → Result Next NoMemory → Type 0
 FollowsOn follows list c (Ok next) = follows (list ++ told_of c next ∷ [])
 FollowsOn follows list c (Err none) = follows list

@@ -24,7 +24,7 @@ abbrev pub AreWrites : List Writing → Type 0
 AreWrites [] = Unit {0}
 AreWrites (write ∷ rest) = (1 ≤ length write.bytes) × AreWrites rest
 
--- of the first write fewer bytes were taken than it has, and none where no write stands
+-- of the first write fewer bytes were taken than it has, and none if no write stands
 abbrev pub IsWithin : List Writing → ℕ → Type 0
 IsWithin [] sent = sent ≡ 0
 IsWithin (write ∷ rest) sent = sent < length write.bytes
@@ -101,7 +101,7 @@ abbrev pub QueuesOne : Option Op → Stands → Bool → Stands → Type 0
 QueuesOne op old true new = new ≡ queued (listed_op op) old
 QueuesOne op old false new = (length (listed_op op) ≡ 1) × (new ≡ old)
 
--- the first of them are queued, and where there was memory all
+-- the first of them are queued, and if there was memory all
 pub record TakesUp (ops : Ops) (old : Stands) (all : Bool) (new : Stands) : Type 0 where
   pub up : List Op
   pub others : List Op

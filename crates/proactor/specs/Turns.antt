@@ -154,8 +154,8 @@ Serves Except before events after = (events ≡ []) × (after ≡ before)
 Serves (Timeout timer) before events after = (events ≡ []) × (after ≡ before)
 Serves (Notice kind) before events after = (events ≡ []) × (after ≡ before)
 
--- The answer to what happened in a turn: Close where the handler was done, an operation failed or
--- there was no memory; else Again where bytes went either way.
+-- The answer to what happened in a turn: Close if the handler was done, an operation failed or
+-- there was no memory; else Again if bytes went either way.
 abbrev pub answer_by : (closes : Bool) (moved : Bool) → Answer
 answer_by true moved = Close
 answer_by false true = Again

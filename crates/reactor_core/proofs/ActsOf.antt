@@ -125,7 +125,7 @@ pub settling_of : {H E N : Type 0} (means : Handling H E N) (t : Terms) (past : 
     → IsSettling means t past (event_of done) done.turn.answer done.turn.note done.handler
 settling_of means t past done d = record { event = d.event; fits = d.fits }
 
--- behind the turn, and the close of its handler, a handler is offered by the turn
+-- after the turn, and the close of its handler, a handler is offered by the turn
 at_moment : {N : Type 0} (note : N) (k n : ℕ) → k ≡ n
     → ◌≡◌ {A = Option (Origin N)} (Some (record { note = note; moment = k }))
     (Some (record { note = note; moment = n }))

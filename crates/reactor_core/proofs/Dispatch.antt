@@ -262,7 +262,7 @@ had_other most past event answer note o x legal h n =
     ap (λ items. had past x ++ items) (no_turn x (event_at past event) (started_at past event)
     answer note other) ∙ append-nil (had past x)
 
--- behind it its handle is not busy
+-- after it its handle is not busy
 pub idle_behind : {N : Type 0} (most : ℕ) (past : List (Entry N)) (event : ℕ) (answer : Answer)
     (note : N) (o : OpenEvent) → is_legal most (Returned event answer note ∷ past) ≡ true
     → open_event (summary past) event ≡ Some o

@@ -57,7 +57,7 @@ next_all : (F held all : ℕ) (next : Option ℕ) → all ≡ F + held → IsNex
 next_all F held all None q o = tt
 next_all F held all (Some next) q o = q ∙ ap (λ (k : ℕ). k + held) o
 
--- where a volume is due there are few entries
+-- if a volume is due there are few entries
 pub few_are : {H M Q W V N E : Type 0} (core : Core H M Q W V N E) (F : ℕ) (h : List (Entry N))
     → is_due core F h ≡ true → length h < 2 ^ 62
 few_are core F h due = ltb-true _ _ (and_parts _ _ due).1
@@ -84,7 +84,7 @@ first_is core F h held q j =
 
 module _ {H M Q W V N E : Type 0} (m : Meaning H M Q W V N E) (t : Terms)
     (old new : Core H M Q W V N E) (F : ℕ) (h : List (Entry N)) where
-  -- a core stands for the same history where its journal and its volumes do, and there is room for
+  -- a core stands for the same history if its journal and its volumes do, and there is room for
   -- what is owed
   stands_by : (G : ℕ) → KeepsOthers old new → JournalStands new G h
       → owed (summary (past_of h)) ≤ new.journal.spare → VolumesStand t G h (m.volumes new.volumes)
@@ -141,7 +141,7 @@ module _ {H M Q W V N E : Type 0} (m : Meaning H M Q W V N E) (t : Terms)
       })
       o
 
-  -- what the body does where a volume is due
+  -- what the body does if a volume is due
   pub record Hands (n : ℕ) : Type 0 where
     pub others : KeepsOthers old new
     pub count : n ≡ length old.journal.entries
@@ -182,7 +182,7 @@ module _ {H M Q W V N E : Type 0} (m : Meaning H M Q W V N E) (t : Terms)
         );
       }
 
--- what the volumes answer where they refuse
+-- what the volumes answer if they refuse
 pub take_refused : {N : Type 0} (old : VolumesFacts N) (volume back : Held (Entry N))
     (why : TakeRefused) (new : VolumesFacts N) → TakesVolume old volume (Err (back, why)) new
     → GivesBack old volume back new × IsHandOverCause (hand_over_refusal why) old.faults new.faults

@@ -4,7 +4,7 @@ use Rattle.std.specs.List.{list_any}
 use Rattle.reactor_summary.specs.declared.parts.LiveHandle.{LiveHandle}
 use Rattle.reactor_summary.specs.declared.parts.OpenEvent.{OpenEvent}
 
--- where no event is open, no handle is alive and none waits for its close, none is live
+-- if no event is open, no handle is alive and none waits for its close, none is live
 pub none_live : (hs : List LiveHandle) (opens : List OpenEvent) → opens ≡ []
     → list_any (λ (h : LiveHandle). h.alive) hs ≡ false
     → list_any (λ (h : LiveHandle). not h.alive

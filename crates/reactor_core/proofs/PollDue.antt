@@ -162,7 +162,7 @@ dues_begin m t core F s0 left events h pending k = record {
   taking = subst (λ es. IsTakingDues m s0 left events t core F es pending) (sym (append-nil h)) k;
 }
 
--- a report may follow where a timer may come due
+-- a report may follow if a timer may come due
 follows_one : {N : Type 0} (e : Entry N) (past : List (Entry N)) → follows_due (e ∷ past) ≡ true
     → follows_ready (e ∷ past) ≡ true
 follows_one (Polled moment) past h = refl
@@ -192,7 +192,7 @@ dues_end m t core F s0 events h pending k none = record {
   };
 }
 
--- what the body does where no deadline is reached
+-- what the body does if no deadline is reached
 pub record StopsDue {H M Q W V N E : Type 0} (m : Meaning H M Q W V N E)
     (old new : Core H M Q W V N E) : Type 0 where
   pub same : new ≡ record old { state = new.state }

@@ -49,7 +49,7 @@ drop_here (x ∷ xs) zero a h = ap (λ y. y ∷ xs) (some_is x a h)
 drop_here (x ∷ xs) (suc i) a h = let same : suc (i + 1) ≡ suc i + 1 = omega arith in
     drop_here xs i a h ∙ ap (λ (k : ℕ). a ∷ drop k (x ∷ xs)) same
 
--- what the body does where the report is taken
+-- what the body does if the report is taken
 pub record TakesReport {H M Q W V N E : Type 0} (m : Meaning H M Q W V N E)
     (old new : Core H M Q W V N E) (report : Report) : Type 0 where
   pub appends : Appends m old new (Ready report.handle report.kind)
@@ -113,7 +113,7 @@ module _ {H M Q W V N E : Type 0} (m : Meaning H M Q W V N E) (t : Terms)
         none_due = subst (λ ps. is_overdue (summary ps) ≡ false) (sym same) k.none_due;
       }
 
-  -- the loop goes on behind a report that is taken
+  -- the loop goes on after a report that is taken
   pub report_goes_on : (h : List (Entry N)) (reports : List Report) (at : ℕ) (report : Report)
       → TakesReport m old new report → ((s : Summary) → m.shows old.state s
       → is_wanted s report.handle.0 report.kind ≡ true) → slice_get reports at ≡ Some report
@@ -152,7 +152,7 @@ module _ {H M Q W V N E : Type 0} (m : Meaning H M Q W V N E) (t : Terms)
       one_less : (n k : ℕ) → k + 1 ≤ n → n ≡ (n - 1) + 1
       one_less n k h = omega (arith, h)
 
--- the loop goes on behind a report that is not taken
+-- the loop goes on after a report that is not taken
 pub report_passes : {H M Q W V N E : Type 0} (m : Meaning H M Q W V N E) (t : Terms)
     (core : Core H M Q W V N E) (F : ℕ) (s0 : Summary) (h : List (Entry N)) (reports : List Report)
     (at : ℕ) (report : Report)

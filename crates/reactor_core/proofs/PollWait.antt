@@ -230,7 +230,7 @@ wait_gives m t old new F h armed asked answer now at q d o =
     subst (λ at. WaitGives m armed t F h at new) (sym q)
     (waited m t old new F h armed asked answer now d o)
 
--- where it failed, all stands as before
+-- if it failed, all stands as before
 pub failed_keeps : {H M Q W V N E : Type 0} (m : Meaning H M Q W V N E)
     (old new : Core H M Q W V N E) (asked : Option ℕ) (answer : Waited)
     → moment_of answer ≡ None → new ≡ record old { net = new.net }

@@ -161,7 +161,7 @@ waits_once {N = N} m t F h armed asked answer polled old waited dued new named w
       stands = subst (λ es. Stands m t new F es) all o;
     }
 
--- a wait behind the making of room is a poll
+-- a wait after the making of room is a poll
 pub polls : {H M Q W V N E : Type 0} (m : Meaning H M Q W V N E) (t : Terms) (F : ℕ)
     (h : List (Entry N)) (most asked : Option ℕ) (polled : Polled)
     (old mid new : Core H M Q W V N E)

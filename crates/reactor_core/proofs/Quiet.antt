@@ -195,7 +195,7 @@ kept s (Stale handle from seq) q =
       seats = refl;
     }
 
--- ---- the core behind a quiet entry
+-- ---- the core after a quiet entry
 
 -- What the body of a call does: one entry in a spare place, and one step of the state, which may
 -- use the places that were made.
@@ -209,12 +209,12 @@ pub record AppendsQuiet {H M Q W V N E : Type 0} (m : Meaning H M Q W V N E)
     pub places : (n : ℕ) → m.places (places_for n more) old.state
         → m.places (places_for n no_places) new.state
 
--- where there is room for an entry, there is a number for it
+-- if there is room for an entry, there is a number for it
 pub has_number : {H M Q W V N E : Type 0} (m : Meaning H M Q W V N E) (core : Core H M Q W V N E)
     (more : Places) (s : Summary) → HasRoom m 1 more core s → HasNumber s
 has_number m core more s room = omega (arith, room.numbers)
 
--- what the net has to do with the history behind it
+-- what the net has to do with the history after it
 pub record NetKeeps {H M Q W V N E : Type 0} (m : Meaning H M Q W V N E) (t : Terms)
     (old new : Core H M Q W V N E) (past : List (Entry N)) : Type 0 where
   pub stands : NetStands m.means t past [] (m.facts new.net)
@@ -234,7 +234,7 @@ module _ {H M Q W V N E : Type 0} (m : Meaning H M Q W V N E) (t : Terms)
         ap (λ net. (m.facts net).spare) same in omega (arith, q);
   }
 
-  -- the core stands for the history with the entry behind it
+  -- the core stands for the history with the entry after it
   pub goes_on : (more : Places) (P : Summary → Type 0) → is_quiet e ≡ true
       → AppendsQuiet m old new e more P → NetKeeps m t old new (e ∷ past_of h)
       → R.may_follow t.most (follows_due (past_of h)) (follows_ready (past_of h))

@@ -148,7 +148,7 @@ rose_to old mid new q r = subst (λ (n : ℕ). Rose old n) (sym q) r
 
 module _ {H M Q W V N E : Type 0} (m : Meaning H M Q W V N E) (t : Terms)
     (old new : Core H M Q W V N E) (F : ℕ) (h : List (Entry N)) where
-  -- where the net's count rose, a handler may be refused for a fault
+  -- if the net's count rose, a handler may be refused for a fault
   pub may_after : (mid : Core H M Q W V N E)
       → Rose (m.facts old.net).failed_attaches (m.facts mid.net).failed_attaches
       → StandsWithRoom m 4 act_places t old F h → MayRefuseHandler m t.most mid (past_of h) true

@@ -67,7 +67,7 @@ full_by most past legal few h =
     ⊎_elim (λ (k : most ≤ live (summary past)). inl (omega (arith, le, k)))
     (λ (k : 4294967295 ≤ (summary past).opened). inr (omega (arith, few, k))) h
 
--- where there is room for a handler and its timer, it may be opened
+-- if there is room for a handler and its timer, it may be opened
 pub opens_by : {H M Q W V N E : Type 0} (m : Meaning H M Q W V N E) (handler : H) (t : Terms)
     (core : Core H M Q W V N E) (F : ℕ) (h : List (Entry N)) → MayAdmit m handler t core F h
     → MayOpen m handler t core F h

@@ -107,7 +107,7 @@ removed_closable means t most past handle handler legal alive home =
       fits = home.fits;
     }
 
--- an alive handle is live, and is so behind its `Removed`
+-- an alive handle is live, and is so after its `Removed`
 pub alive_is_live : (s : Summary) (x : ℕ) → is_alive s x ≡ true → is_live s x ≡ true
 alive_is_live s x h = any_weaker (λ (a : LiveHandle). a.handle.0 == x && a.alive)
     (λ (a : LiveHandle). a.handle.0 == x) s.handles

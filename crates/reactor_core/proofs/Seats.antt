@@ -229,7 +229,7 @@ origin_quiet _ past x q = refl
 -- ---- seats that stay
 
 module _ {H E N : Type 0} (means : Handling H E N) (t : Terms) where
-  -- a seat that stands behind a past stands behind another where the handle is as live and busy,
+  -- a seat that stands after a past stands after another if the handle is as live and busy,
   -- with the same turns and origin
   pub seat_same : (past new : List (Entry N)) (x : ℕ) (seat : Option (Seat H))
       → is_live (summary new) x ≡ is_live (summary past) x

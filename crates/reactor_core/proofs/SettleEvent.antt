@@ -36,7 +36,7 @@ abbrev pub Weakens : {H M Q W V N E : Type 0} → Meaning H M Q W V N E → Type
 Weakens {Q = Q} m = (state : ReactorState Q) (few many : Places) → IsFewer few many
     → m.places many state → m.places few state
 
--- behind the `Returned` the handler is one whose upcall was settled
+-- after the `Returned` the handler is one whose upcall was settled
 pub returned_at : {H M Q W V N E : Type 0} (m : Meaning H M Q W V N E) (t : Terms)
     (mid : Core H M Q W V N E) (F : ℕ) (h : List (Entry N)) (o : OpenEvent) (answer : Answer)
     (note : N) (handler : H) (alive : Bool) (why : Why)
@@ -176,7 +176,7 @@ module _ {H M Q W V N E : Type 0} (m : Meaning H M Q W V N E) (weak : Weakens m)
                 ap length es in omega (arith, journal, one, d.journal)) d st.room);
           })
 
--- the handler in hand is closed where its handle is not alive any more
+-- the handler in hand is closed if its handle is not alive any more
 pub may_close : {H M Q W V N E : Type 0} (m : Meaning H M Q W V N E) (t : Terms)
     (core : Core H M Q W V N E) (F : ℕ) (h : List (Entry N)) (handle : Handle) (handler : H)
     (why : Why)

@@ -74,7 +74,7 @@ pick_facts most past w legal q =
           }))) v.3;
     }
 
--- where the summary has no pick, the journal has none
+-- if the summary has no pick, the journal has none
 pub no_pick : {N : Type 0} (most : ℕ) (past : List (Entry N)) → is_legal most past ≡ true
     → pick (summary past) ≡ None → HasNoPick past
 no_pick most past legal q i =

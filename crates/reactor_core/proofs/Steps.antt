@@ -57,7 +57,7 @@ taken_more : {N : Type 0} (t : Terms) (F : ℕ) (h es : List (Entry N)) (taken :
 taken_more t F h es taken within o =
     (o.0, o.1 ∙ ap (λ x. o.0 ++ x) (sym (take-append-le F h es within)), o.2)
 
--- a core goes on by one entry: each part is shown behind it
+-- a core goes on by one entry: each part is shown after it
 pub tracks_by : {H M Q W V N E : Type 0} (m : Meaning H M Q W V N E) (t : Terms)
     (old new : Core H M Q W V N E) (F : ℕ) (h : List (Entry N)) (e : Entry N)
     (hand hand' : Option ℕ) (pending pending' : List Report)

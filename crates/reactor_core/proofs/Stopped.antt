@@ -45,9 +45,9 @@ use Rattle.reactor_core.proofs.Start.{any_weaker}
 not_from : (b : Bool) → (b ≡ true → ⊥) → b ≡ false
 not_from b f = ⊎_elim (λ (t : b ≡ true). absurd (f t)) (λ (n : b ≡ false). n) (cases_Bool b)
 
--- ---- the summary behind a removal
+-- ---- the summary after a removal
 
--- the past behind it, by whether the handler is closed
+-- the past after it, by whether the handler is closed
 pub past_behind : {N : Type 0} (h : List (Entry N)) (handle : Handle) (b : Bool)
     (es : List (Entry N)) (P : List (Entry N) → Type 0) → IsClosing b handle es
     → P (Removed handle ∷ past_of h) → ((note : N)

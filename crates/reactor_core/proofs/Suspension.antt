@@ -54,7 +54,7 @@ one_found {A} p q (x ∷ xs) a h k = by_cases (p x) refl (λ r. one_found p q xs
     by_cases false r rec = or_right (p x && q x) (list_any (λ a. p a && q a) xs)
         (rec (sym (cond-false (p x) (Some x) (find p xs) r) ∙ h))
 
--- a test of the handle x passes exactly where the one that is found passes it
+-- a test of the handle x passes exactly if the one that is found passes it
 pub found_test : {N : Type 0} (most : ℕ) (past : List (Entry N)) (x : ℕ) (a : LiveHandle)
     (q : LiveHandle → Bool) → is_legal most past ≡ true
     → find (λ (h : LiveHandle). h.handle.0 == x) (summary past).handles ≡ Some a
@@ -191,7 +191,7 @@ answers_same s x asked h = record {
     apart : ◌≡◌ {A = Result (Unit {0}) StateRefused} (Err Same) (Err NotLive) → ⊥
     apart q = cc
 
--- no other answer comes where one of these two must
+-- no other answer comes if one of these two must
 pub answers_else : (s : Summary) (x : ℕ) (asked : Bool) (result : Result (Unit {0}) StateRefused)
     → suspension s x ≡ Some (not asked) → (result ≡ Err NotLive → ⊥) → (result ≡ Err Same → ⊥)
     → IsStateAnswer s x asked result

@@ -20,7 +20,7 @@ use Rattle.reactor_core.specs.declared.polling.Polled.{Polled as Found}
 use Rattle.reactor_core.specs.declared.polling.Polled.TheVariants as found
 use Rattle.reactor_core.proofs.Ends.{told_one}
 
--- where neither the marks nor the calls change, they stand as before
+-- if neither the marks nor the calls change, they stand as before
 pub marks_kept : {N : Type 0} (past : List (Entry N)) (old new : WaitMarks)
     (calls calls' : Option (List Call)) → new ≡ old → calls' ≡ calls
     → MarksStand old past (told_answers calls) → MarksStand new past (told_answers calls')
@@ -95,7 +95,7 @@ marks_begin marks (Some calls) q none = record {
       });
 }
 
--- where a wait was answered at a moment it is one more
+-- if a wait was answered at a moment it is one more
 pub after_answer : (answer : Waited) (now : ℕ) (marks : WaitMarks) → moment_of answer ≡ Some now
     → marked answer marks ≡ marks_after answer marks
 after_answer (Reports at count) now marks q = refl
@@ -128,7 +128,7 @@ polled_later found.Events marks le = omega arith
 polled_later found.Quiet marks le = omega arith
 polled_later found.Over marks le = omega (arith, le)
 
--- where it found that nothing can be reported any more, the mark is the number of all waits
+-- if it found that nothing can be reported any more, the mark is the number of all waits
 pub polled_number : {N : Type 0} (answer : Found) (old new : WaitMarks) (past : List (Entry N))
     (told : Option (List Waited)) → new ≡ marks_found (Some answer) old
     → ◌≡◌ {A = Result Found PollRefused} (Ok answer) (Ok found.Over) → MarksStand new past told
@@ -139,7 +139,7 @@ polled_number found.Over old new past told q is o =
     ap (λ (marks : WaitMarks). marks.over) q
     ∙ (sym (ap (λ (marks : WaitMarks). marks.made) q) ∙ o.made)
 
--- where there is a mark, the wait of that number was answered Over
+-- if there is a mark, the wait of that number was answered Over
 further : (answer : Waited) (earlier : List Waited) (number : ℕ) → IsOverAt number earlier
     → IsOverAt number (answer ∷ earlier)
 further answer earlier number o = record {

@@ -1,4 +1,4 @@
--- A watch over several calls: it breaks only where its count of faults rose.
+-- A watch over several calls: it breaks only if its count of faults rose.
 use Rattle.std.proofs.Common.{Bool, true, false, ℕ, ◌≡◌, ◌≤◌, refl, arith}
 use Rattle.ev_base.specs.Counts.{Rose}
 

@@ -51,7 +51,7 @@ is_mine s x timer =
     is_of x (option_map (λ a. a.handle) (armed_timer s timer))
     || is_of x (option_map (λ w. w.handle) (find (λ w. P.is_timeout_of timer w.upcall) s.waiting))
 
--- The refusal of an offered handler: for a fault exactly where there was a place for it and the
+-- The refusal of an offered handler: for a fault exactly if there was a place for it and the
 -- net's count of failed attaches rose, and else because the reactor was stopped or is full.
 abbrev pub IsRefusalCause : ℕ → Summary → ℕ → ℕ → Bool → Type 0
 IsRefusalCause most s before after true = HasPlaceFor most s × Rose before after
@@ -81,7 +81,7 @@ abbrev pub InstallAppends : {N : Type 0} → ℕ → Summary → Mask → Option
 InstallAppends most s mask timer before after entries =
     IsRegistration most s mask timer entries ⊎ IsRefusal most s before after entries
 
--- the mask of the handle where it is alive, the timer where it is one of the handle, and else
+-- the mask of the handle if it is alive, the timer if it is one of the handle, and else
 -- nothing
 abbrev pub mask_mine : {N : Type 0} → Bool → Handle → Mask → List (Entry N)
 mask_mine true handle mask = Masked handle mask ∷ []
@@ -91,7 +91,7 @@ abbrev pub cancel_mine : {N : Type 0} → Bool → ℕ → List (Entry N)
 cancel_mine true timer = Cancelled timer ∷ []
 cancel_mine false timer = []
 
--- the end, where the reactor was not stopped before
+-- the end, if the reactor was not stopped before
 abbrev pub StopAppends : {N : Type 0} → Summary → Bool → List (Entry N) → Type 0
 StopAppends s true entries = entries ≡ []
 StopAppends {N} s false entries = (removals : List (Entry N))
@@ -109,7 +109,7 @@ ActAppends most s handle (Some (CancelMine timer)) before after entries =
     entries ≡ cancel_mine (is_mine s handle.0 timer) timer
 ActAppends most s handle (Some Stop) before after entries = StopAppends s s.ended entries
 
--- the count of failed attaches stands but where a handler was refused for a fault of the net
+-- the count of failed attaches stands, unless a handler was refused for a fault of the net
 abbrev pub CountsFaults : {N : Type 0} → List (Entry N) → ℕ → ℕ → Type 0
 CountsFaults entries before after = list_any is_fault entries ≡ false → after ≡ before
 
@@ -143,7 +143,7 @@ abbrev pub MayRefuseHandler : {H M Q W V N E : Type 0} → Meaning H M Q W V N E
 MayRefuseHandler m most core past true = count is_fault past < (m.facts core.net).failed_attaches
 MayRefuseHandler m most core past false = ((summary past).ended ≡ true) ⊎ IsFull most (summary past)
 
--- What `settle` leaves: the `Returned` of the upcall; the `Closed` of its handler where its handle
+-- What `settle` leaves: the `Returned` of the upcall; the `Closed` of its handler if its handle
 -- is not alive any more; and what its act appends. The answer has the length of the history, how
 -- many handlers it closed or refused, and whether it was stopped.
 pub record Settles {H M Q W V N E : Type 0} (m : Meaning H M Q W V N E) (t : Terms) (F : ℕ)

@@ -33,7 +33,7 @@ least_limit (Some a) (Some b) = Some (min a b)
 abbrev pub is_taken : Summary → Report → Bool
 is_taken s report = is_wanted s report.handle.0 report.kind
 
--- where the terms have the limit of waits, the wait was asked for the lesser of it and the time to
+-- if the terms have the limit of waits, the wait was asked for the lesser of it and the time to
 -- the first deadline
 abbrev pub IsAskedFor : Option (Option ℕ) → Summary → Option ℕ → Type 0
 IsAskedFor None s most = Unit {0}
@@ -48,7 +48,7 @@ makes_call (Refused live fault note) = true
 makes_call (Closed handle note) = true
 makes_call _ = false
 
--- a wait of the `Polled`, behind which these reports were taken; the attach of the `Opened`, of the
+-- a wait of the `Polled`, after which these reports were taken; the attach of the `Opened`, of the
 -- end whose serial number its handler's origin names, if it does; the mask that was set, and the
 -- end that was retired or turned away
 pub record IsWait (t : Terms) (s : Summary) (now : ℕ) (taken : List Report) (most : Option ℕ)
@@ -83,7 +83,7 @@ CallsBy means t true e past taken [] rest = ⊥
 CallsBy means t true e past taken (call ∷ calls) rest =
     IsCallOf means t past taken e call × rest calls
 
--- The calls, the latest first, are those of the past, behind whose last wait these reports are
+-- The calls, the latest first, are those of the past, after whose last wait these reports are
 -- still to be taken.
 abbrev pub AreCalls : {H E N : Type 0} → Handling H E N → Terms → List (Entry N) → List Report
     → List Call → Type 0

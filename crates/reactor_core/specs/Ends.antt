@@ -11,12 +11,12 @@ use Rattle.reactor_summary.specs.Summary.{Summary}
 use Rattle.reactor_summary.specs.declared.parts.LiveHandle.{LiveHandle}
 use Rattle.reactor_model.specs.Handling.{Handling}
 
--- where a list is told, it has P
+-- if a list is told, it has P
 abbrev pub WhereTold : {A : Type 0} → (A → Type 0) → Option A → Type 0
 WhereTold P None = Unit {0}
 WhereTold P (Some told) = P told
 
--- there is something with P; and where it is told, it is this
+-- there is something with P; and if it is told, it is this
 abbrev pub ThereIs : {A : Type 0} → (A → Type 0) → Option A → Type 0
 ThereIs {A} P told = (a : A) × P a × WhereTold (λ b. b ≡ a) told
 

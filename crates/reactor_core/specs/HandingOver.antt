@@ -27,13 +27,13 @@ pub record KeepsOthers {H M Q W V N E : Type 0} (old new : Core H M Q W V N E) :
   pub watch : new.watch ≡ old.watch
   pub marks : new.marks ≡ old.marks
 
--- where a volume is due all entries that are held are handed over, and else none
+-- if a volume is due all entries that are held are handed over, and else none
 abbrev pub HandsDue : {H M Q W V N E : Type 0} → Bool → Meaning H M Q W V N E → Terms → ℕ
     → List (Entry N) → ℕ → Core H M Q W V N E → Core H M Q W V N E → Type 0
 HandsDue true m t F h n old new = (n ≡ length h - F) × Stands m t new (length h) h
 HandsDue false m t F h n old new = (n ≡ 0) × (new ≡ old)
 
--- n entries were handed over: those that are held where a volume is due, and else none
+-- n entries were handed over: those that are held if a volume is due, and else none
 pub record HandsOver {H M Q W V N E : Type 0} (m : Meaning H M Q W V N E) (t : Terms) (F : ℕ)
     (h : List (Entry N)) (n : ℕ) (old new : Core H M Q W V N E) : Type 0 where
   pub others : KeepsOthers old new
@@ -49,7 +49,7 @@ pub record HandsNothing {H M Q W V N E : Type 0} (m : Meaning H M Q W V N E)
   pub taken : (m.volumes new.volumes).taken ≡ (m.volumes old.volumes).taken
   pub next : (m.volumes new.volumes).next ≡ (m.volumes old.volumes).next
 
--- the volumes' count of faults rose where they failed, and else stands
+-- the volumes' count of faults rose if they failed, and else stands
 abbrev pub IsHandOverCause : HandOverRefused → ℕ → ℕ → Type 0
 IsHandOverCause Failed before now = Rose before now
 IsHandOverCause NoMemory before now = now ≡ before

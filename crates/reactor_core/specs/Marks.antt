@@ -31,7 +31,7 @@ answers (call ∷ calls) = answer_before call (answers calls)
 abbrev pub told_answers : Option (List Call) → Option (List Waited)
 told_answers calls = option_map answers calls
 
--- the number, from 1, of the last answer Over, or 0 where there is none
+-- the number, from 1, of the last answer Over, or 0 if there is none
 abbrev pub over_after : ℕ → Waited → ℕ → ℕ
 over_after number (waited.Over now) before = number
 over_after number _ before = before
@@ -74,7 +74,7 @@ marks_polled (Ok found) marks = marks_found (Some found) marks
 marks_polled (Err refused) marks = marks
 
 -- The marks stand for a past: as many waits were made as it has entries of them, and the mark is
--- the number of one, or 0. Where the net tells its calls, these are as many waits too, and the mark
+-- the number of one, or 0. If the net tells its calls, these are as many waits too, and the mark
 -- is the number of the last that was answered Over.
 pub record AreMarked (marks : WaitMarks) (answers : List Waited) : Type 0 where
   pub made : marks.made ≡ length answers

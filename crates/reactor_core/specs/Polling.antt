@@ -19,11 +19,11 @@ use Rattle.reactor_core.specs.declared.reactor.Core.{Core}
 use Rattle.reactor_core.specs.declared.polling.Polled.{Polled}
 use Rattle.reactor_core.specs.declared.polling.Polled.TheVariants as polled
 
--- where the terms have the limit of waits, it is this one
+-- if the terms have the limit of waits, it is this one
 abbrev pub FitsLimit : Terms → Option ℕ → Type 0
 FitsLimit t most = (limit : Option ℕ) → t.limit ≡ Some limit → most ≡ limit
 
--- what the answer of a wait is called; none where the wait failed
+-- what the answer of a wait is called; none if the wait failed
 abbrev pub name_of : Waited → Option Polled
 name_of (waited.Reports now count) = Some polled.Events
 name_of (waited.Quiet now) = Some polled.Quiet
@@ -43,7 +43,7 @@ due_of timer = entry.Due timer
 abbrev pub ready_of : {N : Type 0} → Report → Entry N
 ready_of report = entry.Ready report.handle report.kind
 
--- One wait of the net was asked for the limit, and has the answer that is named. Behind its
+-- One wait of the net was asked for the limit, and has the answer that is named. After its
 -- `Polled` stand the timers that come due, and then the reports that are taken, one entry for each.
 pub record WaitsOnce {H M Q W V N E : Type 0} (m : Meaning H M Q W V N E) (t : Terms) (F : ℕ)
     (h : List (Entry N)) (asked : Option ℕ) (polled : Polled) (net : NetFacts E)

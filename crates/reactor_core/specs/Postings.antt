@@ -11,7 +11,7 @@ use Rattle.reactor_state.specs.declared.places.Places.{Places}
 use Rattle.reactor_core.specs.declared.postings.PostRefused.{PostRefused}
 use Rattle.reactor_core.specs.declared.postings.PostRefused.TheVariants.{Stopped}
 
--- the entry of a notification: `Posted` where its handle is alive, and else `Stale`
+-- the entry of a notification: `Posted` if its handle is alive, and else `Stale`
 abbrev pub posting : {N : Type 0} → Summary → Handle → Kind → ℕ → ℕ → Entry N
 posting s handle kind from seq = if is_alive s handle.0 then Posted handle kind from seq else Stale
     handle from seq
@@ -20,6 +20,6 @@ posting s handle kind from seq = if is_alive s handle.0 then Posted handle kind 
 abbrev pub post_places : Places
 post_places = record { handles = 0; timers = 0; timeouts = 0; events = 1; opens = 0 }
 
--- Why a notification is not taken: `Stopped` exactly where the reactor was stopped.
+-- Why a notification is not taken: `Stopped` exactly if the reactor was stopped.
 abbrev pub IsPostAnswer : Summary → Result (Unit {0}) PostRefused → Type 0
 IsPostAnswer s result = IsErrOf result Stopped ↔ (s.ended ≡ true)

@@ -1,5 +1,5 @@
 -- What a refusal leaves: all as it was; for want of memory all as it was but that there may be more
--- room; and where the net failed that too, and a net that failed once.
+-- room; and if the net failed that too, and a net that failed once.
 use Rattle.std.specs.Prelude.{◌≡◌, List, Option, Some, None, Result, Ok, Err}
 use Rattle.reactor_summary.specs.ev_types.specs.declared.upcall.Handle.{Handle}
 use Rattle.ev_base.specs.Terms.{Terms}
@@ -53,7 +53,7 @@ LeavesPosting m old (Ok done) new = Unit {0}
 LeavesPosting m old (Err post.Stopped) new = new ≡ old
 LeavesPosting m old (Err post.NoMemory) new = Keeps m old new
 
--- `start`, which leaves all as it was too where there is nothing to start
+-- `start`, which leaves all as it was too if there is nothing to start
 abbrev pub LeavesStart : {H M Q W V N E : Type 0} → Meaning H M Q W V N E → Core H M Q W V N E
     → Result (Option (Job H N E)) StartRefused → Core H M Q W V N E → Type 0
 LeavesStart m old (Ok (Some job)) new = Unit {0}
@@ -100,8 +100,8 @@ LeavesAdmission m handler old (Ok handle) new = AttachesStand m old new
 LeavesAdmission m handler old (Err back) new =
     FitsStill m old.net handler back × NetFails m FailsToAttach old new
 
--- `register`: the handler that was offered comes back, as it was but where its end was shown to the
--- net
+-- `register`: the handler that was offered comes back, as it was unless its end was shown to
+-- the net
 abbrev pub LeavesOffer : {H M Q W V N E : Type 0} → Meaning H M Q W V N E → H → Core H M Q W V N E
     → Result Handle (H × RegisterRefused) → Core H M Q W V N E → Type 0
 LeavesOffer m handler old (Ok handle) new = AttachesStand m old new

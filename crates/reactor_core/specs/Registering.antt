@@ -17,7 +17,7 @@ abbrev pub scheduled : {N : Type 0} → Summary → Handle → Option (ℕ × �
 scheduled s handle None = []
 scheduled s handle (Some timer) = Scheduled s.scheduled handle (s.moment + timer.0) timer.1 ∷ []
 
--- a new handle, and its timer where one is given
+-- a new handle, and its timer if one is given
 abbrev pub registered : {N : Type 0} → Summary → Handle → Mask → Option (ℕ × ℕ) → List (Entry N)
 registered s handle mask timer = Opened handle mask ∷ scheduled s handle timer
 

@@ -12,7 +12,7 @@ use Rattle.reactor_core.specs.Stands.{Meaning, StandsQuiet, Stands}
 use Rattle.reactor_core.specs.Settling.{IsClosing}
 use Rattle.reactor_core.specs.declared.reactor.Core.{Core}
 
--- a handle that was alive was removed, and its handler closed where it was at home
+-- a handle that was alive was removed, and its handler closed if it was at home
 pub record RemovesQuietly {H M Q W V N E : Type 0} (m : Meaning H M Q W V N E) (t : Terms) (F : ℕ)
     (h : List (Entry N)) (handle : Handle) (new : Core H M Q W V N E) : Type 0 where
   pub entries : List (Entry N)
@@ -25,7 +25,7 @@ pub record Removes {H M Q W V N E : Type 0} (m : Meaning H M Q W V N E) (t : Ter
   pub closing : IsClosing (not (is_busy (summary (past_of h)) handle.0)) handle entries
   pub stands : Stands m t new F ((h ++ Removed handle ∷ []) ++ entries)
 
--- For each of the handles, in order, its `Removed`, and its `Closed` where it is not busy.
+-- For each of the handles, in order, its `Removed`, and its `Closed` if it is not busy.
 abbrev pub AreRemovals : {N : Type 0} → (ℕ → Bool) → List LiveHandle → List (Entry N) → Type 0
 AreRemovals busy [] es = es ≡ []
 AreRemovals {N} busy (h ∷ hs) es =
@@ -37,7 +37,7 @@ AreRemovals {N} busy (h ∷ hs) es =
 abbrev pub alive_handles : Summary → List LiveHandle
 alive_handles s = filter (λ h. h.alive) s.handles
 
--- what `stop` does where the reactor was not stopped: `Ended`, and the removal of each handle that
+-- what `stop` does if the reactor was not stopped: `Ended`, and the removal of each handle that
 -- is alive, in rising order
 pub record Stops {H M Q W V N E : Type 0} (m : Meaning H M Q W V N E) (t : Terms) (F : ℕ)
     (h : List (Entry N)) (new : Core H M Q W V N E) : Type 0 where
@@ -46,7 +46,7 @@ pub record Stops {H M Q W V N E : Type 0} (m : Meaning H M Q W V N E) (t : Terms
       entries
   pub stands : Stands m t new F ((h ++ Ended ∷ []) ++ entries)
 
--- where it was stopped before, nothing
+-- if it was stopped before, nothing
 abbrev pub StopsOnce : {H M Q W V N E : Type 0} → Meaning H M Q W V N E → Terms → ℕ → List (Entry N)
     → Core H M Q W V N E → Bool → Type 0
 StopsOnce m t F h new true = Stands m t new F h

@@ -15,7 +15,7 @@ use Rattle.reactor_core.specs.declared.requests.LiveRefused.{LiveRefused}
 use Rattle.reactor_core.specs.declared.requests.LiveRefused.TheVariants as live
 
 -- The histories of a call: whatever history the old core stood for, the new one stands for it with
--- this entry behind it, which may be told by what the history sums up to.
+-- this entry after it, which may be told by what the history sums up to.
 abbrev pub GoesOnBy : {H M Q W V N E : Type 0} → Meaning H M Q W V N E → Core H M Q W V N E
     → (Summary → Entry N) → Core H M Q W V N E → Type 0
 GoesOnBy {N = N} m old e new = (t : Terms) (F : ℕ) (h : List (Entry N)) → Stands m t old F h
@@ -27,17 +27,17 @@ abbrev pub WhereStanding : {H M Q W V N E : Type 0} → Meaning H M Q W V N E �
 WhereStanding {N = N} m core P = (t : Terms) (F : ℕ) (h : List (Entry N)) → Stands m t core F h
     → P (summary (past_of h))
 
--- whether an alive handle is suspended, or none where it is not alive
+-- whether an alive handle is suspended, or none if it is not alive
 abbrev pub suspension : Summary → ℕ → Option Bool
 suspension s x = if is_alive s x then Some (is_suspended s x) else None
 
--- Why a handle is not suspended, or not resumed: `NotLive` exactly where it is not alive, and
--- `Same` exactly where it is alive and suspended, or not, as was asked for.
+-- Why a handle is not suspended, or not resumed: `NotLive` exactly if it is not alive, and
+-- `Same` exactly if it is alive and suspended, or not, as was asked for.
 pub record IsStateAnswer (s : Summary) (x : ℕ) (asked : Bool)
     (result : Result (Unit {0}) StateRefused) : Type 0 where
   pub not_live : IsErrOf result state.NotLive ↔ (is_alive s x ≡ false)
   pub same : IsErrOf result state.Same ↔ (suspension s x ≡ Some asked)
 
--- Why what is for alive handles alone is refused: `NotLive` exactly where the handle is not alive.
+-- Why what is for alive handles alone is refused: `NotLive` exactly if the handle is not alive.
 abbrev pub IsLiveAnswer : {A : Type 0} → Summary → ℕ → Result A LiveRefused → Type 0
 IsLiveAnswer s x result = IsErrOf result live.NotLive ↔ (is_alive s x ≡ false)

@@ -7,7 +7,7 @@ use Rattle.reactor_core.specs.Stands.{Meaning}
 use Rattle.reactor_core.specs.declared.reactor.Core.{Core}
 
 -- A watch went on: its counts of faults and of entries seen without one have not fallen. One that
--- failed stays failed, and it fails only where its count rose.
+-- failed stays failed, and it fails only if its count rose.
 pub record WatchGoesOn {W : Type 0} (faults : W → ℕ) (is_broken : W → Bool) (whole : W → ℕ)
     (old new : W) : Type 0 where
   pub later : faults old ≤ faults new

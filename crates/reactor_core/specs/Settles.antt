@@ -12,7 +12,7 @@ use Rattle.reactor_core.specs.Stands.{Meaning, Tracks, StandsWithRoom}
 use Rattle.reactor_core.specs.Settling.{IsClosing, act_places}
 use Rattle.reactor_core.specs.declared.reactor.Core.{Core}
 
--- the handler in hand went home where its handle is alive, and else was closed
+-- the handler in hand went home if its handle is alive, and else was closed
 pub record TakesBack {H M Q W V N E : Type 0} (m : Meaning H M Q W V N E) (t : Terms) (F : ℕ)
     (h : List (Entry N)) (handle : Handle) (old new : Core H M Q W V N E) : Type 0 where
   pub entries : List (Entry N)
@@ -20,7 +20,7 @@ pub record TakesBack {H M Q W V N E : Type 0} (m : Meaning H M Q W V N E) (t : T
   pub tracks : Tracks m t new F (h ++ entries) None []
   pub journal : old.journal.spare ≤ new.journal.spare + length entries
 
--- the upcall was settled but for its act: its `Returned`, and the closing of its handler where its
+-- the upcall was settled but for its act: its `Returned`, and the closing of its handler if its
 -- handle is not alive any more
 pub record SettlesEvent {H M Q W V N E : Type 0} (m : Meaning H M Q W V N E) (t : Terms) (F : ℕ)
     (h : List (Entry N)) (o : OpenEvent) (answer : Answer) (note : N)

@@ -17,7 +17,7 @@ use Rattle.reactor_core.specs.Handlers.{is_live}
 use Rattle.reactor_state.specs.declared.places.Places.{Places}
 use Rattle.reactor_core.specs.declared.job.Done.{Done}
 
--- where the handler is closed, its `Closed`, with some note, and else nothing
+-- if the handler is closed, its `Closed`, with some note, and else nothing
 abbrev pub IsClosing : {N : Type 0} → Bool → Handle → List (Entry N) → Type 0
 IsClosing {N} true handle es = (note : N) × (es ≡ Closed handle note ∷ [])
 IsClosing false handle es = es ≡ []
@@ -30,7 +30,7 @@ returned done = Returned done.event done.turn.answer done.turn.note
 abbrev pub act_places : Places
 act_places = record { handles = 1; timers = 1; timeouts = 0; events = 0; opens = 0 }
 
--- why a handler is closed when its upcall is settled: for itself where it was alive until then, and
+-- why a handler is closed when its upcall is settled: for itself if it was alive until then, and
 -- else as it was removed
 abbrev pub why_of : Bool → Why
 why_of true = Own
@@ -48,7 +48,7 @@ pub record IsSettling {H E N : Type 0} (means : Handling H E N) (t : Terms) (pas
         note = note;
       } ∷ [])
 
--- a handler whose upcall was settled: its handle is live and not busy, and where it is not alive
+-- a handler whose upcall was settled: its handle is live and not busy, and if it is not alive
 -- any more it is closed for the reason
 pub record IsReturned {H E N : Type 0} (means : Handling H E N) (t : Terms) (past : List (Entry N))
     (x : ℕ) (handler : H) (why : Why) : Type 0 where

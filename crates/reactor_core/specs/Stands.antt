@@ -85,7 +85,7 @@ abbrev pub HasTaken : {N : Type 0} → Terms → ℕ → List (Entry N) → List
 HasTaken t F h taken = (before : List _) × (taken ≡ before ++ take F h)
     × ((n : ℕ) → t.volumes_taken ≡ Some n → length before ≡ n)
 
--- and the next entry that they are to take is number F of the history, where they keep count
+-- and the next entry that they are to take is number F of the history, if they keep count
 pub record VolumesStand {N : Type 0} (t : Terms) (F : ℕ) (h : List (Entry N))
     (volumes : VolumesFacts N) : Type 0 where
   pub taken : WhereTold (HasTaken t F h) volumes.taken
@@ -148,7 +148,7 @@ abbrev pub IsStanding : {H M Q W V N E : Type 0} → Meaning H M Q W V N E → C
     → Type 0
 IsStanding {N = N} m core = (t : Terms) × (F : ℕ) × (h : List (Entry N)) × Stands m t core F h
 
--- a call is right where the core stands for a history with P
+-- a call is right if the core stands for a history with P
 abbrev pub StandsWith : {H M Q W V N E : Type 0} → Meaning H M Q W V N E
     → (Terms → List (Entry N) → Type 0) → Core H M Q W V N E → Type 0
 StandsWith {N = N} m P core = (t : Terms) × (F : ℕ) × (h : List (Entry N)) × Stands m t core F h

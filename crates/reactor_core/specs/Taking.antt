@@ -16,7 +16,7 @@ use Rattle.reactor_core.specs.Stands.{Meaning, Tracks, HasRoom, Stands}
 use Rattle.reactor_core.specs.Polling.{AreDue, due_of, ready_of}
 use Rattle.reactor_core.specs.declared.reactor.Core.{Core}
 
--- the moment of a wait, none where it failed, and how many reports it has
+-- the moment of a wait, none if it failed, and how many reports it has
 abbrev pub moment_of : Waited → Option ℕ
 moment_of (Reports now count) = Some now
 moment_of (Quiet now) = Some now
@@ -75,7 +75,7 @@ pub record MayWait {H M Q W V N E : Type 0} (m : Meaning H M Q W V N E) (armed :
     pub few : length (summary (past_of h)).armed ≤ armed
     pub room : HasRoom m (armed + 257) (event_places armed 256) core (summary (past_of h))
 
--- what a wait gives where it was answered at a moment: its `Polled` was appended, and its entries
+-- what a wait gives if it was answered at a moment: its `Polled` was appended, and its entries
 -- may be
 abbrev pub WaitGives : {H M Q W V N E : Type 0} → Meaning H M Q W V N E → ℕ → Terms → ℕ
     → List (Entry N) → Option ℕ → Core H M Q W V N E → Type 0

@@ -14,6 +14,6 @@ timer_places = record { handles = 0; timers = 1; timeouts = 0; events = 0; opens
 abbrev pub is_pending : Summary → ℕ → Bool
 is_pending s timer = is_armed s timer || timeout_waits s timer
 
--- Why a timer is not cancelled: `NotArmed` exactly where it is neither armed nor waits as an event.
+-- Why a timer is not cancelled: `NotArmed` exactly if it is neither armed nor waits as an event.
 abbrev pub IsCancelAnswer : Summary → ℕ → Result (Unit {0}) CancelRefused → Type 0
 IsCancelAnswer s timer result = IsErrOf result NotArmed ↔ (is_pending s timer ≡ false)

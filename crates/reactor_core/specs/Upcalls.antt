@@ -59,7 +59,7 @@ pub record IsRunOf {H N E : Type 0} (job : Job H N E) (done : Done H N E) : Type
 abbrev pub HasNoPick : {N : Type 0} → List (Entry N) → Type 0
 HasNoPick past = (i : ℕ) → is_pick past i ≡ false
 
--- what `start` gives: the job of the pick, or none where there is no pick
+-- what `start` gives: the job of the pick, or none if there is no pick
 abbrev pub StartGives : {H M Q W V N E : Type 0} → Meaning H M Q W V N E → Terms → ℕ
     → List (Entry N) → Option (Job H N E) → Core H M Q W V N E → Type 0
 StartGives m t F h None new = HasNoPick (past_of h) × Stands m t new F h

@@ -52,8 +52,8 @@ impl<
     W: Watch<H::Note>,
     V: Volumes<H::Note>,
 > Core<H, M, Q, W, V> {
-    /// Settles an upcall that was made. The journal has `Returned`; where the handle is not alive
-    /// any more its handler is closed, for itself where its own answer ended its life and else as
+    /// Settles an upcall that was made. The journal has `Returned`; if the handle is not alive
+    /// any more its handler is closed, for itself if its own answer ended its life and else as
     /// it was removed, and `Closed` follows; else the handler goes home. Then the act of the turn
     /// is done. It takes no memory and cannot fail.
     pub fn settle(&mut self, done: Done<H>) -> Settled
@@ -167,7 +167,7 @@ impl<
         );
     }
 
-    /// Changes the mask of a handle where it is alive.
+    /// Changes the mask of a handle if it is alive.
     fn mask_mine(&mut self, handle: Handle, mask: Mask)
         requires stands { Somewhere (StandsWithRoom ⟦<Self as Means>⟧.m 4 act_places) self.old }
         ensures stands { FromRoom ⟦<Self as Means>⟧.m 4 act_places self.old (λ t F h.
@@ -187,7 +187,7 @@ impl<
         );
     }
 
-    /// Takes a timer away where it is one of the handle.
+    /// Takes a timer away if it is one of the handle.
     fn cancel_mine(&mut self, handle: Handle, timer: u64)
         requires stands { Somewhere (StandsWithRoom ⟦<Self as Means>⟧.m 4 act_places) self.old }
         ensures stands { FromRoom ⟦<Self as Means>⟧.m 4 act_places self.old (λ t F h.

@@ -62,7 +62,7 @@ fn least_limit(limit: Option<u64>, other: Option<u64>) -> Option<u64>
     }
 }
 
-/// The moment at which a wait was answered, in milliseconds, or None exactly where it failed.
+/// The moment at which a wait was answered, in milliseconds, or None exactly if it failed.
 fn moment_of(answer: Waited) -> Option<u64>
     ensures { result ≡ moment_of answer }
 {
@@ -74,7 +74,7 @@ fn moment_of(answer: Waited) -> Option<u64>
     }
 }
 
-/// What a wait found, or None exactly where it failed.
+/// What a wait found, or None exactly if it failed.
 fn name_of(answer: Waited) -> Option<Polled>
     ensures { result ≡ name_of answer }
 {
@@ -108,12 +108,12 @@ impl<
     /// Reactor). The journal has more entries: `Polled`, a `Due` for each timer whose deadline is
     /// reached, in order, and a `Ready` for each report whose handle is alive and whose kind is in
     /// its mask, in the order of the reports, of which there are at most 256. The answer says what
-    /// the wait found. Where that is `Over`, `over` tells from then on how many waits there were
+    /// the wait found. If that is `Over`, `over` tells from then on how many waits there were
     /// with this one, as many as the whole history has `Polled`.
     ///
-    /// `Stopped` comes exactly where the reactor was stopped. `NoMemory` comes where there was no
+    /// `Stopped` comes exactly if the reactor was stopped. `NoMemory` comes if there was no
     /// memory for the entries and events that a wait may bring, and leaves all as it was but the
-    /// room. `NetFailed` comes only where the net's count of failed waits rose: one wait was made,
+    /// room. `NetFailed` comes only if the net's count of failed waits rose: one wait was made,
     /// which failed. After each Err the journal, the handlers and the timers are as before.
     pub fn poll(&mut self, most_ms: Option<u64>) -> Result<Polled, PollRefused>
         requires stands { StandsWith ⟦<Self as Means>⟧.m (λ t h. FitsLimit t most_ms) self.old }
@@ -172,7 +172,7 @@ impl<
         )
     }
 
-    /// Makes one wait, with so many armed timers, and appends its entries. None comes exactly where
+    /// Makes one wait, with so many armed timers, and appends its entries. None comes exactly if
     /// the wait failed.
     fn take_events(&mut self, limit: Option<u64>, armed: usize) -> Option<Polled>
         requires may { Somewhere (MayWait ⟦<Self as Means>⟧.m armed limit) self.old }
@@ -195,7 +195,7 @@ impl<
         Some(polled)
     }
 
-    /// Makes one wait, and appends its `Polled` where it did not fail.
+    /// Makes one wait, and appends its `Polled` if it did not fail.
     fn wait_for(&mut self, limit: Option<u64>) -> Waited
         requires may { (armed : ℕ) × Somewhere (MayWait ⟦<Self as Means>⟧.m armed limit) self.old }
         ensures waits { NetWaits (M.facts self.old.net) limit result (M.facts self.new.net) }

@@ -46,7 +46,7 @@ impl<
 > Core<H, M, Q, W, V> {
     /// Posts a notification to the handler of a handle (ACE's `notify`). `from` is the poster's
     /// number, and `seq` its own number for the notification, from 0. The journal has one more
-    /// entry: `Posted` where the handle is alive, and else `Stale`. `Stopped` comes exactly where
+    /// entry: `Posted` if the handle is alive, and else `Stale`. `Stopped` comes exactly if
     /// the reactor was stopped; after a refusal nothing has changed but, with `NoMemory`, the room.
     pub fn post(
         &mut self,

@@ -152,7 +152,7 @@ impl<
         self.state.is_ended()
     }
 
-    /// Whether its watch failed. Where it did, a fault rose after the start.
+    /// Whether its watch failed. If it did, a fault rose after the start.
     pub fn is_broken(&self) -> bool
         ensures told { result ≡ W.is_broken (watch_of self.now) }
         ensures rose { From ⟦<Self as Means>⟧.m self.now (λ t F h. (before : ℕ) → result ≡ true
@@ -161,7 +161,7 @@ impl<
         self.watch.broken()
     }
 
-    /// The number, from 1, of the last wait that was answered `Over`, or 0 where there was none.
+    /// The number, from 1, of the last wait that was answered `Over`, or 0 if there was none.
     /// The n-th wait that did not fail has the n-th `Polled` of the journal.
     pub fn over(&self) -> u64
         ensures mark { result ≡ over_of self.now }

@@ -71,13 +71,13 @@ impl<
     W: Watch<H::Note>,
     V: Volumes<H::Note>,
 > Core<H, M, Q, W, V> {
-    /// Registers a handler (ACE's `register_handler`), with the reports that it wants and, where
+    /// Registers a handler (ACE's `register_handler`), with the reports that it wants and, if
     /// one is given, a timer: its first delay, from 1 to 4,294,967,295 milliseconds, and its
     /// period, 0 for once. The journal has `Opened`, and `Scheduled` for the timer. With each
     /// refusal the handler that was offered comes back, and all is as it was, but that after
-    /// `NoMemory` there may be more room. `Stopped` comes exactly where the reactor was stopped;
-    /// `Full` exactly where it was not, and as many handlers are live as may be or 4,294,967,295
-    /// were registered; `NetFailed` only where the net failed to attach its end. That was tried
+    /// `NoMemory` there may be more room. `Stopped` comes exactly if the reactor was stopped;
+    /// `Full` exactly if it was not, and as many handlers are live as may be or 4,294,967,295
+    /// were registered; `NetFailed` only if the net failed to attach its end. That was tried
     /// once: the net's count of failed attaches rose, and the handler fits what it fitted before.
     pub fn register(
         &mut self,
@@ -139,7 +139,7 @@ impl<
     }
 
     /// Registers a handler for which there is room: its end is attached, and the journal has
-    /// `Opened`. Where the net cannot take the end the handler comes back.
+    /// `Opened`. If the net cannot take the end the handler comes back.
     fn open_handler(&mut self, handler: H, mask: Mask) -> Result<Handle, H>
         requires may { Somewhere (MayOpen ⟦<Self as Means>⟧.m handler) self.old }
         requires journal { 1 ≤ self.old.journal.spare }

@@ -25,9 +25,9 @@ impl<
     W: Watch<H::Note>,
     V: Volumes<H::Note>,
 > Core<H, M, Q, W, V> {
-    /// Removes a handler (ACE's `remove_handler`). The journal has `Removed`; where the handler is
+    /// Removes a handler (ACE's `remove_handler`). The journal has `Removed`; if the handler is
     /// not out for an upcall it is closed at once, and `Closed` follows. It takes no memory.
-    /// `NotLive` comes exactly where the handle is not alive, and leaves all as it was.
+    /// `NotLive` comes exactly if the handle is not alive, and leaves all as it was.
     pub fn remove(&mut self, handle: Handle) -> Result<(), NotLive>
         requires stands { IsStanding ⟦<Self as Means>⟧.m self.old }
         ensures not_live { From ⟦<Self as Means>⟧.m self.old (λ t F h.
@@ -66,7 +66,7 @@ impl<
     }
 
     /// Stops the reactor: the journal has `Ended`, and each handler whose handle is alive is
-    /// removed, in rising order. It takes no memory, and does nothing where the reactor was stopped
+    /// removed, in rising order. It takes no memory, and does nothing if the reactor was stopped
     /// before.
     pub fn stop(&mut self)
         requires stands { IsStanding ⟦<Self as Means>⟧.m self.old }

@@ -53,7 +53,7 @@ impl<
 > Core<H, M, Q, W, V> {
     /// Suspends a handle: from now on none of its events is started, while reports and timeouts of
     /// it still wait (ACE's `suspend_handler`). The journal has one more entry, `Suspended`.
-    /// `NotLive` comes exactly where the handle is not alive, and `Same` exactly where it is alive
+    /// `NotLive` comes exactly if the handle is not alive, and `Same` exactly if it is alive
     /// and suspended already; after a refusal nothing has changed but, with `NoMemory`, the room.
     pub fn suspend(&mut self, handle: Handle) -> Result<(), StateRefused>
         requires stands { IsStanding ⟦<Self as Means>⟧.m self.old }
@@ -84,8 +84,8 @@ impl<
     }
 
     /// Ends the suspension of a handle (ACE's `resume_handler`): what waited for it may be started
-    /// again. The journal has one more entry, `Resumed`. `NotLive` comes exactly where the handle
-    /// is not alive, and `Same` exactly where it is alive and not suspended; after a refusal
+    /// again. The journal has one more entry, `Resumed`. `NotLive` comes exactly if the handle
+    /// is not alive, and `Same` exactly if it is alive and not suspended; after a refusal
     /// nothing has changed but, with `NoMemory`, the room.
     pub fn resume(&mut self, handle: Handle) -> Result<(), StateRefused>
         requires stands { IsStanding ⟦<Self as Means>⟧.m self.old }
@@ -115,7 +115,7 @@ impl<
         Ok(())
     }
 
-    /// Whether an alive handle is suspended, or None where the handle is not alive.
+    /// Whether an alive handle is suspended, or None if the handle is not alive.
     fn suspension(&self, handle: Handle) -> Option<bool>
         ensures { WhereStanding ⟦<Self as Means>⟧.m self.now (λ s. result ≡ suspension s handle.0) }
     {
@@ -131,7 +131,7 @@ impl<
 
     /// Changes which reports an alive handle wants (ACE's `mask_ops`); the net is told the new
     /// mask, and reports that wait and are of a kind that it lacks are dropped. The journal has one
-    /// more entry, `Masked`. `NotLive` comes exactly where the handle is not alive; after a refusal
+    /// more entry, `Masked`. `NotLive` comes exactly if the handle is not alive; after a refusal
     /// nothing has changed but, with `NoMemory`, the room.
     pub fn set_mask(&mut self, handle: Handle, mask: Mask) -> Result<(), LiveRefused>
         requires stands { IsStanding ⟦<Self as Means>⟧.m self.old }

@@ -15,7 +15,7 @@ use timer_queue::TimerQueue;
 /// How many entries a history has at most.
 pub(crate) const MOST_ENTRIES: u64 = 1 << 62;
 
-/// Places for so many more beside those for the open events, or None exactly where some of them are
+/// Places for so many more beside those for the open events, or None exactly if some of them are
 /// too many.
 fn places_for(opened: usize, more: Places) -> Option<Places>
     ensures places { IfSome result (λ places. places ≡ places_for opened more) }
@@ -31,7 +31,7 @@ fn places_for(opened: usize, more: Places) -> Option<Places>
     })
 }
 
-/// How many entries there must be room for, beside those that there are, or None exactly where they
+/// How many entries there must be room for, beside those that there are, or None exactly if they
 /// are too many.
 fn entries_for(owed: usize, more: usize, held: u64) -> Option<usize>
     ensures entries { IfSome result (λ entries. entries ≡ owed + more) }
@@ -54,7 +54,7 @@ impl<
     W: Watch<H::Note>,
     V: Volumes<H::Note>,
 > Core<H, M, Q, W, V> {
-    /// Makes room for so many more entries and places. `NoMemory` comes also where the history,
+    /// Makes room for so many more entries and places. `NoMemory` comes also if the history,
     /// with what is owed, would pass 2^62 entries, or the places would pass the greatest `usize`:
     /// there is no memory for so many. After it there is no less room than before.
     pub(crate) fn make_room(&mut self, entries: usize, more: Places) -> Result<(), NoMemory>

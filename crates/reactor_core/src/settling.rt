@@ -22,7 +22,7 @@ use reactor_model::{Entry, EventHandler, Volumes, Watch};
 use reactor_summary::OpenEvent;
 use timer_queue::TimerQueue;
 
-/// Why a handler is closed when its upcall is settled: for itself where it was alive until then,
+/// Why a handler is closed when its upcall is settled: for itself if it was alive until then,
 /// and else as it was removed.
 fn why_of(alive: bool) -> Why
     ensures { result ≡ why_of alive }
@@ -37,7 +37,7 @@ impl<
     W: Watch<H::Note>,
     V: Volumes<H::Note>,
 > Core<H, M, Q, W, V> {
-    /// Settles an upcall but for its act: its handler goes home, or is closed where its handle is
+    /// Settles an upcall but for its act: its handler goes home, or is closed if its handle is
     /// not alive any more.
     pub(crate) fn settle_event(
         &mut self,
@@ -89,7 +89,7 @@ impl<
         );
     }
 
-    /// The handler in hand goes home where its handle is alive, and is closed else.
+    /// The handler in hand goes home if its handle is alive, and is closed else.
     fn take_back(&mut self, handle: Handle, handler: Placed<H>, why: Why)
         requires may { Somewhere (MayTakeBack ⟦<Self as Means>⟧.m handle handler why) self.old }
         requires room { 1 ≤ self.old.journal.spare }

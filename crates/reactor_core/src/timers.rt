@@ -43,8 +43,8 @@ impl<
 > Core<H, M, Q, W, V> {
     /// Sets a timer for the handler of an alive handle (ACE's `schedule_timer`), and gives its
     /// number: the number of timers that were set before. It comes due after `delay` milliseconds
-    /// from the moment of the last wait, and then every `every` milliseconds, or once where that is
-    /// 0. The journal has one more entry, `Scheduled`. `NotLive` comes exactly where the handle is
+    /// from the moment of the last wait, and then every `every` milliseconds, or once if that is
+    /// 0. The journal has one more entry, `Scheduled`. `NotLive` comes exactly if the handle is
     /// not alive; after a refusal nothing has changed but, with `NoMemory`, the room.
     pub fn schedule(&mut self, handle: Handle, delay: u64, every: u64) -> Result<u64, LiveRefused>
         requires stands { IsStanding ⟦<Self as Means>⟧.m self.old }
@@ -82,7 +82,7 @@ impl<
     }
 
     /// Takes a timer away, and the event of it that waits to be started (ACE's `cancel_timer`). The
-    /// journal has one more entry, `Cancelled`. `NotArmed` comes exactly where the timer is not
+    /// journal has one more entry, `Cancelled`. `NotArmed` comes exactly if the timer is not
     /// armed and no event of it waits; after a refusal nothing has changed but, with `NoMemory`,
     /// the room.
     pub fn cancel(&mut self, timer: u64) -> Result<(), CancelRefused>

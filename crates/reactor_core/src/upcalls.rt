@@ -49,7 +49,7 @@ impl<
     V: Volumes<H::Note>,
 > Core<H, M, Q, W, V> {
     /// Starts the upcall of the event that is to be dispatched next, and gives its job, or None
-    /// exactly where there is no such event, and then nothing has changed. The journal has one more
+    /// exactly if there is no such event, and then nothing has changed. The journal has one more
     /// entry, `Started`. The net may have more places, and is else as it was. After `NoMemory`
     /// nothing has changed but the room.
     #[inline(always)]

@@ -12,7 +12,7 @@ use reactor_model::{EventHandler, Journal, TakeRefused, Volumes, Watch};
 use std::mem;
 use timer_queue::TimerQueue;
 
-/// For how many entries a journal is given room at most as its volume begins. Where a volume has
+/// For how many entries a journal is given room at most as its volume begins. If a volume has
 /// more, it grows.
 const MOST_AHEAD: u64 = 4_096;
 
@@ -37,9 +37,9 @@ impl<
     V: Volumes<H::Note>,
 > Core<H, M, Q, W, V> {
     /// Hands the entries that are held over to the volumes, whether upcalls are open or not, and
-    /// gives their number. That is done exactly where they are at least as many as a volume has,
+    /// gives their number. That is done exactly if they are at least as many as a volume has,
     /// and the whole journal has fewer than 2^62 entries; else the number is 0 and nothing has
-    /// changed. A refusal comes only where it is due, and changes nothing but, with `Failed`, the
+    /// changed. A refusal comes only if it is due, and changes nothing but, with `Failed`, the
     /// volumes' count of faults.
     pub fn hand_over(&mut self) -> Result<u64, HandOverRefused>
         requires stands { IsStanding ⟦<Self as Means>⟧.m self.old }

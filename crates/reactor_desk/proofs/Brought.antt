@@ -85,7 +85,7 @@ brings_start event = record { dispatching = refl; no_notice = refl; waited = ref
 module _ {H M Q W V N E : Type 0} (m : Meaning H M Q W V N E) (q : DeskTerms) (F : ℕ)
     (h es : List (Entry N)) (old : Desk H M Q W V N E) (core : Core H M Q W V N E)
     (size : core.volume ≡ old.core.volume) where
-  -- the desk stands for the history and these entries, where its core does and its drainer looked
+  -- the desk stands for the history and these entries, if its core does and its drainer looked
   -- often enough
   pub desk_more : (waits starts : ℕ) → Brings es waits starts → DeskStands m q F old h
       → Stands m q.run core F (h ++ es)

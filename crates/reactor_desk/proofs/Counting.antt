@@ -1,4 +1,4 @@
--- How many elements of a list have a property, behind its first n.
+-- How many elements of a list have a property, after its first n.
 use Rattle.std.proofs.Common.{ℕ, zero, suc, ◌+◌, ◌≡◌, ◌≤◌, Bool, true, false, List, [], ◌∷◌, ◌++◌}
 use Rattle.std.proofs.Common.{drop, arith, cond}
 use Rattle.reactor_model.specs.reactor_journal.specs.Past.{count}
@@ -25,7 +25,7 @@ count_dropped p (suc n) (x ∷ xs) = by_cases (p x) (count_dropped p n xs)
     by_cases true h = omega (arith, h)
     by_cases false h = h
 
--- behind the first n of a list with more at its end there are no more than behind the first n of
+-- after the first n of a list with more at its end there are no more than after the first n of
 -- the list, and those
 pub count_more : {A : Type 0} (p : A → Bool) (n : ℕ) (xs ys : List A)
     → count p (drop n (xs ++ ys)) ≤ count p (drop n xs) + count p ys

@@ -82,7 +82,7 @@ module _ {H M Q W V N E : Type 0} (m : Meaning H M Q W V N E) (q : DeskTerms) (F
   none_started core found is gives =
       (subst (λ (f : Option (Job H N E)). StartGives m q.run F h f core) is gives).1
 
-  -- ---- behind a wait
+  -- ---- after a wait
 
   pub behind_job : (old : Desk H M Q W V N E) (core : Core H M Q W V N E)
       → core.volume ≡ old.core.volume → (wait : Polled) (found : Option (Job H N E))
@@ -164,7 +164,7 @@ module _ {H M Q W V N E : Type 0} (m : Meaning H M Q W V N E) (q : DeskTerms) (F
         none = s.0;
       }
 
-  -- what is given behind the wait, given at once
+  -- what is given after the wait, given at once
   pub gives_after : (most : Option ℕ) (before : NetFacts E) (old new : Desk H M Q W V N E)
       (core : Core H M Q W V N E) (wait : Polled) (l : Led H N E)
       → (b : Brought most before old core wait) → Reserves (m.facts core.net) (m.facts new.core.net)
@@ -423,12 +423,12 @@ module _ {H M Q W V N E : Type 0} (m : Meaning H M Q W V N E) (q : DeskTerms) (F
     gives = gives;
   }
 
-  -- where no volume was due
+  -- if no volume was due
   abbrev pub as_found : (old : Desk H M Q W V N E) → DeskStands m q F old h
       → HandedOver old old.core
   as_found old o = record { first = F; within = o.core.tracks.journal.within; stands = o }
 
-  -- what a lead came to behind the volume, it came to with it
+  -- what a lead came to after the volume, it came to with it
   pub leads_since : (most : Option ℕ) (old new : Desk H M Q W V N E) (core : Core H M Q W V N E)
       (l : Led H N E) (G : ℕ) → core.net ≡ old.core.net
       → LeadsOn m q G h most (record { core = core; drainer = old.drainer }) l new
@@ -472,7 +472,7 @@ module _ {H M Q W V N E : Type 0} (m : Meaning H M Q W V N E) (q : DeskTerms) (F
 -- ---- what a lead tells by the counts
 
 module _ {H M Q W V N E : Type 0} (m : Meaning H M Q W V N E) where
-  -- where a wait was answered Over, its number is that of the last wait
+  -- if a wait was answered Over, its number is that of the last wait
   over_is : (old new : WaitMarks) (polled : Polled) → IsOver polled
       → new ≡ marks_found (Some polled) old → new.over ≡ new.made
   over_is old new polled.Over over is =
@@ -487,7 +487,7 @@ module _ {H M Q W V N E : Type 0} (m : Meaning H M Q W V N E) where
   over_stands old new polled.Events not is = ap (λ (w : WaitMarks). w.over) is
   over_stands old new polled.Quiet not is = ap (λ (w : WaitMarks). w.over) is
 
-  -- the lead behind a wait: with Over the wait was answered so
+  -- the lead after a wait: with Over the wait was answered so
   pub tells_behind : (q : DeskTerms) (F : ℕ) (h : List (Entry N)) (polled : Polled) (l : Led H N E)
       (before : WaitMarks) (old new : Desk H M Q W V N E) → GivesBehind m q F h polled l new
       → new.core.marks ≡ marks_found (Some polled) before → before.over ≡ old.core.marks.over

@@ -72,7 +72,7 @@ module _ {H M Q W V N E : Type 0} (m : Meaning H M Q W V N E) where
         (omega (arith, ap (λ (w : WaitMarks). w.over) k.marks));
   }
 
-  -- where a volume was handed over, or refused
+  -- if a volume was handed over, or refused
   pub core_hands_same : (old new : Core H M Q W V N E) → KeepsOthers old new
       → (m.volumes new.volumes).faults ≡ (m.volumes old.volumes).faults → CoreKeeps old new
   core_hands_same old new k same = core_hands old new k (not_fallen _ _ same)

@@ -82,7 +82,7 @@ no_starts (e ∷ es) n = let p : (not (is_dispatching e) ≡ true) × NoneDispat
 module _ {H M Q W V N E : Type 0} (m : Meaning H M Q W V N E) (q : DeskTerms) (F : ℕ)
     (h es : List (Entry N)) (old : Desk H M Q W V N E) (core : Core H M Q W V N E)
     (size : core.volume ≡ old.core.volume) where
-  -- the desk stands for the history and such entries, where its core does and they go by turns, if
+  -- the desk stands for the history and such entries, when its core does and they go by turns, if
   -- the terms ask for that
   pub desk_asked : NoneDispatching es
       → ((b : ℕ) → q.run.by_turn ≡ Some b → GoesByTurns m.means q.run b (h ++ es))

@@ -105,7 +105,7 @@ removals_go {H} {E} {N} means t b past busy (a ∷ hs) es stopped r =
 
 -- ---- the act
 
--- what the act of a turn appends, behind this past
+-- what the act of a turn appends, after this past
 pub record ActGoes {H E N : Type 0} (means : Handling H E N) (t : Terms) (b : ℕ)
     (past es : List (Entry N)) (act : Option (Act H N E)) : Type 0 where
   pub none_dispatching : NoneDispatching es

@@ -21,12 +21,12 @@ use Rattle.reactor_desk.specs.declared.desk.Desk.{Desk}
 abbrev pub MayAsk : DeskTerms → Type 0
 MayAsk q = q.run.by_turn ≡ None
 
--- a request is right where the desk stands for a history and callers may ask
+-- a request is right if the desk stands for a history and callers may ask
 abbrev pub IsAskable : {H M Q W V N E : Type 0} → Meaning H M Q W V N E → Desk H M Q W V N E
     → Type 0
 IsAskable m desk = DeskWith m (λ q h. MayAsk q) desk
 
--- P holds of each history that the desk stands for, where callers may ask
+-- P holds of each history that the desk stands for, if callers may ask
 abbrev pub WhereAsked : {H M Q W V N E : Type 0} → Meaning H M Q W V N E → Desk H M Q W V N E
     → (DeskTerms → ℕ → List (Entry N) → Type 0) → Type 0
 WhereAsked m desk P = FromDesk m desk (λ q F h. MayAsk q → P q F h)
@@ -36,7 +36,7 @@ abbrev pub WhereDesk : {H M Q W V N E : Type 0} → Meaning H M Q W V N E → De
     → (Summary → Type 0) → Type 0
 WhereDesk m desk P = FromDesk m desk (λ q F h. P (summary (past_of h)))
 
--- whatever history the old desk stood for, the new one stands for it with this entry behind it
+-- whatever history the old desk stood for, the new one stands for it with this entry after it
 abbrev pub DeskGoesOnBy : {H M Q W V N E : Type 0} → Meaning H M Q W V N E → Desk H M Q W V N E
     → (Summary → Entry N) → Desk H M Q W V N E → Type 0
 DeskGoesOnBy m old e new = WhereAsked m old
@@ -60,7 +60,7 @@ pub record DeskRegisters {H M Q W V N E : Type 0} (m : Meaning H M Q W V N E) (q
   pub gives : RegisterGives m q.run F h mask timer (core_of old) result (core_of new)
   pub stands : DeskStands m q F new (history_offered h mask timer result)
 
--- a handle that was alive was removed, and its handler closed where it was at home
+-- a handle that was alive was removed, and its handler closed if it was at home
 pub record DeskRemoves {H M Q W V N E : Type 0} (m : Meaning H M Q W V N E) (q : DeskTerms) (F : ℕ)
     (h : List (Entry N)) (handle : Handle) (new : Desk H M Q W V N E) : Type 0 where
   pub entries : List (Entry N)

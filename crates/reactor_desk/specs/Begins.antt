@@ -9,7 +9,7 @@ use Rattle.reactor_model.specs.Entries.{is_notice}
 use Rattle.reactor_desk.specs.declared.terms.DeskTerms.{DeskTerms}
 
 -- The drainer of a ring has taken nothing, the history of the reactor has no notification, and
--- where the terms name the entry from which on it goes by turns, that is the next.
+-- if the terms name the entry from which on it goes by turns, that is the next.
 pub record CanShare {N : Type 0} (t : Terms) (h : List (Entry N)) (drainer : Drainer) : Type 0 where
   pub fresh : drainer_view drainer ≡ new_drainer
   pub no_notice : filter is_notice h ≡ []

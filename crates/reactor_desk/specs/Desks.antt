@@ -55,12 +55,12 @@ is_started _ = false
 abbrev pub looks_of : {H M Q W V N E : Type 0} → Desk H M Q W V N E → ℕ
 looks_of desk = (drainer_view (drainer_of desk)).loads
 
--- where entries were handed over, they are at least as many as a volume has
+-- if entries were handed over, they are at least as many as a volume has
 abbrev pub FillsVolume : ℕ → ℕ → Type 0
 FillsVolume volume first = 1 ≤ first → volume ≤ first
 
 -- Under the terms the desk stands for the history h, of which its reactor handed the first F
--- entries over: none, or at least as many as a volume has. Where the terms name the entry from
+-- entries over: none, or at least as many as a volume has. If the terms name the entry from
 -- which on the history goes by turns, it does. The drainer belongs to the ring of the terms, what
 -- it took is recorded in the history, in order, and it looked at least as often as there were
 -- waits, and as there were starts, since the desk was made.
@@ -75,7 +75,7 @@ pub record DeskStands {H M Q W V N E : Type 0} (m : Meaning H M Q W V N E) (q : 
   pub waits : count is_polled (drop q.found h) ≤ looks_of desk
   pub starts : count is_started (drop q.found h) ≤ looks_of desk
 
--- a call is right where the desk stands for a history with P
+-- a call is right if the desk stands for a history with P
 abbrev pub DeskWith : {H M Q W V N E : Type 0} → Meaning H M Q W V N E
     → (DeskTerms → List (Entry N) → Type 0) → Desk H M Q W V N E → Type 0
 DeskWith {N = N} m P desk = (q : DeskTerms) × (F : ℕ) × (h : List (Entry N))

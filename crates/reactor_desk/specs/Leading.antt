@@ -74,7 +74,7 @@ IsNotOver polled.Over = ⊥
 IsNotOver polled.Events = Unit {0}
 IsNotOver polled.Quiet = Unit {0}
 
--- the entries of a wait, where there was one: exactly where no event could be started before
+-- the entries of a wait, if there was one: exactly if no event could be started before
 abbrev pub MayHaveWaited : {E N : Type 0} → Option ℕ → List (Entry N) → NetFacts E → List (Entry N)
     → NetFacts E → Type 0
 MayHaveWaited most h before entries left =
@@ -82,7 +82,7 @@ MayHaveWaited most h before entries left =
     ⊎ WaitedFor most h before entries left (λ polled. Unit {0})
 
 -- The event of the job is the next of the history, or of the history with the entries of one wait,
--- where it had none.
+-- if it had none.
 pub record Dispatches {H M Q W V N E : Type 0} (m : Meaning H M Q W V N E) (q : DeskTerms) (F : ℕ)
     (h : List (Entry N)) (most : Option ℕ) (before : NetFacts E) (job : Job H N E)
     (new : Desk H M Q W V N E) : Type 0 where
@@ -101,7 +101,7 @@ pub record Idles {H M Q W V N E : Type 0} (m : Meaning H M Q W V N E) (q : DeskT
   pub none : HasNoPick (past_of (h ++ entries))
   pub stands : DeskStands m q F new (h ++ entries)
 
--- what is left where there was no memory: what was recorded
+-- what is left if there was no memory: what was recorded
 pub record Leaves {H M Q W V N E : Type 0} (m : Meaning H M Q W V N E) (q : DeskTerms) (F : ℕ)
     (h : List (Entry N)) (most : Option ℕ) (before : NetFacts E) (new : Desk H M Q W V N E) : Type 0
   where
@@ -115,7 +115,7 @@ pub record StandsForStart {H M Q W V N E : Type 0} (m : Meaning H M Q W V N E) (
   pub stands : DeskStands m q F desk h
   pub looked : count is_started (drop q.found h) + 1 ≤ looks_of desk
 
--- the start behind a wait is right where it stands so for a history; and P holds of each
+-- the start after a wait is right if it stands so for a history; and P holds of each
 abbrev pub StartsFrom : {H M Q W V N E : Type 0} → Meaning H M Q W V N E → Desk H M Q W V N E
     → Type 0
 StartsFrom {N = N} m desk = (q : DeskTerms) × (F : ℕ) × (h : List (Entry N))
@@ -126,7 +126,7 @@ abbrev pub FromStart : {H M Q W V N E : Type 0} → Meaning H M Q W V N E → De
 FromStart {N = N} m desk P = (q : DeskTerms) (F : ℕ) (h : List (Entry N))
     → StandsForStart m q F desk h → P q F h
 
--- what the start behind a wait that found this gives
+-- what the start after a wait that found this gives
 abbrev pub GivesBehind : {H M Q W V N E : Type 0} → Meaning H M Q W V N E → DeskTerms → ℕ
     → List (Entry N) → Polled → Led H N E → Desk H M Q W V N E → Type 0
 GivesBehind m q F h polled (led.Job job) new =
@@ -163,7 +163,7 @@ abbrev pub HasDrained : {H M Q W V N E : Type 0} → Led H N E → List (Entry N
 HasDrained led.NoMemory notices new = Unit {0}
 HasDrained led notices new = (length notices ≡ 256) ⊎ FoundEmpty new
 
--- a volume was handed over where one was due, and postings were drained, at most 256
+-- a volume was handed over if one was due, and postings were drained, at most 256
 pub record LeadsOn {H M Q W V N E : Type 0} (m : Meaning H M Q W V N E) (q : DeskTerms) (F : ℕ)
     (h : List (Entry N)) (most : Option ℕ) (old : Desk H M Q W V N E) (led : Led H N E)
     (new : Desk H M Q W V N E) : Type 0 where
@@ -183,7 +183,7 @@ pub record MayLead {H M Q W V N E : Type 0} (m : Meaning H M Q W V N E) (h : Lis
   pub running : IsRunning h
   pub whole : m.is_broken (watch_of (core_of old)) ≡ false
 
--- a desk does not lead where entries were appended in the same hold: a volume is due, it was
+-- a desk does not lead if entries were appended in the same hold: a volume is due, it was
 -- stopped, or its watch failed
 abbrev pub MayNotLeadOn : {H M Q W V N E : Type 0} → Meaning H M Q W V N E → ℕ → List (Entry N)
     → Desk H M Q W V N E → Type 0

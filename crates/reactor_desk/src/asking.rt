@@ -25,12 +25,12 @@ impl<
     W: Watch<H::Note>,
     V: Volumes<H::Note>,
 > Desk<H, M, Q, W, V> {
-    /// Registers a handler (`Core::register`), with the reports that it wants and, where one is
+    /// Registers a handler (`Core::register`), with the reports that it wants and, if one is
     /// given, a timer: its first delay, from 1 to 4,294,967,295 milliseconds, and its period, 0 for
     /// once. With each refusal the handler that was offered comes back, and all is as it was, but
-    /// that after `NoMemory` there may be more room. `Stopped` comes exactly where the reactor was
-    /// stopped; `Full` exactly where it was not, and as many handlers are live as may be or
-    /// 4,294,967,295 were registered; `NetFailed` only where the net failed to attach its end,
+    /// that after `NoMemory` there may be more room. `Stopped` comes exactly if the reactor was
+    /// stopped; `Full` exactly if it was not, and as many handlers are live as may be or
+    /// 4,294,967,295 were registered; `NetFailed` only if the net failed to attach its end,
     /// once.
     pub fn register(
         &mut self,
@@ -51,8 +51,8 @@ impl<
         self.core.register(handler, mask, timer)
     }
 
-    /// Removes a handler (`Core::remove`); where it is not out for an upcall it is closed at once.
-    /// It takes no memory. `NotLive` comes exactly where the handle is not alive, and leaves all as
+    /// Removes a handler (`Core::remove`); if it is not out for an upcall it is closed at once.
+    /// It takes no memory. `NotLive` comes exactly if the handle is not alive, and leaves all as
     /// it was.
     pub fn remove(&mut self, handle: Handle) -> Result<(), NotLive>
         requires stands { IsAskable ⟦<Self as Means>⟧.m self.old }
@@ -67,7 +67,7 @@ impl<
     }
 
     /// Suspends a handle (`Core::suspend`): from now on none of its events is started. `NotLive`
-    /// comes exactly where the handle is not alive, and `Same` exactly where it is alive and
+    /// comes exactly if the handle is not alive, and `Same` exactly if it is alive and
     /// suspended already; after a refusal nothing has changed but, with `NoMemory`, the room.
     pub fn suspend(&mut self, handle: Handle) -> Result<(), StateRefused>
         requires stands { IsAskable ⟦<Self as Means>⟧.m self.old }
@@ -83,8 +83,8 @@ impl<
         self.core.suspend(handle)
     }
 
-    /// Ends the suspension of a handle (`Core::resume`). `NotLive` comes exactly where the handle
-    /// is not alive, and `Same` exactly where it is alive and not suspended; after a refusal
+    /// Ends the suspension of a handle (`Core::resume`). `NotLive` comes exactly if the handle
+    /// is not alive, and `Same` exactly if it is alive and not suspended; after a refusal
     /// nothing has changed but, with `NoMemory`, the room.
     pub fn resume(&mut self, handle: Handle) -> Result<(), StateRefused>
         requires stands { IsAskable ⟦<Self as Means>⟧.m self.old }
@@ -102,7 +102,7 @@ impl<
 
     /// Sets a timer for the handler of an alive handle (`Core::schedule`), and gives its number. It
     /// comes due after `delay` milliseconds, from 1 to 4,294,967,295, and then every `every`
-    /// milliseconds, or once where that is 0. `NotLive` comes exactly where the handle is not
+    /// milliseconds, or once if that is 0. `NotLive` comes exactly if the handle is not
     /// alive; after a refusal nothing has changed but, with `NoMemory`, the room.
     pub fn schedule(&mut self, handle: Handle, delay: u64, every: u64) -> Result<u64, LiveRefused>
         requires stands { IsAskable ⟦<Self as Means>⟧.m self.old }
@@ -122,7 +122,7 @@ impl<
     }
 
     /// Takes a timer away, and the event of it that waits to be started (`Core::cancel`).
-    /// `NotArmed` comes exactly where the timer is not armed and no event of it waits; after a
+    /// `NotArmed` comes exactly if the timer is not armed and no event of it waits; after a
     /// refusal nothing has changed but, with `NoMemory`, the room.
     pub fn cancel(&mut self, timer: u64) -> Result<(), CancelRefused>
         requires stands { IsAskable ⟦<Self as Means>⟧.m self.old }
@@ -139,7 +139,7 @@ impl<
     }
 
     /// Stops the reactor (`Core::stop`): each handler whose handle is alive is removed, in rising
-    /// order. It takes no memory, and does nothing where the reactor was stopped before.
+    /// order. It takes no memory, and does nothing if the reactor was stopped before.
     pub fn stop(&mut self)
         requires stands { IsAskable ⟦<Self as Means>⟧.m self.old }
         ensures stops { WhereAsked ⟦<Self as Means>⟧.m self.old

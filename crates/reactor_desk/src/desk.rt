@@ -62,8 +62,8 @@ impl<
     V: Volumes<H::Note>,
 > Desk<H, M, Q, W, V> {
     /// A desk of a reactor and the drainer of a ring that has taken nothing. It stands for the
-    /// history of the reactor where that has no notification, where at least a volume was handed
-    /// over or nothing and, where the terms name the entry from which on it goes by turns, that is
+    /// history of the reactor if that has no notification, if at least a volume was handed
+    /// over or nothing and, if the terms name the entry from which on it goes by turns, that is
     /// the next.
     pub fn new(core: Core<H, M, Q, W, V>, drainer: Drainer) -> Self
         ensures parts { (core_of result ≡ core) × (drainer_of result ≡ drainer) }

@@ -52,15 +52,15 @@ impl<
     W: Watch<H::Note>,
     V: Volumes<H::Note>,
 > Desk<H, M, Q, W, V> {
-    /// Leads: hands a volume over where one is due, takes the postings of the ring, and starts the
-    /// next upcall. Where there is none to start, waits once at the net, at most `most_ms`
-    /// milliseconds, which is the limit of the terms where they have one, and looks again (POSA2,
+    /// Leads: hands a volume over if one is due, takes the postings of the ring, and starts the
+    /// next upcall. If there is none to start, waits once at the net, at most `most_ms`
+    /// milliseconds, which is the limit of the terms if they have one, and looks again (POSA2,
     /// Leader/Followers: the leader's wait for an event; ACE's `handle_events`).
     ///
-    /// `Stopped` comes exactly where the reactor was stopped, and `Broken` exactly where it was not
-    /// and its watch failed; both leave all as it was. `Quiet` and `Over` come where no upcall
-    /// could be started before this call's wait nor behind it, and the wait was answered so,
-    /// `Quiet` also where its reports brought none. `VolumeFault` and `NetFault` come only where
+    /// `Stopped` comes exactly if the reactor was stopped, and `Broken` exactly if it was not
+    /// and its watch failed; both leave all as it was. `Quiet` and `Over` come if no upcall
+    /// could be started before this call's wait nor after it, and the wait was answered so,
+    /// `Quiet` also if its reports brought none. `VolumeFault` and `NetFault` come only if
     /// the count of faults of the volumes, or of failed waits, rose in this call, and with every
     /// other answer than `VolumeFault` that of the volumes is what it was. `NoMemory` and
     /// `NetFault` leave recorded what this call drained and waited for.
@@ -88,8 +88,8 @@ impl<
     }
 
     /// Leads as `lead` does, in a hold of the token in which entries were appended before, and
-    /// hands no volume over. None comes exactly where one is due, where the reactor was stopped,
-    /// and where its watch failed, and leaves all as it was.
+    /// hands no volume over. None comes exactly when one is due, when the reactor was stopped,
+    /// and when its watch failed, and leaves all as it was.
     pub fn lead_on(&mut self, ring: &Ring, most_ms: Option<u64>) -> Option<Led<H>>
         requires stands { DeskWith ⟦<Self as Means>⟧.m (λ q h. FitsLimit q.run most_ms) self.old }
         requires ring { drainer_ring (drainer_of self.old) ≡ id_of ring.now }
@@ -184,7 +184,7 @@ impl<
     }
 
     /// Takes the postings of a ring, at most 256, until the ring is found empty, and records each:
-    /// as `Posted` where its handle is alive, and else as `Stale`. The answer is how many it took.
+    /// as `Posted` if its handle is alive, and else as `Stale`. The answer is how many it took.
     /// For want of memory it leaves what it recorded.
     pub fn drain(&mut self, ring: &Ring) -> Result<u64, NoMemory>
         requires stands { DeskWith ⟦<Self as Means>⟧.m (λ q h. IsRunning h) self.old }
@@ -204,7 +204,7 @@ impl<
     }
 
     /// Takes one posting and records it, or says that the ring was found empty. Room is made only
-    /// where a posting is there.
+    /// if a posting is there.
     fn drain_one(&mut self, ring: &Ring) -> Result<bool, NoMemory>
         requires stands { DeskWith ⟦<Self as Means>⟧.m (λ q h. IsRunning h) self.old }
         requires ring { drainer_ring (drainer_of self.old) ≡ id_of ring.now }

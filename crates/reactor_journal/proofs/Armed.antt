@@ -190,7 +190,7 @@ due_known {N} most (e ∷ past) i t legal h =
 
 -- ---- while a timeout waits, its timer is not armed, and no other timeout of it waits
 
--- what waits behind one more entry waited before it, and the entry doesn't start it
+-- what waits after one more entry waited before it, and the entry doesn't start it
 pub waiting_old : {N : Type 0} (e : Entry N) (past : List (Entry N)) (i : ℕ) → i ≢ length past
     → is_waiting (e ∷ past) i ≡ true → (is_waiting past i ≡ true) × (starts i e ≡ false)
 waiting_old e past i q w =

@@ -1,4 +1,4 @@
--- A handle is closed once, and is named by no entry behind that but `Stale`.
+-- A handle is closed once, and is named by no entry after that but `Stale`.
 use Rattle.std.proofs.Common.{ℕ, zero, suc, ◌≡◌, ◌≢◌, ◌<◌, ◌≤◌, ◌==◌, Bool, true, false, not, ◌&&◌}
 use Rattle.std.proofs.Common.{List, [], ◌∷◌, length, refl, sym, ap, ◌∙◌, subst, arith, cond, Option}
 use Rattle.std.proofs.Common.{Some, None, option_map, ⊎_elim}
@@ -254,7 +254,7 @@ late_timeout most past t x legal g n h =
     not_both past x (waiting_alive most past found.0 x legal both.0
     (timeout_owned most past t legal found.0 both.1 x ∙ n)) g.removed
 
--- behind the closing of a handle, only `Stale` names it
+-- after the closing of a handle, only `Stale` names it
 pub only_stale : {N : Type 0} (most : ℕ) (past : List (Entry N)) (e : Entry N) (x : ℕ)
     → is_legal most past ≡ true → may_follow most past e ≡ true → was_closed past x ≡ true
     → names past e x ≡ true → is_stale e ≡ true

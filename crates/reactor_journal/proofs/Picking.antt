@@ -1,4 +1,4 @@
--- The pick is one event, and there is one where an event is able.
+-- The pick is one event, and there is one if an event is able.
 use Rattle.std.proofs.Common.{ℕ, zero, suc, ◌≡◌, ◌≢◌, ◌+◌, ◌-◌, ◌*◌, ◌/◌, ◌<◌, ◌≤◌, ◌==◌, Bool}
 use Rattle.std.proofs.Common.{true, false, not, ◌&&◌, ◌||◌, List, length, refl, sym, ap, ◌∙◌, subst}
 use Rattle.std.proofs.Common.{arith, ◌⊎◌, inl, inr, ⊎_elim}

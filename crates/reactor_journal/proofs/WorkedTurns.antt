@@ -58,7 +58,7 @@ removed_while_out = Opened (handle 0) reads ∷ Polled 0 ∷ Ready (handle 0) Re
 removed_first : reason_of (reverse removed_while_out) 0 ≡ RemovedBy
 removed_first = refl
 
--- an offer behind the close of the handler that made it, and one that is refused
+-- an offer after the close of the handler that made it, and one that is refused
 abbrev offers : List (Entry ℕ)
 offers = Opened (handle 0) reads ∷ Polled 3 ∷ Ready (handle 0) Read ∷ Started 2
     ∷ Returned 2 Close 21 ∷ Closed (handle 0) 22 ∷ Opened (handle 1) reads ∷ Ready (handle 1) Read

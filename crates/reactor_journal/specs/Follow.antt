@@ -19,7 +19,7 @@ use Rattle.std.specs.Prelude.{Option, Some, None}
 abbrev pub most_handles : ℕ
 most_handles = 4294967295
 
--- the only entries that may stand behind `Ended`, which itself stands there once
+-- the only entries that may stand after `Ended`, which itself stands there once
 abbrev pub winds_up : {N : Type 0} → Entry N → Bool
 winds_up (Returned event answer note) = true
 winds_up (Removed handle) = true
@@ -28,7 +28,7 @@ winds_up (Refused live fault note) = true
 winds_up _ = false
 
 -- whether the last entry is `Polled` or `Due`; or one of these or `Ready`. So the timers that come
--- due and the reports of one wait stand together behind its `Polled`, the timers first
+-- due and the reports of one wait stand together after its `Polled`, the timers first
 abbrev pub follows_due : {N : Type 0} → List (Entry N) → Bool
 follows_due (Polled moment ∷ past) = true
 follows_due (Due timer ∷ past) = true
@@ -91,6 +91,6 @@ abbrev pub is_legal : {N : Type 0} → ℕ → List (Entry N) → Bool
 is_legal most [] = true
 is_legal most (e ∷ past) = may_follow most past e && is_legal most past
 
--- the journal is legal, where at most this number of handles may be live at once
+-- the journal is legal, if at most this number of handles may be live at once
 abbrev pub Legal : {N : Type 0} → List (Entry N) → ℕ → Type 0
 Legal journal most = IsTrue (is_legal most (past_of journal))

@@ -41,7 +41,7 @@ abbrev pub ClosesOnce : Type 0 → Type 0
 ClosesOnce N = (journal : List (Entry N)) (most x : ℕ) → Legal journal most
     → count (closes x) journal ≤ 1
 
--- behind the `Closed` of a handle only `Stale` names it
+-- after the `Closed` of a handle only `Stale` names it
 abbrev pub OnlyStaleFollows : Type 0 → Type 0
 OnlyStaleFollows N =
     (before after : List (Entry N)) (e : Entry N) (most x : ℕ) → Legal (before ++ e ∷ after) most
@@ -65,7 +65,7 @@ PicksOne N =
     → IsTrue (is_pick (past_of journal) j)
     → i ≡ j
 
--- where an event is able there is a pick
+-- if an event is able there is a pick
 abbrev pub PicksSome : Type 0 → Type 0
 PicksSome N =
     (journal : List (Entry N)) (i : ℕ) → IsTrue (is_able (past_of journal) i) → (j : ℕ)

@@ -186,7 +186,7 @@ abbrev pub belongs_to : ℕ → Option Event → Bool
 belongs_to x None = false
 belongs_to x (Some event) = event.handle == x
 
--- the event, where its handle is alive
+-- the event, if its handle is alive
 abbrev pub only_if_alive : (ℕ → Bool) → Option Event → Option Event
 only_if_alive alive None = None
 only_if_alive alive (Some event) = if alive event.handle then Some event else None
@@ -264,7 +264,7 @@ abbrev pub drops_it : {N : Type 0} → Option Event → (ℕ → Option Event) �
 drops_it None events e = false
 drops_it (Some event) events e = drops event events e
 
--- whether one of the recorded removals of event i stands behind it
+-- whether one of the recorded removals of event i stands after it
 abbrev pub was_taken : {N : Type 0} → List (Entry N) → ℕ → Bool
 was_taken [] i = false
 was_taken (e ∷ past) i = drops_it (event_at past i) (event_at past) e || was_taken past i
@@ -333,7 +333,7 @@ abbrev pub period : Option Timer → ℕ
 period None = 0
 period (Some timer) = timer.every
 
--- the timer that is set again by the `Started` of its `Due`, which is so where it has a period. The
+-- the timer that is set again by the `Started` of its `Due`, which is so if it has a period. The
 -- `Started` of an Again sets none
 abbrev pub rearms : {N : Type 0} → List (Entry N) → Option ℕ → Option ℕ
 rearms past None = None
@@ -460,7 +460,7 @@ turn_settled (Returned event answer note ∷ past) =
     Some (record { note = note; moment = started_at past event })
 turn_settled _ = None
 
--- the origin of a handler that is offered here: the turn that was settled just before, where one
+-- the origin of a handler that is offered here: the turn that was settled just before, though one
 -- `Closed` may stand between; or none
 abbrev pub offered_here : {N : Type 0} → List (Entry N) → Option (Origin N)
 offered_here (Closed handle note ∷ past) = turn_settled past

@@ -38,7 +38,7 @@ impl<N> Journal<N> {
         }
     }
 
-    /// Makes the spare places at least `n`. Where there is that much room already it takes no
+    /// Makes the spare places at least `n`. If there is that much room already it takes no
     /// memory and answers Ok; after a refusal nothing has changed.
     pub fn reserve(&mut self, n: usize) -> Result<(), NoMemory>
         ensures entries { self.new.entries ≡ self.old.entries }

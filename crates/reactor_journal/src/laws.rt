@@ -21,7 +21,7 @@ pub fn one_fate<N>()
     ensures event { StartsEvents N }
 {}
 
-/// A handle is closed at most once, and behind that only a stale notification names it.
+/// A handle is closed at most once, and after that only a stale notification names it.
 pub fn closed_for_good<N>()
     ensures once { ClosesOnce N }
     ensures stale { OnlyStaleFollows N }
@@ -32,7 +32,7 @@ pub fn no_turn_meanwhile<N>()
     ensures { HasNoTurnMeanwhile N }
 {}
 
-/// Where an event is able there is one pick, and there are never two.
+/// If an event is able there is one pick, and there are never two.
 pub fn one_pick<N>()
     ensures one { PicksOne N }
     ensures some { PicksSome N }

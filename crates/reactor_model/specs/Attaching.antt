@@ -7,7 +7,7 @@ use Rattle.ev_base.specs.Net.{NetFacts, NetAttaches}
 use Rattle.reactor_journal.specs.Event.{Item, Origin}
 use Rattle.reactor_model.specs.Handling.{Handling, Names}
 
--- The net was asked to attach an end; where the handler's origin says something of its serial
+-- The net was asked to attach an end; if the handler's origin says something of its serial
 -- number, that is as said.
 abbrev pub AttachesMine : {H E N : Type 0} → Handling H E N → H → NetFacts E → ℕ → Mask
     → Result (Unit {0}) NetFailed → NetFacts E → Type 0

@@ -54,7 +54,7 @@ EndsInClose [] = ⊥
 EndsInClose (item ∷ []) = IsClose item.answer
 EndsInClose (item ∷ next ∷ items) = EndsInClose (next ∷ items)
 
--- where something is said of a serial number, it is as said
+-- if something is said of a serial number, it is as said
 abbrev pub Names : Option (Option ℕ) → Option ℕ → Type 0
 Names None serial = Unit {0}
 Names (Some named) serial = serial ≡ named

@@ -10,15 +10,15 @@ use Rattle.reactor_model.specs.declared.volumes.TakeRefused.TheVariants.{Failed,
 pub record VolumesFacts (N : Type 0) : Type 0 where
   -- how often a take failed
   pub faults : ℕ
-  -- all entries that were taken, where they are told
+  -- all entries that were taken, if they are told
   pub taken : Option (List (Entry N))
   -- the number, in its journal, of the first entry of the present journal that it has not taken,
-  -- where it keeps count of that
+  -- if it keeps count of that
   pub next : Option ℕ
   -- how many entries make a volume
   pub size : ℕ
 
--- where a keeper keeps count, this is the number of the first entry that it has not taken
+-- if a keeper keeps count, this is the number of the first entry that it has not taken
 abbrev pub IsNext : Option ℕ → ℕ → Type 0
 IsNext None first = Unit {0}
 IsNext (Some next) first = first ≡ next
@@ -35,7 +35,7 @@ pub record BeginsJournal {N : Type 0} (old new : VolumesFacts N) : Type 0 where
   pub faults : new.faults ≡ old.faults
   pub size : new.size ≡ old.size
 
--- where the entries are told, these were added
+-- if the entries are told, these were added
 abbrev pub AddsEntries : {N : Type 0} → Option (List (Entry N)) → List (Entry N)
     → Option (List (Entry N)) → Type 0
 AddsEntries None entries None = Unit {0}

@@ -67,7 +67,7 @@ pub trait EventHandler: Sized {
             → TakesTurn means t origin up now had self.new result }
         ensures promises { KeepsPromises means up result };
 
-    /// Attaches its end to a net. What it has had stays as it is. `NetFailed` comes only where the
+    /// Attaches its end to a net. What it has had stays as it is. `NetFailed` comes only if the
     /// net's count of failed attaches rose.
     fn attach_to<M: Net<End = Self::End>>(
         &mut self,

@@ -16,7 +16,7 @@ pub enum TakeRefused {
 }
 
 /// Takes the volumes of a journal in order, and of another journal after it. It has a count of
-/// faults that never falls, and where it tells them, a list of all entries that it took.
+/// faults that never falls, and if it tells them, a list of all entries that it took.
 pub trait Volumes<N> {
     ghost use Rattle.reactor_model.specs.Volumes.{VolumesFacts, IsNext, IsSize, BeginsJournal};
     ghost use Rattle.reactor_model.specs.Volumes.{TakesVolume};
@@ -35,7 +35,7 @@ pub trait Volumes<N> {
 
     /// Takes a volume whose first entry has the number `first` in its journal, which is that of the
     /// first entry not taken yet. After a refusal nothing was taken, and the volume comes back;
-    /// `Failed` comes only where the count of faults rose.
+    /// `Failed` comes only if the count of faults rose.
     fn take(&mut self, first: u64, volume: Journal<N>) -> Result<(), (Journal<N>, TakeRefused)>
         requires next { IsNext (facts self.old).next first }
         ensures takes { TakesVolume (facts self.old) volume result (facts self.new) };

@@ -12,7 +12,7 @@ pub trait Watch<N> {
     /// It has seen exactly these entries.
     ghost stands: { Terms → Self → List (Entry N) → Type 0 };
 
-    /// How often it failed: that of its sink, where it has one.
+    /// How often it failed: that of its sink, if it has one.
     ghost faults: { Self → ℕ };
 
     /// Whether it failed.
@@ -21,7 +21,7 @@ pub trait Watch<N> {
     /// How many entries it has seen, from the first on, without a failure.
     ghost whole: { Self → ℕ };
 
-    /// Sees one more entry. No count falls, and it breaks only where that of its faults rose.
+    /// Sees one more entry. No count falls, and it breaks only if that of its faults rose.
     fn saw(&mut self, entry: &Entry<N>)
         ensures stands { (t : Terms) (h : List (Entry N)) → stands t self.old h
             → stands t self.new (h ++ entry.now ∷ []) }
@@ -35,7 +35,7 @@ pub trait Watch<N> {
     fn broken(&self) -> bool
         ensures { result ≡ is_broken self.now };
 
-    /// Where one that stands for a list is broken, its count is above that of the output at the
+    /// If one that stands for a list is broken, its count is above that of the output at the
     /// start, if the terms have it.
     ghost broke: { (t : Terms) (watch : Self) (h : List (Entry N)) (before : ℕ) → stands t watch h
         → is_broken watch ≡ true → t.output_faults ≡ Some before → Rose before (faults watch) };

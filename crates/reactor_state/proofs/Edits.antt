@@ -85,7 +85,7 @@ end_same handle hi xs ys lent rising absent =
     same_at (S.with_end (S.of_handle handle)) hi handle.0 xs ys lent rising absent
     (λ y ne. cond-false (handle.0 == y.handle.0) (record y { alive = false }) y (ne_eqb _ _ ne))
 
--- one alive handle less, where it was alive
+-- one alive handle less, if it was alive
 pub end_counted : (p : ℕ) (xs ys : List LiveHandle) (h : LiveHandle) → ys ≡ xs → p < length ys
     → h ≡ get_or xs p h → alive_count (set xs p (record h { alive = false })) + one h.alive
     ≡ alive_count xs

@@ -8,7 +8,7 @@ use Rattle.std.specs.List.{find, list_any, list_all, filter, insert, remove, All
 use Rattle.reactor_summary.specs.reactor_journal.specs.Past.{count}
 use Rattle.reactor_summary.specs.Tells.{Each}
 
--- a search goes on behind what does not pass, and ends at what passes
+-- a search goes on after what does not pass, and ends at what passes
 pub find_step : {A : Type 0} (p : A → Bool) (xs : List A) (i : ℕ) (d : A) → i < length xs
     → find p (drop i xs) ≡ cond (p (get_or xs i d)) (Some (get_or xs i d))
     (find p (drop (i + 1) xs))
@@ -212,7 +212,7 @@ find_same p q (x ∷ xs) h =
     ∙ ap (λ o. cond (q x) (Some x) o) (find_same p q xs
     (λ k d l m. h (suc k) d (omega arith) (omega arith)))
 
--- where none before the place passes, and behind it the tests agree
+-- if none before the place passes, and after it the tests agree
 pub find_from : {A : Type 0} (p q : A → Bool) (xs : List A) (place : ℕ) → place ≤ length xs
     → AllWithin (λ x. p x ≡ false) xs 0 place → AllWithin (λ x. p x ≡ q x) xs place (length xs)
     → find p xs ≡ find q (drop place xs)

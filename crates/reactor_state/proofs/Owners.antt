@@ -96,7 +96,7 @@ first_out t ts once =
     (S.without_timer t.timer (map armed_of ts))) here
     ∙ filter_none_of (λ (a : ArmedTimer). a.timer == t.timer) (map armed_of ts) none
 
--- where no deadline is reached
+-- if no deadline is reached
 pub none_reached : (moment : ℕ) (ts : List Timer) (armed : List ArmedTimer)
     → map armed_of ts ≡ armed → All (λ (t : Timer). moment < t.deadline) ts
     → S.is_reached moment armed ≡ false

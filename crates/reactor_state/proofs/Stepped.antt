@@ -147,7 +147,7 @@ module _ {Q : Type 0} where
         armed = tables.armed;
       }
 
-  -- where the next number was made before
+  -- if the next number was made before
   pub tables_set : (timers : Q → List Timer) (state : ReactorState Q) (s : Summary) (k : ℕ)
       → HasTables timers state s → k ≡ s.entries + 1
       → HasTables timers (record state { entries = k }) (record s { entries = suc s.entries })

@@ -25,7 +25,7 @@ handle_number h = h.handle.0
 abbrev pub event_number : WaitingEvent → ℕ
 event_number w = w.event
 
--- where the live handles rise in number, P
+-- if the live handles rise in number, P
 abbrev pub IfRising : List LiveHandle → Type 0 → Type 0
 IfRising handles P = (bound : ℕ) → RisesIn handle_number 0 bound handles → P
 

@@ -21,7 +21,7 @@ use Rattle.reactor_state.specs.Sound.{IsSound}
 abbrev pub after : Summary → Entry (Unit {0}) → Summary
 after s e = step s e
 
--- the summary where the life of a handle ended, but for the entry that ended it
+-- the summary when the life of a handle ended, but for the entry that ended it
 abbrev pub without_handle : Handle → Summary → Summary
 without_handle handle s = record s {
   handles = map (with_end (of_handle handle)) s.handles;
@@ -29,7 +29,7 @@ without_handle handle s = record s {
   armed = without_timers_of (of_handle handle) s.armed;
 }
 
--- the summary where an event was answered, but for the entry and the open events
+-- the summary when an event was answered, but for the entry and the open events
 abbrev pub answered : Option OpenEvent → Answer → Summary → Summary
 answered found Keep s = s
 answered found Again s = record s { waiting = s.waiting ++ waiting_again s found }

@@ -94,7 +94,7 @@ kept p q = record {
   inputs = filter p q.inputs;
 }
 
--- without the events of a handle, where that is asked for
+-- without the events of a handle, if that is asked for
 abbrev pub dropped : Bool → ℕ → List WaitingEvent → List WaitingEvent
 dropped which x events = if which then filter (λ w. not (x == w.handle.0)) events else events
 

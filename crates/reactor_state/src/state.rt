@@ -91,7 +91,7 @@ impl<Q: TimerQueue> ReactorState<Q> {
         timers
     }
 
-    /// Makes room for so many more. Where there is that much it answers Ok; after `NoMemory` it
+    /// Makes room for so many more. If there is that much it answers Ok; after `NoMemory` it
     /// stands for what it did, with at least the room that it had.
     pub fn reserve(&mut self, more: Places) -> Result<(), NoMemory>
         ensures shows { (s : Summary) → Shows Q.timers self.old s → Shows Q.timers self.new s }
@@ -240,8 +240,8 @@ impl<Q: TimerQueue> ReactorState<Q> {
         self.waiting.timeout_handle(timer)
     }
 
-    /// How many milliseconds are left from the moment to the first deadline, 0 where it is reached;
-    /// `None` where no timer is armed.
+    /// How many milliseconds are left from the moment to the first deadline, 0 if it is reached;
+    /// `None` if no timer is armed.
     pub fn time_to_deadline(&self) -> Option<u64>
         ensures { Tells Q.timers self.now (λ s. result
             ≡ option_map (λ d. d - s.moment) (first_armed_deadline s.armed)) }
@@ -262,7 +262,7 @@ impl<Q: TimerQueue> ReactorState<Q> {
     }
 }
 
-// Five for each open event, one for each handle and one more for each alive one, and one where it
+// Five for each open event, one for each handle and one more for each alive one, and one if it
 // was not stopped.
 fn owed_of(opens: &[OpenEvent], handles: &[LiveHandle], alive: usize, ended: bool) -> usize
     ensures { alive ≤ length handles.now → result

@@ -22,7 +22,7 @@ use ev_types::{Answer, Handle, Kind, Mask, Upcall};
 use reactor_summary::{DueTimer, LiveHandle, OpenEvent, WaitingEvent, upcall_of};
 use timer_queue::{Timer, TimerQueue};
 
-/// How many are alive where one of them, or none, is no more.
+/// How many are alive when one of them, or none, is no more.
 fn fewer(alive: usize, was_alive: bool) -> usize
     ensures { result ≡ alive - (if was_alive then 1 else 0) }
 {
@@ -89,7 +89,7 @@ impl<Q: TimerQueue> ReactorState<Q> {
     }
 
     /// The picked event is started: `Started`. It uses a place for an open event, and one for a
-    /// timer where it is a periodic timer that came due, which is armed again.
+    /// timer if it is a periodic timer that came due, which is armed again.
     pub fn start(&mut self, pick: Pick)
         requires can { CanStep Q.timers self.old (λ s. HasNumber s × (S.pick s ≡ Some pick.event)) }
         requires placed { IsPlaced self.old pick }
@@ -126,7 +126,7 @@ impl<Q: TimerQueue> ReactorState<Q> {
         self.armed.disarm_all(handle);
     }
 
-    /// The event asks for its upcall once more, where the handle is alive.
+    /// The event asks for its upcall once more, if the handle is alive.
     fn again(&mut self, event: OpenEvent)
         requires { HasRoom (capacities self.old.waiting) 1 1 (queues self.old.waiting) }
         ensures tables { (s : Summary) (hi : ℕ) → HasTables Q.timers self.old s
@@ -167,7 +167,7 @@ impl<Q: TimerQueue> ReactorState<Q> {
     }
 
     /// An upcall is settled: `Returned`, whatever was noted. It uses a place for a timeout, or one
-    /// for another event, where the answer asks for the upcall once more.
+    /// for another event, if the answer asks for the upcall once more.
     pub fn settle<N>(&mut self, event: u64, answer: Answer)
         requires can { CanStep Q.timers self.old HasNumber }
         requires room { HasPlaces Q.spare (record no_places { timeouts = 1; events = 1 }) self.old }

@@ -52,7 +52,7 @@ impl<Q: TimerQueue> ReactorState<Q> {
     }
 
     /// The first deadline, if it is reached: `Due`, and the number of its timer. It uses a place
-    /// for a timeout. Where no deadline is reached it answers `None`, and all is as before.
+    /// for a timeout. If no deadline is reached it answers `None`, and all is as before.
     pub fn due(&mut self) -> Option<u64>
         requires can { CanStep Q.timers self.old HasNumber }
         requires room { HasPlaces Q.spare (record no_places { timeouts = 1 }) self.old }

@@ -83,7 +83,7 @@ fn drop_timeouts(queue: &mut VecDeque<WaitingEvent>, timer: u64)
     queue.retain(|w| !is_timeout_of(timer, w.upcall));
 }
 
-/// Takes the events of the handle out of a queue, where that is asked for.
+/// Takes the events of the handle out of a queue, if that is asked for.
 fn drop_if(queue: &mut VecDeque<WaitingEvent>, which: bool, handle: Handle)
     ensures items { deque_items queue.new ≡ dropped which handle.0 (deque_items queue.old) }
     ensures capacity { deque_capacity queue.new ≡ deque_capacity queue.old }

@@ -1,4 +1,4 @@
--- An entry may follow a past exactly where its summary says so.
+-- An entry may follow a past exactly if its summary says so.
 use Rattle.std.proofs.Common.{ℕ, ◌≡◌, ◌-◌, ◌==◌, true, not, ◌&&◌, ◌||◌, List, ap, ◌∙◌}
 use Rattle.std.specs.Prelude.{nat_lt, nat_le}
 use Rattle.reactor_journal.specs.declared.entry.Entry.{Entry}

@@ -45,7 +45,7 @@ map-listed g f (suc n) =
     ∙ (ap (λ xs. xs ++ map g (option_to_list (f n))) (map-listed g f n)
     ∙ ap (λ ys. listed (λ k. option_map g (f k)) n ++ ys) (map-option g (f n)))
 
--- the value, where it passes
+-- the value, if it passes
 abbrev pub kept : {A : Type 0} → (A → Bool) → Option A → Option A
 kept p None = None
 kept p (Some a) = cond (p a) (Some a) None
@@ -129,7 +129,7 @@ each_find {A} P p (x ∷ xs) e h =
     (r.0, cond-false (p x) (Some x) (find p xs) f ∙ r.1, r.2, r.3))
     (cases_Bool (p x))
 
--- where an element passes one test, one passes the other
+-- if an element passes one test, one passes the other
 pub each_any_other : {A : Type 0} (P : A → Type 0) (p q : A → Bool) (xs : List A) → Each P xs
     → ((a : A) → P a → p a ≡ true → q a ≡ true) → list_any p xs ≡ true → list_any q xs ≡ true
 each_any_other P p q [] e f h = absurd (false≢true h)

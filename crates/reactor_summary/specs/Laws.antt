@@ -20,7 +20,7 @@ abbrev pub IsTold : Type 0 → Type 0
 IsTold N = (journal : List (Entry N)) (most : ℕ) → Legal journal most
     → Tells (past_of journal) (summary (past_of journal))
 
--- its pick is the journal's, as it waits there; and where it has none no event is able
+-- its pick is the journal's, as it waits there; and if it has none no event is able
 abbrev pub PicksThat : Type 0 → Type 0
 PicksThat N =
     (journal : List (Entry N)) (most : ℕ) (w : WaitingEvent) → Legal journal most
@@ -34,7 +34,7 @@ PicksNone N =
     → pick (summary (past_of journal)) ≡ None
     → P.is_able (past_of journal) i ≡ false
 
--- an entry may follow the journal exactly where the summary says so
+-- an entry may follow the journal exactly if the summary says so
 abbrev pub SaysWhatFollows : Type 0 → Type 0
 SaysWhatFollows N =
     (journal : List (Entry N)) (e : Entry N) (most : ℕ) → Legal journal most

@@ -206,7 +206,7 @@ waiting_due i (Some a) = record {
 abbrev pub armed_timer : Summary → ℕ → Option ArmedTimer
 armed_timer s t = find (λ a. a.timer == t) s.armed
 
--- an event that asks for the same upcall once more, where the handle is alive
+-- an event that asks for the same upcall once more, if the handle is alive
 abbrev pub waiting_again : Summary → Option OpenEvent → List WaitingEvent
 waiting_again s None = []
 waiting_again s (Some o) = if is_alive s o.handle.0 then record {

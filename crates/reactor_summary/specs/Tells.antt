@@ -24,7 +24,7 @@ abbrev pub Each : {A : Type 0} → (A → Type 0) → List A → Type 0
 Each P [] = Unit {0}
 Each P (x ∷ xs) = P x × Each P xs
 
--- the handle x, where it is live
+-- the handle x, if it is live
 abbrev pub live_handle : {N : Type 0} → List (Entry N) → ℕ → Option LiveHandle
 live_handle past x = if P.was_closed past x then None else Some
     (record {
@@ -34,7 +34,7 @@ live_handle past x = if P.was_closed past x then None else Some
       alive = P.is_alive past x;
     })
 
--- the event i, where it waits
+-- the event i, if it waits
 abbrev pub due_timer : {N : Type 0} → List (Entry N) → ℕ → DueTimer
 due_timer past t = record {
   timer = t;
@@ -54,7 +54,7 @@ abbrev pub waiting_event : {N : Type 0} → List (Entry N) → ℕ → Option Wa
 waiting_event past i = if P.is_waiting past i then option_map (as_waiting past i)
     (P.event_at past i) else None
 
--- the event i, where it is open
+-- the event i, if it is open
 abbrev pub as_open : {N : Type 0} → List (Entry N) → ℕ → Event → OpenEvent
 as_open past i event = record {
   event = i;

@@ -10,13 +10,13 @@ pub fn summary_tells<N>()
 {}
 
 /// The first event of the first class that has one of a free handle is the event to be started
-/// next; where there is none, no event may be started.
+/// next; if there is none, no event may be started.
 pub fn summary_picks<N>()
     ensures that { PicksThat N }
     ensures none { PicksNone N }
 {}
 
-/// An entry may follow a legal journal exactly where the summary says so.
+/// An entry may follow a legal journal exactly if the summary says so.
 pub fn summary_rules<N>()
     ensures { SaysWhatFollows N }
 {}

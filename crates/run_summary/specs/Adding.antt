@@ -13,7 +13,7 @@ Adds old said new =
     → Tells new (c + acceptances said) (r + length (records_of_note said)) (b + took_of said)
     (l + lines_of_note said)
 
--- so it is with the note of one entry more, where it has one
+-- so it is with the note of one entry more, if it has one
 abbrev pub AddsEntry : Summary → Entry ServerNote → Summary → Type 0
 AddsEntry old e new =
     (c r b l : ℕ) → Tells old c r b l

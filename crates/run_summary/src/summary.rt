@@ -49,7 +49,7 @@ impl Summary {
         summary
     }
 
-    /// Counts the note of one entry more, where it has one.
+    /// Counts the note of one entry more, if it has one.
     fn add_entry(&mut self, entry: &Entry<ServerNote>)
         ensures { AddsEntry self.old entry.now self.new }
     {

@@ -198,7 +198,7 @@ same_moment : (past : List Line) (r r' count n seed : ℕ) (groups : List Script
 same_moment past r r' count n seed groups e s =
     subst (λ (k : ℕ). Stands past k count n 0 groups (pieces n seed k)) e s
 
--- rounds behind round r
+-- rounds after round r
 pub more_rounds : (n seed : ℕ) → 1 ≤ n → n ≤ 1000
     → (j r count : ℕ) (past : List Line) (groups : List ScriptGroup)
     → Stands past r count n 0 groups (pieces n seed r) → count + j * (n + n) ≤ 1000000

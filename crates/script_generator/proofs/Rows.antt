@@ -40,7 +40,7 @@ digits = refl
 zero_digit : decimal 0 ≡ codes "0"
 zero_digit = decimal_digit 0 (omega arith)
 
--- the lines behind the first three
+-- the lines after the first three
 abbrev behind : List Line
 behind = Stepping (rest_piece 0 0 0)
     ∷ (flat_map (round_lines 1 0) (range_with_len 1 last_round) ++ map Stepping (shuttings 1))

@@ -1,4 +1,4 @@
--- What is written of a record, one number behind another.
+-- What is written of a record, one number after another.
 use Rattle.std.proofs.Common.{◌≡◌, ◌≤◌, ◌∙◌, ℕ, ◌+◌, ◌%◌, ◌^◌, arith, List, [], ◌∷◌, ◌++◌, length}
 use Rattle.std.proofs.Common.{refl, sym, ap, append_assoc}
 use Rattle.std.specs.Prelude.{map}
@@ -17,7 +17,7 @@ message_length seed r c =
     length-append (map (letter r c) (range_with_len 0 (letter_count seed r c))) (0 ∷ [])
     ∙ ap (λ (n : ℕ). n + 1) (length-map-range_with_len (letter r c) 0 (letter_count seed r c))
 
--- the fields of the record behind the padding
+-- the fields of the record after the padding
 abbrev pub fields : Order → ℕ → ℕ → ℕ → List ℕ
 fields order seed r c =
     number_bytes order 4 (20 + length (message seed r c))

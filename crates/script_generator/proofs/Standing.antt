@@ -1,4 +1,4 @@
--- Lines one behind another, each of which may stand there, and the groups that they make.
+-- Lines one after another, each of which may stand there, and the groups that they make.
 use Rattle.std.proofs.Common.{◌≡◌, ◌∙◌, ℕ, ◌+◌, ◌<◌, ◌≤◌, nat_lt, nat_le, Bool, true, false, ◌&&◌}
 use Rattle.std.proofs.Common.{cond, List, [], ◌∷◌, ◌++◌, length, reverse, Some, refl, sym, ap}
 use Rattle.std.proofs.Common.{append_assoc, append-nil, arith}
@@ -11,7 +11,7 @@ use Rattle.event_script.specs.Grammar.{Line, At, Stepping, moment_of, steps_in, 
 use Rattle.event_script.specs.Grammar.{is_step, with_step, groups_of, line_of, Spells}
 use Rattle.script_generator.specs.Texts.{line_words}
 
--- lines, the latest first, behind others
+-- lines, the latest first, after others
 abbrev pub onto : List Line → List Line → List Line
 onto [] past = past
 onto (line ∷ ls) past = onto ls (line ∷ past)

@@ -28,7 +28,7 @@ record_of seed r c = record {
   text = message seed r c;
 }
 
--- little-endian where r + c is odd
+-- little-endian if r + c is odd
 abbrev pub order_of : ℕ → ℕ → Order
 order_of r c = if (r + c) % 2 == 1 then Little else Big
 
@@ -36,7 +36,7 @@ order_of r c = if (r + c) % 2 == 1 then Little else Big
 abbrev pub padding : ℕ → ℕ → ℕ
 padding r c = (r + c) % 256
 
--- The bytes of the record: its canonical spelling of version 1, but for the padding behind the
+-- The bytes of the record: its canonical spelling of version 1, but for the padding after the
 -- order octet.
 unfoldable pub bytes_of : ℕ → ℕ → ℕ → List ℕ
 bytes_of seed r c =

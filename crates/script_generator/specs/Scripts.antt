@@ -37,7 +37,7 @@ lines n seed =
     map Stepping (openings n) ++ flat_map (round_lines n seed) (range_with_len 0 (last_round + 1))
     ++ map Stepping (shuttings n)
 
--- The groups: the connections come at moment 0, each round r is at moment r, behind an `at` of its
+-- The groups: the connections come at moment 0, each round r is at moment r, after an `at` of its
 -- own, and the connections are shut at the moment of the last round, in the same group.
 abbrev pub round_group : ℕ → ℕ → ℕ → ScriptGroup
 round_group n seed r = record { moment = r; steps = pieces n seed r }

@@ -1,5 +1,5 @@
 -- How the generator writes lines: numbers in decimal digits, bytes in lower-case hexadecimal
--- digits, and a line feed behind each line.
+-- digits, and a line feed after each line.
 use Rattle.std.specs.Prelude.{ℕ, List, ◌++◌, codes, decimal, flat_map}
 use Rattle.hex.specs.Hex.{encode_lower}
 use Rattle.event_script.specs.Script.{ScriptStep, Opens, Brings, Shuts, Fails, ListenerFails}
@@ -21,7 +21,7 @@ line_words (Stepping step) = step_words step
 abbrev pub line_text : Line → List ℕ
 line_text line = line_words line ++ codes "\n"
 
--- the text of lines, one behind another
+-- the text of lines, one after another
 abbrev pub text_of : List Line → List ℕ
 text_of ls = flat_map line_text ls
 

@@ -141,7 +141,7 @@ fn push_rounds(
 /// each of which each connection brings one record in two pieces, and 252 steps for each
 /// connection. Digits are in lower case, and a line feed ends each line.
 ///
-/// `NoMemory` comes where there is no memory for the text. It is taken as the text grows, and not
+/// `NoMemory` comes if there is no memory for the text. It is taken as the text grows, and not
 /// for each line.
 pub fn gen_script(alloc: Global, n: u64, seed: u64) -> Result<Bytes, NoMemory>
     requires some { 1 ≤ n }

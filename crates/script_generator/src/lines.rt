@@ -21,7 +21,7 @@ fn push_number(out: &mut Vec<u8>, number: u64) -> Result<(), NoMemory>
     Ok(())
 }
 
-/// Appends a word with the space behind it, and a number.
+/// Appends a word with the space after it, and a number.
 fn push_word_and_number(out: &mut Vec<u8>, word: &[u8], number: u64) -> Result<(), NoMemory>
     ensures { OnOk result (out.new.items ≡ out.old.items ++ (word.now ++ decimal number)) }
 {

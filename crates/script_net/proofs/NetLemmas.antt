@@ -49,7 +49,7 @@ and_right : (a b : Bool) → a && b ≡ true → b ≡ true
 and_right true b e = e
 and_right false b e = absurd cc
 
--- where there is a report, it is wanted
+-- if there is a report, it is wanted
 abbrev IsWantedBy : List Seat → Option Report → Type 0
 IsWantedBy seats None = Unit {0}
 IsWantedBy seats (Some report) = is_wanted (masks_of seats) report ≡ true
@@ -358,7 +358,7 @@ fewer handle (seat ∷ seats) (suc k, lt, is) =
     fewer_if handle seat seats (not (seat.handle == handle))
     (fewer handle seats (k, omega (arith, lt), is))
 
--- the net behind a wait, field by field
+-- the net after a wait, field by field
 pub after_is : (n : NetContent) (most : Option ℕ) (groups : List Group) (calls : List Call)
     (reports : List Report) (waits : ℕ) → groups ≡ n.groups
     → calls ≡ Waits most (waited most (playing_of n)).answer (waited most (playing_of n)).reports

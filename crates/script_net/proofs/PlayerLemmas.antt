@@ -60,7 +60,7 @@ sorted_as old p all reports passed rest s sorted =
     (without p.gone (steps_at passed)) (without p.gone (steps_at (passed ++ rest)))) s.seats
     (sorted p.gone s.marks)
 
--- the lists where the steps that nobody wanted are to be looked at again
+-- the lists if the steps that nobody wanted are to be looked at again
 pub record LooksAgain (old : Player) (held' : Vec End Global) (first' : ℕ)
     (unwanted' : Vec End Global) : Type 0 where
   pub first : first' ≡ old.first - length old.unwanted.items
@@ -100,7 +100,7 @@ looks_again p old held' first' unwanted' s b =
       report_room = s.report_room;
     }
 
--- the lists behind a sorting of the steps that are still to be looked at
+-- the lists after a sorting of the steps that are still to be looked at
 pub record PutsBehind (old : Player) (stop : ℕ) (passed : List End)
     (unwanted' passed' : Vec End Global) (reports' : Vec Report Global) : Type 0 where
   pub sorted : WaitSorts old.seats (fresh_of old) reports'.items passed (drop stop old.held.items)
@@ -252,7 +252,7 @@ next_group old p group s lt read =
       order = order.2;
     }
 
--- the lists behind a sorting of the group's steps
+-- the lists after a sorting of the group's steps
 pub record Holds (old : Player) (group : ScriptGroup) (stop : ℕ) (passed : List End)
     (held' passed' : Vec End Global) (reports' : Vec Report Global) : Type 0 where
   pub sorted : WaitSorts old.seats group.steps.items reports'.items passed
@@ -483,7 +483,7 @@ waits_group p most old new group s g none up gives =
       stands = subst (λ a. Stands new a.next) (sym here) gives.stands;
     }
 
--- the player that stands for what is left of held steps, where none was given
+-- the player that stands for what is left of held steps, if none was given
 pub still_stands : (p : Playing) (new : Player) → GivesHeld p new
     → given p.seats most_reports p.held ≡ [] → Stands new p
 still_stands p new g none =

@@ -52,7 +52,7 @@ given_whole given part left =
     ∙ flat_map-append part_bytes given (part ∷ [])
     ∙ ap (λ bs. flat_map part_bytes given ++ bs) (append-nil (part_bytes part))
 
--- the story behind a read of a piece, where it leaves some of it, and where it doesn't
+-- the story after a read of a piece, if it leaves some of it, and if it doesn't
 abbrev told_if : ℕ → List Part → ℕ → List ℕ → List Part → Bool → Telling
 told_if room given at bytes left b =
     cond b (record { given = given; at = at + room; left = Piece bytes ∷ left })

@@ -381,7 +381,7 @@ once_set ps k old new there a on once i j p q at_i at_j on_i on_j same =
         ∙ sym y.0
     by (inr x) (inr y) = once i j p q x y on_i on_j same
 
--- ---- the seats, where the place of a handle changes
+-- ---- the seats, when the place of a handle changes
 
 -- no other place that is attached has the handle
 others : (ps : List Place) (h k n : ℕ) (p : Place) (b : Bool) → (p.handle == h) ≡ b → AreOnce ps

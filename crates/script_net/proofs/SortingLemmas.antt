@@ -37,7 +37,7 @@ left_all seats (step ∷ steps) = all_leaves (report_at seats step) step steps
 
 -- ---- steps that nobody wants
 
--- where nothing is given, the first step has no report
+-- if nothing is given, the first step has no report
 gives_nothing : (r : Option Report) (room : ℕ) (more : ℕ → List Report) → 0 < room
     → gives r room more ≡ [] → r ≡ None
 gives_nothing None room more some none = refl
@@ -73,7 +73,7 @@ nothing_given seats room (step ∷ steps) some none =
     ap (λ r. leaves r step room (λ n. left seats n steps)) u.first
     ∙ ap (λ ss. step ∷ ss) (nothing_given seats room steps some u.others)
 
--- steps behind them are given and left as if they stood alone
+-- steps after them are given and left as if they stood alone
 pub given_behind : (seats : List Seat) (room : ℕ) (a b : List Step) → 0 < room
     → given seats room a ≡ [] → given seats room (a ++ b) ≡ given seats room b
 given_behind seats room [] b some none = refl
@@ -115,7 +115,7 @@ report_if q seat seats step true test others =
     (report_at (filter q seats) step)) test ∙ others
 report_if q seat seats step false test others = others
 
--- where the first seat and the others have no report
+-- if the first seat and the others have no report
 neither : (c : Bool) (report : Report) (other : Option Report) → cond c (Some report) other ≡ None
     → (c ≡ false) × (other ≡ None)
 neither true report other e = absurd cc
@@ -198,7 +198,7 @@ passes seats all reports passed step rest none s = record {
   few = s.few;
 }
 
--- one that is wanted is reported, where there is room
+-- one that is wanted is reported, if there is room
 reports_one : (seats : List Seat) (all : List Step) (reports : List Report) (passed : List Step)
     (step : Step) (rest : List Step) (report : Report) (n m : ℕ)
     → report_at seats step ≡ Some report
@@ -220,7 +220,7 @@ reports_one seats all reports passed step rest report n m wanted one room room' 
   few = omega (arith, length-append reports (report ∷ []));
 }
 
--- where there is no room, this is what a wait gives and leaves
+-- if there is no room, this is what a wait gives and leaves
 stops : (seats : List Seat) (all : List Step) (reports : List Report) (passed rest : List Step)
     → most_reports ≤ length reports → IsSorted seats all reports passed rest
     → AreGiven seats all reports passed (passed ++ rest)
@@ -234,7 +234,7 @@ stops seats all reports passed rest full s =
       unwanted = s.unwanted;
     }
 
--- and where no step is to come
+-- and if no step is to come
 ends : (seats : List Seat) (all : List Step) (reports : List Report) (passed : List Step)
     → IsSorted seats all reports passed [] → AreGiven seats all reports passed (passed ++ [])
 ends seats all reports passed s = record {

@@ -15,7 +15,7 @@ use Rattle.script_net.specs.Player.{Stands, held_of}
 use Rattle.script_net.proofs.SeatsKept.{marked_put, marks_same}
 use Rattle.script_net.proofs.SortingLemmas.{unwanted_fewer, unwanted_still}
 
--- nobody wants the steps that nobody wanted, where no end was attached and no mask set
+-- nobody wants the steps that nobody wanted, if no end was attached and no mask set
 abbrev pub StillUnwanted : Player → Playing → List Seat → Bool → Type 0
 StillUnwanted player p are changed =
     changed ≡ false → given are most_reports (without p.gone (steps_at player.unwanted.items)) ≡ []

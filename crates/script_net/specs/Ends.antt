@@ -28,7 +28,7 @@ abbrev pub front_bytes : ℕ → List Part → List ℕ
 front_bytes at [] = []
 front_bytes at (part ∷ left) = take at (part_bytes part)
 
--- the bytes that parts will give: nothing is given behind the end or a failure, which are told from
+-- the bytes that parts will give: nothing is given after the end or a failure, which are told from
 -- then on
 abbrev pub bytes_of : List Part → List ℕ
 bytes_of [] = []
@@ -37,7 +37,7 @@ bytes_of (Pausing ∷ left) = bytes_of left
 bytes_of (Ending ∷ left) = []
 bytes_of (Failing ∷ left) = []
 
--- those that they will give where so many of the first were given already
+-- those that they will give if so many of the first were given already
 abbrev pub rest_bytes : ℕ → List Part → List ℕ
 rest_bytes at [] = []
 rest_bytes at (Piece bytes ∷ left) = drop at bytes ++ bytes_of left
@@ -107,14 +107,14 @@ try_of got.Pause = Paused
 try_of got.Over = WasOver
 try_of got.Failed = Faulted
 
--- the count of faults behind a read
+-- the count of faults after a read
 abbrev pub faults_after : Got → ℕ → ℕ
 faults_after (got.Bytes n) faults = faults
 faults_after got.Pause faults = faults
 faults_after got.Over faults = faults
 faults_after got.Failed faults = counted faults
 
--- the end behind a read into a buffer with room for so many bytes
+-- the end after a read into a buffer with room for so many bytes
 abbrev pub after_read : ℕ → PeerContent → PeerContent
 after_read room c =
     let answer = read_answer room c.telling.at c.telling.left in
@@ -140,7 +140,7 @@ IsInside at (Pausing ∷ left) = at ≡ 0
 IsInside at (Ending ∷ left) = at ≡ 0
 IsInside at (Failing ∷ left) = at ≡ 0
 
--- where a read answered Over, the end of the input is what is left to tell
+-- if a read answered Over, the end of the input is what is left to tell
 abbrev pub starts_over : List Part → Bool
 starts_over (Ending ∷ left) = true
 starts_over _ = false
@@ -152,7 +152,7 @@ starts_over _ = false
 abbrev pub telling_at : List Part → ℕ → ℕ → Telling
 telling_at parts next at = record { given = take next parts; at = at; left = drop next parts }
 
--- how far a story was told behind a read that told its next part whole, or told so many bytes of it
+-- how far a story was told after a read that told its next part whole, or told so many bytes of it
 abbrev pub told_part : Part → List Part → List Part → Bool → ℕ → Telling
 told_part part given left whole at =
     if whole then record { given = given ++ part ∷ []; at = 0; left = left } else record {
@@ -175,7 +175,7 @@ try_of_write (sent.Bytes n) = Moved n
 try_of_write sent.Pause = Paused
 try_of_write sent.Failed = Faulted
 
--- what an end answers to a write of so many bytes, and what it holds behind it: it takes bytes
+-- what an end answers to a write of so many bytes, and what it holds after it: it takes bytes
 -- until it holds as many as it takes
 abbrev pub write_answer : ℕ → PeerContent → Sent
 write_answer many c = if nat_lt (length c.held) c.room then sent.Bytes

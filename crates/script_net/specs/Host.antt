@@ -44,7 +44,7 @@ ArePartsOf (Some script) (Some parts) =
     (parts.net ≡ new_net script.groups)
     × (script_end_facts parts.end ≡ listener_facts (new_listener script.offers script.connections))
 
--- What a `listen` gives: it fails where the host is to fail or has nothing to give, which is
+-- What a `listen` gives: it fails if the host is to fail or has nothing to give, which is
 -- counted, and else it gives the parts, once.
 abbrev pub HostGives : Bool → Option PartsContent → ℕ
     → Result (NetContent × ScriptEnd × ScriptWake) ListenRefused → Option PartsContent → ℕ → Type 0

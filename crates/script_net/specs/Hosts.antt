@@ -34,7 +34,7 @@ new_net groups = record {
   failed_attaches = 0;
 }
 
--- where the terms lay down the groups, the listener's story and the stories of the connections,
+-- if the terms lay down the groups, the listener's story and the stories of the connections,
 -- these are the script's
 pub record LaysDown (t : Terms) (s : ScriptContent) : Type 0 where
   pub groups : (groups : List Group) → t.groups ≡ Some groups → groups ≡ s.groups

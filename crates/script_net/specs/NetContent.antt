@@ -62,13 +62,13 @@ script_net_facts n = record {
   turned_away = Some n.turned_away;
 }
 
--- Where the terms lay down groups, these are the groups of its script, and its waits had the
+-- If the terms lay down groups, these are the groups of its script, and its waits had the
 -- answers and reports of the rules.
 abbrev pub script_net_keeps : Terms → NetContent → Type 0
 script_net_keeps t n = (groups : List Group) → t.groups ≡ Some groups → (groups ≡ n.groups)
     × Plays groups n.calls
 
--- the net behind a wait that failed, and behind one that was answered
+-- the net after a wait that failed, and after one that was answered
 abbrev pub after_failed_wait : NetContent → NetContent
 after_failed_wait n = record n { waits = counted n.waits; failed_waits = counted n.failed_waits }
 

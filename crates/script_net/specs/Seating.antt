@@ -1,4 +1,4 @@
--- The ends that a net watches: the places in which they were attached, one behind the other.
+-- The ends that a net watches: the places in which they were attached, one after the other.
 use Rattle.std.specs.Prelude.{◌≡◌, ℕ, zero, suc, Bool, true, false, ◌&&◌, if◌then◌else◌, List, []}
 use Rattle.std.specs.Prelude.{◌∷◌, length, slice_get, slice_set, Option, Some, None, unwrap_or}
 use Rattle.std.specs.Prelude.{replicate}
@@ -12,7 +12,7 @@ use Rattle.script_net.specs.declared.seats.Place.{Place}
 
 -- ---- the ends that are attached
 
--- the end in a place, where it is still attached
+-- the end in a place, if it is still attached
 abbrev pub seat_of : Place → Seat
 seat_of p = record { handle = p.handle; mask = p.mask; end = end_view p.end }
 
@@ -45,7 +45,7 @@ abbrev pub own_report : Place → Option Report
 own_report p = if p.attached && p.mask.read then Some
     (record { handle = record { 0 = p.handle }; kind = Read }) else None
 
--- the same, where it is a place of this end
+-- the same, if it is a place of this end
 abbrev pub report_of : Option Place → StepEnd → Option Report
 report_of None end = None
 report_of (Some p) end = if is_end (end_view p.end) end then own_report p else None

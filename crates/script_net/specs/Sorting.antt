@@ -27,7 +27,7 @@ pub record IsSorted (seats : List Seat) (all : List Step) (reports : List Report
   pub unwanted : given seats most_reports passed ≡ []
   pub few : length reports ≤ most_reports
 
--- one step was sorted: it is dropped where its end is gone, reported where that is wanted and there
+-- one step was sorted: it is dropped if its end is gone, reported if that is wanted and there
 -- is room, and else passed over
 abbrev pub TakesStep : Bool → Option Report → End → List Report → List End → Bool → List Report
     → List End → Type 0
@@ -47,7 +47,7 @@ AreSorted seats all reports passed rest =
     → IsSorted seats.seats (without gone (steps_at all)) reports
     (without gone (steps_at passed)) (without gone (steps_at rest))
 
--- and where no more can be reported, or none is to come, this is what a wait gives and leaves
+-- and if no more can be reported, or none is to come, this is what a wait gives and leaves
 pub record AreGiven (seats : List Seat) (all : List Step) (reports : List Report)
     (passed behind : List Step) : Type 0 where
   pub given_are : reports ≡ given seats most_reports all

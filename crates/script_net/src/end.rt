@@ -21,8 +21,8 @@ enum Role {
 /// from the start: the listener also owns the ends of the connections that did not come yet.
 ///
 /// A read gives the front of the next piece, as many bytes as the buffer takes, and the rest stays.
-/// Behind a piece comes one pause. The end of the input and a failure are told from then on, a
-/// failure of the listener once. Where nothing is left to tell, each read and accept pauses. A
+/// After a piece comes one pause. The end of the input and a failure are told from then on, a
+/// failure of the listener once. When nothing is left to tell, each read and accept pauses. A
 /// write takes bytes until as many are held as the script has room for, and then pauses; it never
 /// fails.
 #[derive(Drop)]

@@ -1,7 +1,7 @@
 //! A demultiplexer, ends and a host in memory that play a script (POSA2, Reactor: Synchronous Event
 //! Demultiplexer; scripts are this project's own): a `Script` is parted into a `ScriptNet`, which
 //! reports its steps, the `ScriptEnd` of its listener, which owns the ends of its connections, and
-//! a `ScriptWake`; a `ScriptHost` gives them where it is asked to listen.
+//! a `ScriptWake`; a `ScriptHost` gives them when it is asked to listen.
 #![tactic(auto)]
 
 mod end;

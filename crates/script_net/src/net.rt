@@ -18,11 +18,11 @@ use std::marker::Model;
 /// A demultiplexer that plays the groups of a script. It takes no memory but in `reserve`.
 ///
 /// A wait reports the steps that are held back and can be reported now, at most 256, at the present
-/// moment, which is 0 at first. Where there is none, and no group is left, it answers `Over`. Where
+/// moment, which is 0 at first. If there is none, and no group is left, it answers `Over`. If
 /// the next group comes later than the wait may last, the time passes and the answer is `Quiet`.
 /// Else the moment of that group comes: its steps at ends that are attached with their kind in the
 /// mask are reported in order, at most 256; the others are held back, and those of ends that were
-/// retired or turned away are dropped; where nothing is reported the answer is `Quiet`. Reports are
+/// retired or turned away are dropped; if nothing is reported the answer is `Quiet`. Reports are
 /// not merged. Moments are milliseconds.
 ///
 /// A wait costs what it reports. A step that is held back is looked at when it comes and by the
@@ -111,7 +111,7 @@ impl ScriptNet {
         })
     }
 
-    /// The end that was retired last under a handle, or `None` where there is none.
+    /// The end that was retired last under a handle, or `None` if there is none.
     pub fn retired(&self, handle: Handle) -> Option<&ScriptEnd>
         ensures { option_map (λ end. end.now) result ≡ retired_of handle.0 self.now.retired }
     {

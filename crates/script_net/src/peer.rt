@@ -132,7 +132,7 @@ impl Peer {
     }
 }
 
-// The count of faults behind a read.
+// The count of faults after a read.
 fn faults_after(got: Got, faults: u64) -> u64
     ensures { result ≡ faults_after got faults }
 {

@@ -12,14 +12,14 @@ use ev_base::{Report, Waited};
 
 /// The groups of a script, the moment and the steps that are held back. The steps of a group whose
 /// ends are gone may be held too: they are dropped once a wait comes to them. A step that nobody
-/// wants is looked at again only where an end was attached or a mask set since.
+/// wants is looked at again only if an end was attached or a mask set since.
 #[derive(Drop)]
 pub(crate) struct Player {
     pub(crate) groups: Vec<Group>,
     // The number of the next group, and the present moment.
     pub(crate) next: usize,
     pub(crate) now: u64,
-    // The steps that are held back: those that nobody wanted when they were looked at, and behind
+    // The steps that are held back: those that nobody wanted when they were looked at, and after
     // them those of the other list from a place on.
     pub(crate) unwanted: Vec<End>,
     pub(crate) held: Vec<End>,
@@ -34,7 +34,7 @@ pub(crate) struct Player {
 }
 
 impl Player {
-    // Has all steps that are held back looked at again, where an end was attached or a mask set
+    // Has all steps that are held back looked at again, if an end was attached or a mask set
     // since they were.
     fn look_again(&mut self)
         requires { (p : Playing) × Stands self.old p }
@@ -107,7 +107,7 @@ impl Player {
         self.passed.clear();
     }
 
-    // Waits where no held step can be reported.
+    // Waits if no held step can be reported.
     fn wait_for_group(&mut self, most_ms: Option<u64>) -> Waited
         requires stands { (p : Playing) × Stands self.old p }
         requires no_report { self.old.reports.items ≡ [] }

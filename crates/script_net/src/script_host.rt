@@ -145,8 +145,8 @@ impl ScriptHost {
     ghost use Rattle.script_net.specs.Host.{host_faults, host_fails, host_parts, ArePartsOf};
     ghost use Rattle.script_net.specs.Host.{KeepsScript};
 
-    /// A host that gives the parts of this script where it is asked to listen first. It has nothing
-    /// to give without a script, and each `listen` fails where `fails` is set.
+    /// A host that gives the parts of this script when it is asked to listen first. It has nothing
+    /// to give without a script, and each `listen` fails if `fails` is set.
     pub fn new(script: Option<Script>, fails: bool) -> ScriptHost
         ensures fails { host_fails result ≡ fails }
         ensures faults { host_faults result ≡ 0 }
@@ -169,7 +169,7 @@ impl ScriptHost {
         }
     }
 
-    /// A host that gives these parts where it is asked to listen first. The net made no call but
+    /// A host that gives these parts when it is asked to listen first. The net made no call but
     /// `reserve`, `fail_waits` and `fail_attaches`, and the listener gave nothing and made no call.
     pub fn of_parts(net: ScriptNet, end: ScriptEnd, wake: ScriptWake) -> ScriptHost
         requires new { IsNew (script_net_facts net) }

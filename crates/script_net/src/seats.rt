@@ -57,7 +57,7 @@ impl LatestPlaces {
         }
     }
 
-    // Puts a place in the place of the last one of an end, where the end is one of the script, and
+    // Puts a place in the place of the last one of an end, if the end is one of the script, and
     // tells what that was.
     fn put(&mut self, end: End, place: usize) -> Option<usize>
         ensures was { result ≡ latest_of (latest_view self.old) (end_view end) }
@@ -129,7 +129,7 @@ impl Seats {
         Ok(())
     }
 
-    /// The report of a step at an end, where the end is attached with Read in its mask.
+    /// The report of a step at an end, if the end is attached with Read in its mask.
     pub(crate) fn report(&self, end: End) -> Option<Report>
         requires { IsWithin (length self.now.marks.connections) (end_view end) }
         ensures { result ≡ report_at self.now.seats (step_at end) }
@@ -226,7 +226,7 @@ fn replace_at(latest: &mut [Option<usize>], at: u64, number: usize) -> Option<us
     earlier
 }
 
-// The place in which an end is attached under a handle. Where handles count the ends that were
+// The place in which an end is attached under a handle. If handles count the ends that were
 // attached, it is found at once.
 fn place_of(places: &[Place], handle: Handle) -> usize
     requires { Contains (handles_of (seats_of places.now)) handle.0 }

@@ -11,8 +11,8 @@ use crate::script::End;
 use crate::seats::Seats;
 use ev_base::{MOST_REPORTS, Report};
 
-// Takes one step: drops it where its end is gone, reports it where that is wanted, or passes it
-// over. It is not taken where it is to be reported and there are as many reports as a wait gives.
+// Takes one step: drops it if its end is gone, reports it if that is wanted, or passes it
+// over. It is not taken if it is to be reported and there are as many reports as a wait gives.
 fn take_step(seats: &Seats, end: End, reports: &mut Vec<Report>, passed: &mut Vec<End>) -> bool
     requires within { IsWithin (length seats.now.marks.connections) (end_view end) }
     requires room { vec_len passed.old < vec_capacity passed.old }

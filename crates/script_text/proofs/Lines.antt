@@ -1,4 +1,4 @@
--- The words of a line and the lines of a text, by what stands before a separator and behind it.
+-- The words of a line and the lines of a text, by what stands before a separator and after it.
 use Rattle.std.proofs.Common.{◌≡◌, ◌∙◌, ℕ, ◌<◌, true, List, [], ◌∷◌, length, Option, Some, None}
 use Rattle.std.proofs.Common.{refl, sym, ap, arith}
 use Rattle.std.specs.List.{join_with_byte}

@@ -37,7 +37,7 @@ not_both past None line is may bad = cc
 not_both past (Some other) line is may bad = let same : other ≡ line = cc in
     false≢true (sym bad ∙ ap (may_stand past) same ∙ may)
 
--- a bad line is not spelt behind the lines before it
+-- a bad line is not spelt after the lines before it
 bad_first : (raw : List ℕ) (raws : List (List ℕ)) (past front : List Line) → Spells raws past
     → IsBadBehind past (line_of raw) → Spells (raw ∷ raws) front → ⊥
 bad_first raw raws past [] s bad t = t
@@ -62,7 +62,7 @@ pub no_bad_line : (text : List ℕ) (groups : List ScriptGroup) (n : ℕ) → Is
 no_bad_line text groups n s b = among b.good b.bad b.rest b.past s.past b.spells b.is_bad
     (subst (λ (ls : List (List ℕ)). Spells (reverse ls) s.past) b.is s.spells)
 
--- of two fronts of one list, each with an element behind it, the shorter one with its element
+-- of two fronts of one list, each with an element after it, the shorter one with its element
 -- begins the longer one
 begins : (a : List (List ℕ)) (x : List ℕ) (as_ b : List (List ℕ)) (y : List ℕ) (bs : List (List ℕ))
     → a ++ x ∷ as_ ≡ b ++ y ∷ bs → length a < length b → (more : List (List ℕ))

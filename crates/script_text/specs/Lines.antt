@@ -27,7 +27,7 @@ abbrev pub StandsNowhere : Option GrammarLine → Type 0
 StandsNowhere line = (past : List GrammarLine) → opened (steps_in past) < 2 ^ 64
     → IsBadBehind past line
 
--- what was read is this line of the grammar; where nothing was, it stands nowhere
+-- what was read is this line of the grammar; if nothing was, it stands nowhere
 abbrev pub Says : Option GrammarLine → Option Line → Type 0
 Says said (Some line) = said ≡ Some (line_view line)
 Says said None = StandsNowhere said

@@ -30,7 +30,7 @@ pub record IsScriptOf (text : List ℕ) (room : ℕ) (script : ScriptContent) : 
   pub is_text : IsScriptText text groups
   pub has : HasGroups script room groups
 
--- a line is named only where it is the first bad one
+-- a line is named only if it is the first bad one
 abbrev pub RefusesRightly : List ℕ → ScriptRefused → Type 0
 RefusesRightly text (BadScript line) = IsBadAt text line
 RefusesRightly text NoMemory = Unit {0}

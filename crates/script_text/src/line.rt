@@ -51,7 +51,7 @@ pub(crate) enum Line {
     Step(Step),
 }
 
-/// What a line says; None where it says nothing that may stand in any script.
+/// What a line says; None if it says nothing that may stand in any script.
 pub(crate) fn read_line(alloc: Global, bytes: &[u8]) -> Result<Option<Line>, NoMemory>
     ensures { IfOk result (λ line. SaysLine bytes.now line) }
 {

@@ -254,7 +254,7 @@ impl Reading {
         }
     }
 
-    /// The script of all that was read, where each line may stand behind those before it.
+    /// The script of all that was read, if each line may stand after those before it.
     pub(crate) fn finish(mut self) -> Result<Script, NoMemory>
         requires { (past : List GrammarLine) × (raws : List (List ℕ)) × Spells raws past
             × Reads self past }

@@ -36,7 +36,7 @@ fn digits(word: &[u8]) -> Option<u64>
     Some(number)
 }
 
-/// The first line of a text that is not empty, and the text behind it.
+/// The first line of a text that is not empty, and the text after it.
 pub(crate) fn next_line(text: &[u8]) -> (&[u8], &[u8])
     requires { 0 < length text.now }
     ensures are { raw_lines text.now ≡ result.0.now ∷ raw_lines result.1.now }

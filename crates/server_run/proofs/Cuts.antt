@@ -74,7 +74,7 @@ split_from h (e ∷ es) running ended =
     (ap (λ k. (sum k).ended) (append_assoc h (e ∷ []) es) ∙ ended))
 
 -- The journal of a reactor that left this list and was stopped, cut at its end: the list, and the
--- removals behind it; or the list was stopped before.
+-- removals after it; or the list was stopped before.
 pub record Cut {N : Type 0} (list journal : List (Entry N)) : Type 0 where
   pub run : List (Entry N)
   pub closing : List (Entry N)
@@ -154,7 +154,7 @@ turned_cut {N = N} means t b list journal c turned = ⊎_elim
     turned))
     c.how
 
--- Behind the end stand removals alone, or the list goes by turns there too: each handler that a
+-- After the end stand removals alone, or the list goes by turns there too: each handler that a
 -- turn installs is registered or refused.
 pub offers_cut : {H E N : Type 0} (means : Handling H E N) (t : Terms)
     (list journal : List (Entry N)) (c : Cut list journal) → DispatchedByTurns means t 1 list
@@ -168,7 +168,7 @@ offers_cut {N = N} means t list journal c turned = offers_each means t c.run c.c
 
 -- ---- notifications
 
--- what holds of each entry where a run is to be ended by a notice, or is not
+-- what holds of each entry if a run is to be ended by a notice, or is not
 abbrev pub is_right : {N : Type 0} → Option ℕ → Entry N → Bool
 is_right None e = not (is_notice e)
 is_right (Some n) e = is_for_acceptor e
@@ -270,7 +270,7 @@ wanted_by (Some n) most handle q = (
 
 module _ {N : Type 0} (until : Option ℕ) (list journal : List (Entry N)) (c : Cut list journal)
     (same : journal ≡ list) where
-  -- the front behind which a notice was posted ends before the end of the run
+  -- the front after which a notice was posted ends before the end of the run
   enough : HasClosed (notice_for until) list → (wanted : ℕ) × (until ≡ Some wanted)
       × (wanted ≤ gone c.run)
   enough closed = (wanted.0, wanted.1, omega (arith, wanted.2, closed.enough, before))

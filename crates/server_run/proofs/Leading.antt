@@ -109,7 +109,7 @@ none_ended [] le = refl
 none_ended (e ∷ es) le = and_from _ _ (none_posted e.posted (omega (arith, le)))
     (none_ended es (omega (arith, le)))
 
--- where no posting was made, nothing is recorded
+-- if no posting was made, nothing is recorded
 unposted : {N : Type 0} (list : List (Entry N)) (s drainer : RingView) (n : ℕ)
     → AreRecorded (filter is_notice list) drainer.got → IsMerged s drainer n → known_postings s ≤ 0
     → list_any is_notice list ≡ false

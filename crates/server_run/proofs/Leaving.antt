@@ -56,7 +56,7 @@ ends_named until net how now false run closing is ends =
 
 -- ---- a reactor that was stopped
 
--- where nothing was handed over
+-- if nothing was handed over
 pub none_handed_over : (volume : ℕ) → FillsVolume volume 0
 none_handed_over volume some = absurd (omega (arith, some))
 

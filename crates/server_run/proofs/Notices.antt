@@ -81,7 +81,7 @@ module _ {N : Type 0} (past : List (Entry N)) (event : Event) (kind : Kind)
   notice_at e alive i true q = notice_made e alive q
   notice_at e alive i false q = or_right (is_notice e) (list_any is_notice past) (before i q)
 
--- where an event asks for a notice, there is a notification
+-- if an event asks for a notice, there is a notification
 pub notice_there : {N : Type 0} (past : List (Entry N)) (i : ℕ) (event : Event) (kind : Kind)
     → event_at past i ≡ Some event → event.upcall ≡ Notice kind → list_any is_notice past ≡ true
 notice_there [] i event kind q n = no_event event q
@@ -115,7 +115,7 @@ none_more : (b rest none : Bool) → (none ≡ true → rest ≡ false) → (not
 none_more true rest none before all = absurd (false≢true all)
 none_more false rest none before all = before all
 
--- where all fail a test, none passes
+-- if all fail a test, none passes
 pub none_of_all : {A : Type 0} (test : A → Bool) (xs : List A)
     → list_all (λ x. not (test x)) xs ≡ true → list_any test xs ≡ false
 none_of_all test [] all = refl

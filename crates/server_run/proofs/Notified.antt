@@ -1,4 +1,4 @@
--- A run that ends by its notice ends directly behind the turn that was notified: no closing stands
+-- A run that ends by its notice ends directly after the turn that was notified: no closing stands
 -- between.
 use Rattle.std.proofs.Common.{ℕ, ◌≡◌, ◌==◌, ⊎_elim, Bool, true, false, ◌||◌, List, [], ◌∷◌, ◌++◌}
 use Rattle.std.proofs.Common.{refl, sym, ap, ◌∙◌, subst, arith, Option, Some, None}
@@ -95,7 +95,7 @@ ends_by (Removed handle) past x none q = absurd (true≢false none)
 ends_by (Returned event Close note) past x none q = (event, eq-eqb event event refl, q)
 ends_by _ past x none q = absurd (false≢true q)
 
--- Where no handle was removed, that of an open event is alive.
+-- If no handle was removed, that of an open event is alive.
 open_alive : {N : Type 0} (most : ℕ) (past : List (Entry N)) → is_legal most past ≡ true
     → list_any is_removed past ≡ false → (i x : ℕ) → is_open past i ≡ true
     → belongs_to x (event_at past i) ≡ true → is_alive past x ≡ true
@@ -178,7 +178,7 @@ item_there rest n x event answer note is mine =
     ∙ ap (λ (items : List (Item _)). had rest x ++ items)
     (cond-true (event.handle == x) _ [] (eq-eqb event.handle x mine))
 
--- No closing stands directly behind the turn of a notice.
+-- No closing stands directly after the turn of a notice.
 no_closing : {H E N : Type 0} (means : Handling H E N) (t : Terms) (most : ℕ) (handle : Handle)
     (said : N) (n : ℕ) (answer : Answer) (note : N) (rest : List (Entry N)) (event : Event)
     (kind : Kind) (given : List (ℕ × E)) → KeepsNotices means
@@ -220,7 +220,7 @@ no_closing {N = N} means t most handle said n answer note rest event kind given 
 
 -- ---- the end of a run
 
--- a run that ends directly behind the turn of a notice
+-- a run that ends directly after the turn of a notice
 pub record EndsBehind {N : Type 0} (run : List (Entry N)) (kind : Kind) : Type 0 where
   pub before : List (Entry N)
   pub number : ℕ
@@ -361,8 +361,8 @@ running_before : {N : Type 0} (most : ℕ) (past : List (Entry N)) → may_follo
 unfolding may_follow
 running_before most past may = not-true _ (and_parts _ _ may).0
 
--- A run that ended where a turn of a notice was settled before, with the closing of its own handler
--- or none, ends directly behind that turn.
+-- A run that ended after a turn of a notice was settled, with the closing of its own handler or
+-- none, ends directly after that turn.
 pub behind_notice : {H E N : Type 0} (means : Handling H E N) (t : Terms) (most : ℕ)
     (journal run closing rest : List (Entry N)) (given : List (ℕ × E))
     (here : MayHere means t (past_of run) Stopping) (kind : Kind) → KeepsNotices means

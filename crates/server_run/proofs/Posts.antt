@@ -1,4 +1,4 @@
--- Which postings the workers of a run made, and that one of them left with Stopped only where the
+-- Which postings the workers of a run made, and that one of them left with Stopped only if the
 -- reactor was stopped.
 use Rattle.std.proofs.Common.{ℕ, zero, suc, ◌≡◌, ◌==◌, ◌≤◌, ◌<◌, ◌+◌, ◌-◌, ◌⊎◌, ⊎_elim, Bool, true}
 use Rattle.std.proofs.Common.{false, ◌&&◌, if◌then◌else◌, List, [], ◌∷◌, ◌++◌, refl, sym, ap, ◌∙◌}

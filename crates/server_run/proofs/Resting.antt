@@ -1,4 +1,4 @@
--- Where a run ends with nothing to start and nothing open, behind a wait that was answered Over.
+-- Where a run ends with nothing to start and nothing open, after a wait that was answered Over.
 use Rattle.std.proofs.Common.{ℕ, ◌≡◌, ◌≤◌, Bool, true, false, not, if◌then◌else◌, List, [], ◌∷◌}
 use Rattle.std.proofs.Common.{◌++◌, filter, map, refl, sym, ap, ◌∙◌, arith, cond, Option, Some}
 use Rattle.std.proofs.Common.{None}
@@ -179,7 +179,7 @@ pub record IsOverThere {N : Type 0} (list : List (Entry N)) : Type 0 where
   pub running : (sum list).ended ≡ false
   pub idle : HasNoWork (past_of list)
 
--- what stands behind a wait
+-- what stands after a wait
 record IsBehind {N : Type 0} (h list : List (Entry N)) : Type 0 where
   pub waited : 1 ≤ count is_polled (past_of list)
   pub follows : follows_ready (past_of list) ≡ true

@@ -26,14 +26,14 @@ abbrev pub HasNoneOpen : {H M Q W V N E : Type 0} → Meaning H M Q W V N E → 
     → Type 0
 HasNoneOpen m core = StandsWith m (λ t h. NoneOpen h) core
 
--- how a run ended whose reactor was stopped for this cause, where its watch failed, or did not
+-- how a run ended whose reactor was stopped for this cause, if its watch failed, or did not
 abbrev pub named : Ending → Bool → Ending
 named how true = ending.Broken
 named how false = how
 
 -- The parts of a reactor that stood for this list and was stopped: they stand for a journal that is
--- wound up, and legal, with at most 2^62 entries. Where a wait was marked as over, and the net
--- tells its calls, the wait of that number was answered Over. Where the watch failed, its count of
+-- wound up, and legal, with at most 2^62 entries. If a wait was marked as over, and the net
+-- tells its calls, the wait of that number was answered Over. If the watch failed, its count of
 -- faults is above that of the output at the start, if the terms have it.
 pub record Finishes {H M Q W V N E : Type 0} (m : Meaning H M Q W V N E) (armed : Q → List Timer)
     (t : Terms) (first : ℕ) (list : List (Entry N)) (core : Core H M Q W V N E)

@@ -38,7 +38,7 @@ use Rattle.server_run.specs.declared.ending.Ending.TheVariants as ending
 abbrev pub first_entry : {N : Type 0} → Entry N
 first_entry = Opened first_handle read_alone
 
--- the notice that ends a run: behind how many closings and refusals, and to which handle
+-- the notice that ends a run: after how many closings and refusals, and to which handle
 abbrev pub notice_for : Option ℕ → Option (ℕ × Handle)
 notice_for None = None
 notice_for (Some wanted) = Some (wanted, first_handle)
@@ -47,7 +47,7 @@ notice_for (Some wanted) = Some (wanted, first_handle)
 abbrev pub BeginsSo : {N : Type 0} → List (Entry N) → Type 0
 BeginsSo {N} run = (run ≡ []) ⊎ ((rest : List (Entry N)) × (run ≡ first_entry ∷ rest))
 
--- notifications stand only where the run is to be ended by one, and are for the acceptor
+-- notifications stand only if the run is to be ended by one, and are for the acceptor
 abbrev pub is_for_acceptor : {N : Type 0} → Entry N → Bool
 is_for_acceptor (Posted handle kind from seq) = handle.0 == 0
 is_for_acceptor (Stale handle from seq) = handle.0 == 0
@@ -57,8 +57,8 @@ abbrev pub HasNotices : {N : Type 0} → Option ℕ → List (Entry N) → Type 
 HasNotices None journal = list_any is_notice journal ≡ false
 HasNotices (Some n) journal = list_all is_for_acceptor journal ≡ true
 
--- The run ended at a wait that was answered Over: it stands directly behind the entries of its last
--- wait, with nothing to start and nothing open, and where the net tells its calls, the answer of
+-- The run ended at a wait that was answered Over: it stands directly after the entries of its last
+-- wait, with nothing to start and nothing open, and if the net tells its calls, the answer of
 -- that wait was Over. Then the handlers that were alive were removed and closed, in rising order.
 pub record EndsAtNetOver {N E : Type 0} (net : NetFacts E) (run closing : List (Entry N)) : Type 0
   where
@@ -70,7 +70,7 @@ pub record EndsAtNetOver {N E : Type 0} (net : NetFacts E) (run closing : List (
         (alive_handles (summary (past_of run)))
         closing
 
--- The run ended by its notice: directly behind the turn of a notification, and behind as many
+-- The run ended by its notice: directly after the turn of a notification, and after as many
 -- closings and refusals as were asked for.
 pub record EndsByNotice {N : Type 0} (until : Option ℕ) (run : List (Entry N)) : Type 0 where
   pub wanted : ℕ
@@ -86,8 +86,8 @@ pub record EndsByNotice {N : Type 0} (until : Option ℕ) (run : List (Entry N))
   pub is : event_at (past_of before) number ≡ Some event
   pub notice : event.upcall ≡ Notice kind
 
--- Why it ended, as far as the journal says: where the listener was not attached there is nothing
--- before the end and behind it.
+-- Why it ended, as far as the journal says: if the listener was not attached there is nothing
+-- before the end and after it.
 abbrev pub EndsSo : {N E : Type 0} → Option ℕ → NetFacts E → Ending → List (Entry N)
     → List (Entry N) → Type 0
 EndsSo until net ending.Over run closing = EndsAtNetOver net run closing
@@ -99,8 +99,8 @@ EndsSo until net ending.NoMemory run closing = Unit {0}
 EndsSo until net ending.VolumeFault run closing = Unit {0}
 
 -- The journal of a run that ended so: it is legal, was stopped, and each handle that was opened was
--- closed; before its end it goes by turns alone behind the registration of the acceptor. Behind its
--- end each handler that a turn installs is registered or refused directly behind that turn, where
+-- closed; before its end it goes by turns alone after the registration of the acceptor. After its
+-- end each handler that a turn installs is registered or refused directly after that turn, but
 -- one `Closed` may stand between. No more handlers were refused for a fault than the net failed to
 -- attach.
 pub record IsRun {H N E : Type 0} (means : Handling H E N) (t : Terms) (until : Option ℕ)
@@ -116,7 +116,7 @@ pub record IsRun {H N E : Type 0} (means : Handling H E N) (t : Terms) (until : 
   pub faults : count is_fault journal ≤ net.failed_attaches
   pub ends : EndsSo until net how run closing
 
--- The journal is the list with what the stop of the reactor appended: nothing where it was stopped
+-- The journal is the list with what the stop of the reactor appended: nothing if it was stopped
 -- before, and else its end and the removals of the handlers that were alive, in rising order.
 pub record WindsUp {N : Type 0} (list journal : List (Entry N)) : Type 0 where
   pub more : List (Entry N)

@@ -22,7 +22,7 @@ pub record IsFine (asked : Asked) : Type 0 where
   pub volume : 1 ≤ asked.volume
 
 -- The terms are those of what the run is asked for: they have its limit of waits and its idle time,
--- and say that its journal goes by turns behind the first entry, the registration of the acceptor.
+-- and say that its journal goes by turns after the first entry, the registration of the acceptor.
 pub record AreTermsOf (asked : Asked) (t : Terms) : Type 0 where
   pub limit : t.limit ≡ Some asked.limit
   pub idle : t.idle ≡ Some asked.idle

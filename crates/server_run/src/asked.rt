@@ -10,7 +10,7 @@ pub struct Asked {
     /// After how many quiet milliseconds a connection is closed, from 1 to 4,294,967,295, or that
     /// it never is.
     pub idle: Option<u64>,
-    /// Behind how many closings and refusals the run is ended by a notice to the acceptor, if it
+    /// After how many closings and refusals the run is ended by a notice to the acceptor, if it
     /// is.
     pub until: Option<u64>,
     /// For how many milliseconds a wait goes on at most, if there is a limit.

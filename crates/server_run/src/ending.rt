@@ -3,7 +3,7 @@ use log_handler::ServerNote;
 use tp_reactor::Parts;
 
 /// How a run of the server ended. Of several causes the first in this order is told. A failed watch
-/// hides every other cause, also where it failed only when the reactor was stopped: so with every
+/// hides every other cause, also if it failed only when the reactor was stopped: so with every
 /// other ending it has not failed.
 #[derive(Clone, Copy, PartialEq, Eq, Debug)]
 pub enum Ending {
@@ -18,7 +18,7 @@ pub enum Ending {
     NoMemory,
     /// A volume was not taken, and the volumes' count of faults rose.
     VolumeFault,
-    /// A notice ended it, behind as many closings and refusals as were asked for.
+    /// A notice ended it, after as many closings and refusals as were asked for.
     Notified,
     /// Nothing could be reported any more, nothing could be started, and nothing was open.
     Over,

@@ -22,7 +22,7 @@ use tp_reactor::{
 };
 
 /// A reactor for so many connections and the acceptor of the listener, which is registered with it.
-/// Where there is no memory for it, or the net does not take the listener in, the run has ended.
+/// If there is no memory for it, or the net does not take the listener in, the run has ended.
 pub(crate) fn open<
     E: PeerEnd + Drop,
     M: Net<End = E>,
@@ -69,7 +69,7 @@ pub(crate) fn open<
     }
 }
 
-/// Registers the acceptor of a listener with a reactor that has no handler, to be read. Where it is
+/// Registers the acceptor of a listener with a reactor that has no handler, to be read. If it is
 /// not registered the reactor is stopped.
 fn register<
     E: PeerEnd + Drop,

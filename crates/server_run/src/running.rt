@@ -22,12 +22,12 @@ use tp_reactor::{Means, NoObserver, Observer, Ran, Reactor, TimerQueue, Volumes,
 
 /// Runs the logging server (C++NPv2 chapter 4, `Logging_Acceptor`; POSA2, Leader/Followers): a
 /// reactor whose first handler is the acceptor of the listener, and which a pool of workers leads
-/// in turn. Its end is told with what it leaves. Where `until` is given it is ended by a notice to
+/// in turn. Its end is told with what it leaves. If `until` is given it is ended by a notice to
 /// the acceptor, once as many handlers were closed or refused; else it goes on until nothing can be
 /// reported any more. A worker that meets a fault leaves, and the others go on until they leave
 /// too. Then the reactor is stopped and every handler closed.
 ///
-/// For want of memory there may be no reactor, or one that was stopped before a worker led. Where
+/// For want of memory there may be no reactor, or one that was stopped before a worker led. If
 /// the net does not take the listener in there is one with no handler. The listener and the waker
 /// are dropped then.
 pub fn serve<
@@ -199,7 +199,7 @@ fn share_observed<
     }
 }
 
-/// Behind how many closings and refusals the acceptor is notified, if it is.
+/// After how many closings and refusals the acceptor is notified, if it is.
 fn notice(until: Option<u64>) -> Option<(u64, Handle)>
     ensures { result ≡ notice_for until }
 {

@@ -135,7 +135,7 @@ pub stands-none : {K : Type 0} (facts : K → SinkFacts) (buffer : SinkBuffer K)
 stands-none facts buffer since put h =
     subst (λ (text : List ℕ). HasPut facts since buffer text) (sym (append-nil put)) h
 
--- where nothing is held back and no write failed, the sink below took all that was put
+-- if nothing is held back and no write failed, the sink below took all that was put
 pub takes-all : {K : Type 0} (facts : K → SinkFacts) (o : SinkFacts) (sink : SinkBuffer K)
     (text : List ℕ) → Gathers facts o sink text → held_of sink ≡ [] → is_broken sink ≡ false
     → TakesAll o text (facts (output_of sink))

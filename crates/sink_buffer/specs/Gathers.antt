@@ -33,8 +33,8 @@ pub record Gathers {K : Type 0} (facts : K → SinkFacts) (start : SinkFacts) (b
       → HoldsBack start (held_of buffer) put (facts (output_of buffer))
   pub front : is_broken buffer ≡ true → BreaksOff start put (facts (output_of buffer))
 
--- Since these bytes were held back and the sink below was this: where there was room for what was
--- put, it is held back behind them, and nothing was written.
+-- Since these bytes were held back and the sink below was this: if there was room for what was
+-- put, it is held back after them, and nothing was written.
 pub record Holds {K : Type 0} (output : K) (held : List ℕ) (buffer : SinkBuffer K)
     (put : List ℕ) : Type 0 where
   pub fits : length held + length put ≤ 8192 → (held_of buffer ≡ held ++ put)

@@ -43,7 +43,7 @@ impl<K: Sink> SinkBuffer<K> {
         }
     }
 
-    /// Writes what is held where the buffer is full.
+    /// Writes what is held if the buffer is full.
     fn make_room(&mut self)
         ensures text { (start : SinkFacts) (put : List ℕ) → Gathers K.facts start self.old put
             → Gathers K.facts start self.new put }
@@ -95,8 +95,8 @@ impl<K: Sink> SinkBuffer<K> {
         count
     }
 
-    /// Writes what is held, in one write where the sink takes all of it, and in none where nothing
-    /// is held. After it the sink has the whole text, or a write failed. Behind a failed write
+    /// Writes what is held, in one write if the sink takes all of it, and in none if nothing
+    /// is held. After it the sink has the whole text, or a write failed. After a failed write
     /// nothing is written.
     pub fn flush(&mut self)
         ensures text { (start : SinkFacts) (put : List ℕ) → Gathers K.facts start self.old put
@@ -149,7 +149,7 @@ impl<K: Sink> TextOut for SinkBuffer<K> {
 
     ghost stands = { HasPut K.facts };
 
-    /// Adds bytes to the text. Where there is room for them, nothing is written.
+    /// Adds bytes to the text. If there is room for them, nothing is written.
     fn put(&mut self, bytes: &[u8]) {
         if bytes.len() <= SIZE - self.held {
             self.hold(bytes);
@@ -160,7 +160,7 @@ impl<K: Sink> TextOut for SinkBuffer<K> {
 }
 
 /// Writes all of some bytes, in as many writes as the sink needs, and tells whether none failed.
-/// Behind a failed write nothing is written.
+/// After a failed write nothing is written.
 pub fn write_all<K: Sink>(output: &mut K, bytes: &[u8]) -> bool
     ensures writes { WritesAll (K.facts output.old) bytes.now result (K.facts output.new) }
     ensures idle { length bytes.now ≡ 0 → output.new ≡ output.old }

@@ -6,8 +6,8 @@ use crate::TextOut;
 use crate::buffer::write_all;
 use ev_base::Sink;
 
-/// A sink that writes what is put into it at once, in one write where the sink below takes all of
-/// it, and in none where that is empty. It holds nothing back and takes no memory. Once a write
+/// A sink that writes what is put into it at once, in one write if the sink below takes all of
+/// it, and in none if that is empty. It holds nothing back and takes no memory. Once a write
 /// failed it writes nothing more.
 #[derive(Drop)]
 pub struct DirectSink<K> {

@@ -4,8 +4,8 @@ ghost use Rattle.std.specs.Prelude.{◌≡◌, ◌≤◌, [], ℕ, List, IfOk, l
 use crate::TextOut;
 use ev_base::NoMemory;
 
-/// A text that grows in memory as it is put, up to a limit. It is broken where there was no memory
-/// for it, or where it would be longer.
+/// A text that grows in memory as it is put, up to a limit. It is broken if there was no memory
+/// for it, or if it would be longer.
 #[derive(Drop)]
 pub struct GrowingText {
     bytes: Vec<u8>,

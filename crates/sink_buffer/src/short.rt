@@ -7,7 +7,7 @@ use crate::TextOut;
 const MOST: usize = 512;
 
 /// A text of at most 512 bytes, in a fixed place: so a short line is written by one call. It takes
-/// no memory. Where more is put it is overfull, and has no text.
+/// no memory. If more is put it is overfull, and has no text.
 #[derive(Drop)]
 pub struct ShortText {
     bytes: [u8; MOST],
@@ -30,7 +30,7 @@ impl ShortText {
         }
     }
 
-    /// All that was put, or None where that was too long.
+    /// All that was put, or None if that was too long.
     pub fn text(&self) -> Option<&[u8]>
         ensures { (first put : List ℕ) → HoldsText first self.now put
             → MatchOption result (512 < length (first ++ put)) (λ text. text.now ≡ first ++ put) }
@@ -50,7 +50,7 @@ impl TextOut for ShortText {
 
     ghost stands = { HoldsText };
 
-    /// Adds bytes to the text where there is room for them.
+    /// Adds bytes to the text if there is room for them.
     fn put(&mut self, bytes: &[u8]) {
         if self.overfull || bytes.len() > MOST - self.length {
             self.overfull = true;

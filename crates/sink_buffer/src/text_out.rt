@@ -10,7 +10,7 @@ pub trait TextOut {
     /// The text that was put since then.
     ghost stands: { Since → Self → List ℕ → Type 0 };
 
-    /// Puts bytes behind what was put before.
+    /// Puts bytes after what was put before.
     fn put(&mut self, bytes: &[u8])
         ensures { Puts stands self.old bytes.now self.new };
 }

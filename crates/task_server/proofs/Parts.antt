@@ -40,7 +40,7 @@ module _ {A : Type 0} where
           rest [] = []
           rest (z ∷ zs) = zs
 
-  -- where one alone has g, the sum of f is its own
+  -- if one alone has g, the sum of f is its own
   pub whole : (g f : A → ℕ) (l : List A) (j : ℕ) (v : A)
       → ((k : ℕ) (x : A) → get_elem? l k ≡ some x → g x ≡ 0 → f x ≡ 0) → total g l ≡ g v
       → get_elem? l j ≡ some v → total f l ≡ f v

@@ -51,7 +51,7 @@ module _ {T : Type 0} where
   abbrev pub PutsStand : Log T → List T → Type 0
   PutsStand l items = (taken : List T) × IsLogOf (taken ++ items) l
 
-  -- The items that are in the queue stand behind some list, in which what this taker took stands.
+  -- The items that are in the queue stand after some list, in which what this taker took stands.
   abbrev pub TakesStand : Log T → List T → Type 0
   TakesStand l items = (taken : List T) × IsLogOf taken l
 

@@ -41,7 +41,7 @@ module _ {T : Type 0} where
         ≡ weight_from h 0 taken
     pub knows : (k : ℕ) (v : View T) → get_elem? views k ≡ some v → Knows all taken v
 
-  -- Where one pass has all shares: what was put and taken, and the items that are left.
+  -- When one pass has all shares: what was put and taken, and the items that are left.
   pub record IsSettled (puts takes : Log T) (items : List T) : Type 0 where
     pub all : List T
     pub taken : List T

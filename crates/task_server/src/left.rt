@@ -7,7 +7,7 @@ use crate::sides::Left;
 use std::sync::Wait;
 
 impl<T> Left<T> {
-    /// Takes the first item. None comes exactly where there is none. It takes no memory.
+    /// Takes the first item. None comes exactly if there is none. It takes no memory.
     pub fn next<R: Wait>(&mut self, rt: &R) -> Option<T>
         ensures { (items : List T) → Remain self.old items
             → TakesFirst items result (Remain self.new) }

@@ -43,7 +43,7 @@ impl<T> Pool<T> {
         Ok((Pool { queue }, putter, taker))
     }
 
-    /// Puts an item behind the others. It makes one try. `Full` gives the item back: the queue had
+    /// Puts an item after the others. It makes one try. `Full` gives the item back: the queue had
     /// 1,024 items at a moment of this call.
     pub fn put<R: Wait>(&self, rt: &R, p: &mut Putter<T>, item: T) -> Result<(), (T, Full)>
         requires pool { putter_pool p.old ≡ pool_id self.now }
@@ -67,7 +67,7 @@ impl<T> Pool<T> {
         }
     }
 
-    /// Takes the first item. It makes one try. None comes where the queue had no item at a moment
+    /// Takes the first item. It makes one try. None comes if the queue had no item at a moment
     /// of this call.
     pub fn take<R: Wait>(&self, rt: &R, t: &mut Taker<T>) -> Option<T>
         requires pool { taker_pool t.old ≡ pool_id self.now }

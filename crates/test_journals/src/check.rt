@@ -275,7 +275,7 @@ static CHANGED: &[(&[Step], u64, usize, Step, u64)] = &[
     (ONE_CONNECTION, 1, 7, Polled(0), 7),
     (ONE_CONNECTION, 1, 8, Posted(FIRST), 8),
     (ONE_CONNECTION, 1, 8, Closed(FIRST), 8),
-    // behind the end
+    // after the end
     (ONE_ACCEPTED, 1001, 20, Polled(0), 20),
     // before the timer's deadline
     (ONE_IDLE, 1001, 9, Polled(99), 10),
@@ -303,7 +303,7 @@ fn illegal_at(alloc: Global, journal: &[Entry<u64>], most: u64) -> Result<Option
     }
 }
 
-/// That place, where the entry at a place is changed.
+/// That place, if the entry at a place is changed.
 fn place(
     alloc: Global,
     journal: &[Step],

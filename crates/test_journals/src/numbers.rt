@@ -12,7 +12,7 @@ fn filled(alloc: Global) -> Result<NumberMap<u32>, Fail> {
     Ok(map)
 }
 
-// What a map answers before it is cleared, and behind that.
+// What a map answers before it is cleared, and after that.
 fn answers(map: &mut NumberMap<u32>) -> [Option<u32>; 5] {
     let first = map.get(0);
     let second = map.get(1);

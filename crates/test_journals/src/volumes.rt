@@ -1,4 +1,4 @@
-//! What no contract says: that volumes are taken where memory is ample, and that the checker is
+//! What no contract says: that volumes are taken if memory is ample, and that the checker is
 //! passed on.
 ghost use Rattle.std.specs.Prelude.{◌≡◌, Some, length, IfOk};
 ghost use Rattle.reactor_model.specs.MemVolumes.{mem_volumes_facts};

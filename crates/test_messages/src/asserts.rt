@@ -3,12 +3,12 @@
 use std::fmt::{Debug, Display};
 use std::process::Abort;
 
-/// Panics where what was found is not what is wanted, and says both.
+/// Panics if what was found is not what is wanted, and says both.
 pub fn assert_same<T: PartialEq + Debug + Copy>(rt: &impl Abort, found: T, wanted: T) {
     assert!(rt; found == wanted, "{found:?} in place of {wanted:?}");
 }
 
-/// Panics where what was found in a row is not what is wanted, and says in which.
+/// Panics if what was found in a row is not what is wanted, and says in which.
 pub fn assert_same_in<R: Display + Copy, T: PartialEq + Debug + Copy>(
     rt: &impl Abort,
     row: R,
@@ -21,7 +21,7 @@ pub fn assert_same_in<R: Display + Copy, T: PartialEq + Debug + Copy>(
     );
 }
 
-/// Panics where a row is not as it is to be, and says which.
+/// Panics if a row is not as it is to be, and says which.
 pub fn assert_in<R: Display + Copy>(rt: &impl Abort, row: R, is_well: bool) {
     assert!(rt; is_well, "row {row}");
 }

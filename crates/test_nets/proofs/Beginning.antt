@@ -74,7 +74,7 @@ round_robin_begins net timers volumes most attached waits attaches none facts = 
       v.taken) (sym facts) tt;
 }
 
--- the same where its failing calls were named
+-- the same if its failing calls were named
 pub failing_begins : (made net : RoundRobinNet) (timers : List Timer) (most : ℕ)
     → round_robin_facts net ≡ round_robin_facts made
     → (round_robin_facts made).attached ≡ [] → (round_robin_facts made).failed_waits ≡ 0

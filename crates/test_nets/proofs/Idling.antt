@@ -1,4 +1,4 @@
--- That no upcall is on its way behind each call.
+-- That no upcall is on its way after each call.
 use Rattle.std.proofs.Common.{◌+◌, ℕ, ◌≡◌, Bool, true, false, List, [], ◌∷◌, ◌++◌, length, refl}
 use Rattle.std.proofs.Common.{sym, ap, ◌∙◌, subst}
 use Rattle.std.specs.Prelude.{Result, Ok, Err, OnOk, OnErr, IfOk, if◌then◌else◌}

@@ -1,4 +1,4 @@
--- What holds while two upcalls are on their way, and behind the settling of one of them.
+-- What holds while two upcalls are on their way, and after the settling of one of them.
 use Rattle.std.proofs.Common.{ℕ, ◌≡◌, ◌≢◌, ◌≤◌, ◌==◌, not, cond, Bool, true, false, List, [], ◌∷◌}
 use Rattle.std.proofs.Common.{◌++◌, filter, length, sym, ap, ◌∙◌, subst, Option, Some, None, arith}
 use Rattle.std.proofs.Common.{◌⊎◌, ⊎_elim}
@@ -54,7 +54,7 @@ not_open past i pick opened =
     (and_parts _ _ (and_parts _ _ (pick_waits past i (pick_parts past i pick).0)).1).0)
     (and_parts _ _ opened).0
 
--- an event that is open stays open behind the start of another
+-- an event that is open stays open after the start of another
 open_behind : (past : List (Entry ℕ)) (event i : ℕ) → is_open past i ≡ true
     → is_open (Started event ∷ past) i ≡ true
 open_behind past event i opened =
@@ -116,7 +116,7 @@ stays_out m old new result done i is gave =
 
 -- ---- the settling of one
 
--- an open event is found still where another is taken away
+-- an open event is found still when another is taken away
 find_kept : (gone kept : ℕ) (opens : List OpenEvent) (o : OpenEvent) → gone ≢ kept
     → find (λ (a : OpenEvent). a.event == kept) opens ≡ Some o
     → find (λ (a : OpenEvent). a.event == kept)

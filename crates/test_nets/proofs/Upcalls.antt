@@ -1,4 +1,4 @@
--- What holds while the one upcall that was made is on its way, and behind its settling.
+-- What holds while the one upcall that was made is on its way, and after its settling.
 use Rattle.std.proofs.Common.{ℕ, ◌≡◌, ◌≤◌, List, [], ◌∷◌, ◌++◌, length, refl, sym, ap, ◌∙◌, subst}
 use Rattle.std.proofs.Common.{Some, true}
 use Rattle.std.proofs.lemmas.List.{append_assoc}

@@ -45,7 +45,7 @@ pub record AreOut {M V : Type 0} (m : Meaning Steady M Content NoWatch V ℕ Pla
   pub differ : done.event ≢ other.event
   pub two_open : length (summary (past_of history)).opens ≤ 2
 
--- it stands so while the second is out, and with the first alone where there is no second
+-- it stands so while the second is out, and with the first alone if there is no second
 abbrev pub AreOutOrOne : {M V : Type 0} → Meaning Steady M Content NoWatch V ℕ PlayEnd → RowsOf M V
     → Done Steady ℕ PlayEnd → Option (Done Steady ℕ PlayEnd) → Type 0
 AreOutOrOne m core done (Some other) = AreOut m core done other

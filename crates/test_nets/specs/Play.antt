@@ -1,4 +1,4 @@
--- What a reactor of steady handlers means over a net that plays what was laid down, where its
+-- What a reactor of steady handlers means over a net that plays what was laid down, if its
 -- volumes stay in memory.
 use Rattle.std.specs.Prelude.{ℕ}
 use Rattle.demux.specs.PlayNet.{PlayContent, play_net_facts}

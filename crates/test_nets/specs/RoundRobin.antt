@@ -14,7 +14,7 @@ use Rattle.test_nets.specs.declared.handler.Steady.{Steady}
 use Rattle.test_nets.specs.Idle.{rows}
 use Rattle.test_nets.specs.declared.round_robin.RoundRobinNet.{RoundRobinNet}
 
--- a report of a wait, whose first report is of the handle `first`: behind the last handle comes
+-- a report of a wait, whose first report is of the handle `first`: after the last handle comes
 -- handle 0
 abbrev pub reported : ℕ → ℕ → ℕ → Report
 reported handles first at = record {
@@ -42,6 +42,6 @@ round_robin_facts n = record {
   turned_away = None;
 }
 
--- what a reactor of steady handlers means over it, where its volumes are let go
+-- what a reactor of steady handlers means over it, if its volumes are let go
 abbrev pub round_robin_rows : Meaning Steady RoundRobinNet Content NoWatch DropVolumes ℕ PlayEnd
 round_robin_rows = rows round_robin_facts (λ t n. Unit {0}) (λ v. tells_nothing)

@@ -7,7 +7,7 @@ use ev_base::{Handle, Kind, MOST_REPORTS, Mask, Net, NetFailed, NoMemory, Report
 use std::alloc::Global;
 
 /// A demultiplexer whose waits give so many reports each, at most 256, of its handles in turn:
-/// handle 0, 1 and so on, and behind the last handle 0 again. It keeps no masks, forgets the ends
+/// handle 0, 1 and so on, and after the last handle 0 again. It keeps no masks, forgets the ends
 /// that it is given back, and stands at moment 0. The waits and the attaches whose numbers, from 0,
 /// were named fail; so does an attach that finds no memory.
 #[derive(Drop)]

@@ -205,7 +205,7 @@ pub fn stop<M: Net<End = PlayEnd>, V: Volumes<u64>>(core: &mut Rows<M, V>)
     core.stop();
 }
 
-/// Takes a reactor apart, stopped first where it was not.
+/// Takes a reactor apart, stopped first if it was not.
 pub fn close<M: Net<End = PlayEnd>, V: Volumes<u64>>(core: Rows<M, V>) -> Left<M, V>
     requires { IsIdle ⟦<Rows<M, V> as Means>⟧.m core }
 {
@@ -285,7 +285,7 @@ pub fn set_mask<M: Net<End = PlayEnd>, V: Volumes<u64>>(
     core.set_mask(handle, mask)
 }
 
-/// Hands a volume over, where one is due.
+/// Hands a volume over, if one is due.
 pub fn hand_over<M: Net<End = PlayEnd>, V: Volumes<u64>>(
     core: &mut Rows<M, V>,
 ) -> Result<u64, HandOverRefused>

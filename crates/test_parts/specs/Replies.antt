@@ -9,7 +9,7 @@ use Rattle.test_parts.specs.declared.timers.Call.TheVariants.{PopDue}
 use Rattle.test_parts.specs.declared.timers.Reply.{Reply}
 use Rattle.test_parts.specs.declared.timers.Reply.TheVariants.{WasThere, Done, Deadline, Due}
 
--- the first timer, where its deadline is at most now
+-- the first timer, if its deadline is at most now
 abbrev pub first_due : ℕ → List Timer → Option Timer
 first_due now [] = None
 first_due now (t ∷ rest) = if nat_le t.deadline now then Some t else None

@@ -1,5 +1,5 @@
 //! The end and the net of one connection: how many bytes a read gives, and that they do their work
-//! where memory is ample.
+//! if memory is ample.
 use ev_base::{
     Got, Handle, Kind, Mask, MemSource, Net, PeerEnd, Report, Sent, Source, SteadySource, Waited,
 };
@@ -7,7 +7,7 @@ use one_net::{OneEnd, OneNet};
 use std::alloc::Global;
 use std::test::Fail;
 
-/// What reads of an end with room for 8 bytes answer, and whether it met a byte behind its limit
+/// What reads of an end with room for 8 bytes answer, and whether it met a byte past its limit
 /// and a failed read of its source then.
 struct Reads {
     answers: &'static [Got],

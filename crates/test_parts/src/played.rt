@@ -117,7 +117,7 @@ const FIRST: Wait = (
     &[(0, Kind::Read), (1, Kind::Read)],
 );
 
-/// The waits behind it, once the second end is watched for writing alone.
+/// The waits after it, once the second end is watched for writing alone.
 static LATER: &[Wait] = &[
     (
         Waited::Reports { now: 2, count: 3 },

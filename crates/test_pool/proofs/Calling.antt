@@ -1,4 +1,4 @@
--- What a worker is behind each of its calls.
+-- What a worker is after each of its calls.
 use Rattle.std.proofs.Common.{ℕ, ◌≡◌, List, sym, ap, ◌∙◌, subst, Option, None}
 use Rattle.tp_reactor.specs.leader_token.specs.Passes.{put_view}
 use Rattle.tp_reactor.specs.leader_token.specs.declared.kept.Kept.{Ghosts as Keeping}

@@ -102,7 +102,7 @@ pub fn share<M: Net<End = PlayEnd> + Drop, V: Volumes<u64> + Drop, K: Wake + Dro
     }
 }
 
-// Takes a reactor apart, stopped first where it was not.
+// Takes a reactor apart, stopped first if it was not.
 fn end<M: Net<End = PlayEnd>, V: Volumes<u64>>(
     core: Core<Member, M, SortedTimers, NoWatch, V>,
 ) -> Left<M, V>
@@ -143,7 +143,7 @@ pub fn dismiss<M: Net<End = PlayEnd>, V: Volumes<u64>, K: Wake>(
     pool.dismiss(root, other);
 }
 
-/// Takes a pool apart that the root alone calls any more, stopped first where it was not.
+/// Takes a pool apart that the root alone calls any more, stopped first if it was not.
 pub fn close<M: Net<End = PlayEnd>, V: Volumes<u64>, K: Wake + Drop>(
     pool: Pool<M, V, K>,
     root: PoolWorker<M, V>,
@@ -155,7 +155,7 @@ pub fn close<M: Net<End = PlayEnd>, V: Volumes<u64>, K: Wake + Drop>(
     end(pool.close(root))
 }
 
-/// Leads once, and runs the job where there is one. It is to be settled.
+/// Leads once, and runs the job if there is one. It is to be settled.
 pub fn lead<R: Wait, M: Net<End = PlayEnd>, V: Volumes<u64>, K: Wake>(
     rt: &R,
     pool: &Pool<M, V, K>,

@@ -49,9 +49,9 @@ enum Input {
     Masks,
     /// It answers Keep, and offers another for reading.
     Offers,
-    /// It meets another upcall, and notes 1 where it did.
+    /// It meets another upcall, and notes 1 if it did.
     Meets(Box<Meeting>),
-    /// It takes so many turns of a generator of numbers, and answers Keep; behind so many inputs it
+    /// It takes so many turns of a generator of numbers, and answers Keep; after so many inputs it
     /// stops the reactor.
     Works {
         /// How many turns it takes.
@@ -62,7 +62,7 @@ enum Input {
 }
 
 /// A handler of a pool, whose turns at inputs are what it was made for. It answers Keep to each
-/// other upcall, and notes 0 but where two upcalls met. It is small, so that to move it costs
+/// other upcall, and notes 0 unless two upcalls met. It is small, so that to move it costs
 /// little of what an event costs.
 #[derive(Drop)]
 pub struct Member {
@@ -97,7 +97,7 @@ impl Member {
     }
 
     /// One whose upcalls take so many turns of a generator of numbers each, and which stops the
-    /// reactor behind so many of them.
+    /// reactor after so many of them.
     pub fn working(turns: u32, upcalls: u32) -> Member {
         Member::with(Input::Works {
             turns,
@@ -149,7 +149,7 @@ impl Member {
     }
 }
 
-// A turn that took so many turns of a generator of numbers; it stops the reactor where none are
+// A turn that took so many turns of a generator of numbers; it stops the reactor if none are
 // left.
 fn work(turns: u32, left: &mut u32) -> Turn<Member>
     ensures close { result.answer ≡ Answer.Close → IsNotOfMine result.act }

@@ -25,7 +25,7 @@ const STEP_TIMER: (u64, u64) = (10, 10);
 // A reactor over a net that plays what was laid down, whose volumes stay in memory.
 pub(crate) type PlayRows = Rows<PlayNet, MemVolumes<u64>>;
 
-/// A call, or calls one behind another, and what it is to answer.
+/// A call, or calls one after another, and what it is to answer.
 #[derive(Clone, Copy)]
 pub(crate) enum Step {
     /// Registers a handler for reading that answers each input so.
@@ -55,7 +55,7 @@ pub(crate) enum Step {
     /// The same; while it is out, no second one is to be started.
     TurnAlone(u64),
     /// Starts two upcalls, then settles the first and the second, and gives what the journal came
-    /// to behind each.
+    /// to after each.
     TwoTurns(Settled, Settled),
     /// Makes one upcall; while it is out, its handler is removed, which it can be once.
     TurnRemoving(Handle, u64),
@@ -83,7 +83,7 @@ pub(crate) struct Run {
     pub(crate) steps: &'static [Step],
     pub(crate) taken: &'static [Entry<u64>],
     pub(crate) entries: &'static [Entry<u64>],
-    /// The entries behind those.
+    /// The entries after those.
     pub(crate) behind: &'static [Entry<u64>],
 }
 
@@ -156,7 +156,7 @@ enum Turned {
     None,
     /// One alone, of this event.
     One(u64),
-    /// Two, and what the journal came to behind each.
+    /// Two, and what the journal came to after each.
     Two(Settled, Settled),
 }
 
@@ -194,7 +194,7 @@ fn turn_two(core: &mut PlayRows) -> Turned
 }
 
 // Starts the next upcall, takes its handler away while it is out, and settles it. It gives the
-// number of its event, where the handler was taken away once.
+// number of its event, if the handler was taken away once.
 fn turn_removing(core: &mut PlayRows, handle: Handle) -> Option<u64>
     requires { IsIdle play_rows core.old }
     ensures { IsIdle play_rows core.new }
@@ -216,7 +216,7 @@ fn turn_removing(core: &mut PlayRows, handle: Handle) -> Option<u64>
 }
 
 // Starts the next upcall, takes a timer away while it is out, and settles it. It gives the number
-// of its event, where the timer was taken away once.
+// of its event, if the timer was taken away once.
 fn turn_cancelling(core: &mut PlayRows, timer: u64) -> Option<u64>
     requires { IsIdle play_rows core.old }
     ensures { IsIdle play_rows core.new }
@@ -288,7 +288,7 @@ fn serve(core: &mut PlayRows, step: Step) -> bool
     }
 }
 
-// Makes these calls one behind another, up to one that does not answer so, and tells how many did.
+// Makes these calls one after another, up to one that does not answer so, and tells how many did.
 fn play(core: &mut PlayRows, steps: &[Step]) -> usize
     requires { IsIdle play_rows core.old }
     ensures { IsIdle play_rows core.new }

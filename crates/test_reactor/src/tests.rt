@@ -15,7 +15,7 @@ const SECOND: Handle = Handle(1);
 
 const OTHER: Handle = Handle(2);
 
-/// What a registration is told where one handler may live, and lives.
+/// What a registration is told when one handler may live, and lives.
 pub(crate) const FULL_OF_ONE: RegisterRefused = RegisterRefused::Full { live: 1, opened: 1 };
 
 // A handle is ready for reading.

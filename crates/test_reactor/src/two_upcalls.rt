@@ -49,7 +49,7 @@ const UP_TO_THE_END: &[Entry<u64>] = &[
     Entry::Removed { handle: SECOND },
 ];
 
-// What the journal came to behind the first upcall.
+// What the journal came to after the first upcall.
 const BEHIND_FIRST: Settled = Settled {
     entries: 12,
     closed: 1,

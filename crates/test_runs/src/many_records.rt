@@ -47,7 +47,7 @@ pub fn wanted(alloc: Global) -> Result<String, AllocError> {
     Ok(text)
 }
 
-/// Puts the lines that begin so behind a text, in their order.
+/// Puts the lines that begin so after a text, in their order.
 fn put_lines(text: &mut String, lines: &str, beginning: &str) -> Result<(), AllocError> {
     for line in lines.lines() {
         if line.starts_with(beginning) {

@@ -1,5 +1,5 @@
 //! Rows of the generator of scripts and of the summary of a run. They show what no contract says:
-//! that there is an answer where there is memory.
+//! that there is an answer if there is memory.
 
 mod scripts;
 mod summaries;

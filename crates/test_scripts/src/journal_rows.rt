@@ -9,7 +9,7 @@ use std::thread::Threads;
 use std::time::Clock;
 
 /// Words, a script, and the text of the journal of its run. The first script has one connection
-/// with one record; in the second a connection is refused; the third is stopped by a notice behind
+/// with one record; in the second a connection is refused; the third is stopped by a notice after
 /// the first closing; in the fourth a connection is closed as idle before its input is read.
 static JOURNALS: &[(&str, &str, &str)] = &[
     (

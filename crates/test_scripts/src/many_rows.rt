@@ -19,7 +19,7 @@ fn count_lines(text: &[u8]) -> usize {
     text.iter().filter(|byte| **byte == b'\n').count()
 }
 
-/// Runs a script of 80 connections with four workers, where the takes of these numbers fail.
+/// Runs a script of 80 connections with four workers, and the takes of these numbers fail.
 fn run_many<R: Clock + Threads + Wait + Copy + Send + Sync + 'static>(
     rt: &R,
     alloc: Global,

@@ -61,7 +61,7 @@ fn host_of(
 }
 
 /// A run over a host that plays a script: its words, the script, the waits and the attaches that
-/// fail, the status, what is written, and how many entries the journal has where the run fails.
+/// fail, the status, what is written, and how many entries the journal has if the run fails.
 type Hosted<'a> = (
     &'a str,
     &'a str,

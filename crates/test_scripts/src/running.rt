@@ -1,5 +1,5 @@
 //! Runs of the top call. A row gets what a run left without the clauses of that call, and mostly in
-//! the few values that it looks at. Rows share their types of source, sink and volumes where they
+//! the few values that it looks at. Rows share their types of source, sink and volumes if they
 //! can, since the call is built anew for each choice of them.
 use crate::asserts::assert_in;
 use ev_base::{MemSink, MemSource, Sink, Source};
@@ -102,7 +102,7 @@ pub(crate) fn run_line<
     Ok(run_words(rt, alloc, &words, &mut host, input, output, volumes))
 }
 
-/// Runs the words of a line, with a host that refuses to listen and a sink that fails behind so
+/// Runs the words of a line, with a host that refuses to listen and a sink that fails after so
 /// many bytes.
 pub(crate) fn run_short<R: Clock + Threads + Wait + Copy + Send + Sync + 'static>(
     rt: &R,
@@ -168,7 +168,7 @@ pub(crate) fn room_for(
     }
 }
 
-/// Volumes in memory, where the takes of these numbers fail.
+/// Volumes in memory, of which the takes of these numbers fail.
 pub(crate) fn volumes(alloc: Global, fails: &[u64]) -> Result<MemVolumes<ServerNote>, Fail> {
     Ok(MemVolumes::new(alloc, Vec::from_slice(alloc, fails)?))
 }

@@ -7,7 +7,7 @@ use script_text::{ScriptRefused, parse_script};
 const EACH_LINE: &str =
     "open 0\ndata 0 00fF\nat 5\ndata 0 68\nquiet\nshut 0\nat 5\nfail listener\nopen 1\ndata 1 Aa\nat 4294967295\nfail 1\n";
 
-/// Texts, each with the number of its first bad line, or 0 where it is a script.
+/// Texts, each with the number of its first bad line, or 0 if it is a script.
 static TEXTS: [(&str, u64); 64] = [
     ("", 0),
     (EACH_LINE, 0),

@@ -1,5 +1,5 @@
 //! Rows of the words of the commands: lines of words, and the commands that they call. That there
-//! is an answer where there is memory no contract says.
+//! is an answer if there is memory no contract says.
 use crate::asserts::{assert_same, assert_same_in};
 use cmd_line::Command;
 use program_words::{Called, call_of};

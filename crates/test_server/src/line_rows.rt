@@ -60,8 +60,8 @@ fn records_of(alloc: Global, count: u64) -> Result<Records, Fail> {
     Ok(Records::new(records))
 }
 
-/// These records as a connection with this number logs them: with the text of their lines, but
-/// where it is one alone that is short.
+/// These records as a connection with this number logs them: with the text of their lines,
+/// unless it is one alone that is short.
 fn logged_for(alloc: Global, conn: u64, records: &Records) -> Result<LoggedRecords, Fail> {
     let mut gathered = GatheredRecords::new(alloc, 0, 0);
     for entry in records.as_slice() {
@@ -70,7 +70,7 @@ fn logged_for(alloc: Global, conn: u64, records: &Records) -> Result<LoggedRecor
     Ok(LoggedRecords::with_lines(alloc, conn, gathered)?)
 }
 
-/// So many records, as the connection with this number logs them where one is given, and else
+/// So many records, as the connection with this number logs them if one is given, and else
 /// without a text.
 fn logged(alloc: Global, count: u64, conn: Option<u64>) -> Result<LoggedRecords, Fail> {
     let records = records_of(alloc, count)?;
@@ -124,7 +124,7 @@ fn closed(end: EndKind) -> Entry<ServerNote> {
 enum Noted {
     Accepted,
     Opened,
-    /// A turn with so many records, as the connection with this number logs them where one is
+    /// A turn with so many records, as the connection with this number logs them if one is
     /// given, and else without a text.
     Piece(u64, Option<u64>),
     Closed(EndKind),

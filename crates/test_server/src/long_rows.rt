@@ -12,7 +12,7 @@ use std::test::Fail;
 use std::thread::Threads;
 use std::time::Clock;
 
-/// A source of so many bytes, one a read, which repeats one record; behind them it gives one zero
+/// A source of so many bytes, one a read, which repeats one record; after them it gives one zero
 /// byte. It tells how many it gave, and not which.
 #[derive(Drop)]
 struct ByteByByte {
@@ -58,7 +58,7 @@ fn bytes(left: u64) -> ByteByByte {
 /// What is left of a long run of `one`.
 type Long = Left<MemSink, ByteByByte>;
 
-/// Runs `one` on so many bytes, where the takes of these numbers fail.
+/// Runs `one` on so many bytes, and the takes of these numbers fail.
 fn run_long<R: Clock + Threads + Wait + Copy + Send + Sync + 'static>(
     rt: &R,
     alloc: Global,
@@ -120,7 +120,7 @@ fn a_refused_volume_halts_a_long_run(rt: HostRuntime) -> Result<(), Fail> {
     Ok(())
 }
 
-/// Runs a command on many bytes with a sink that fails behind ten bytes, and gives the status with
+/// Runs a command on many bytes with a sink that fails after ten bytes, and gives the status with
 /// its number, how many bytes are not read, and whether these ten bytes were written.
 fn run_broken<R: Clock + Threads + Wait + Copy + Send + Sync + 'static>(
     rt: &R,
@@ -137,7 +137,7 @@ fn run_broken<R: Clock + Threads + Wait + Copy + Send + Sync + 'static>(
 
 #[test]
 fn a_failed_write_halts_a_long_run(rt: HostRuntime) -> Result<(), Fail> {
-    // nothing is read behind the record whose line could not be written
+    // nothing is read after the record whose line could not be written
     let left = run_broken(&rt, rt.alloc(), "one", b"0 1,2 7 LM")?;
     assert_same(&rt, left, (4, 0, (1 << 40) - 30, true));
     Ok(())
@@ -145,7 +145,7 @@ fn a_failed_write_halts_a_long_run(rt: HostRuntime) -> Result<(), Fail> {
 
 #[test]
 fn a_failed_write_ends_a_long_display(rt: HostRuntime) -> Result<(), Fail> {
-    // the tasks are behind the reads by as many records as their lines have room for
+    // the tasks lag the reads by as many records as their lines have room for
     let (status, at, left, is_front) = run_broken(&rt, rt.alloc(), "display", b"1,2 7 LM_D")?;
     assert_same(&rt, (status, at, is_front), (4, 0, true));
     assert!(rt; left > (1 << 40) - 1_000_000);

@@ -20,7 +20,7 @@ use std::time::Clock;
 const MALFORMED: &[u8] = b"0 closed: malformed 0\n";
 
 /// Runs `one` on some pieces, of which the reads of these numbers fail, with a sink that fails
-/// behind so many bytes.
+/// after so many bytes.
 fn run<R: Clock + Threads + Wait + Copy + Send + Sync + 'static>(
     rt: &R,
     alloc: Global,
@@ -162,7 +162,7 @@ fn cutting_does_not_matter(rt: HostRuntime) -> Result<(), Fail> {
     Ok(())
 }
 
-/// Places of a record's bytes, and what is written where the byte is 255.
+/// Places of a record's bytes, and what is written if the byte is 255.
 static CHANGED: &[(usize, &[u8])] = &[
     (0, MALFORMED),
     (1, LINES),
@@ -204,7 +204,7 @@ fn changed_bytes_are_told(rt: HostRuntime) -> Result<(), Fail> {
     Ok(())
 }
 
-/// Sees what is written where a read fails.
+/// Sees what is written when a read fails.
 fn see_failed_read<R: Abort + Clock + Threads + Wait + Copy + Send + Sync + 'static>(
     rt: &R,
     alloc: Global,
@@ -217,7 +217,7 @@ fn see_failed_read<R: Abort + Clock + Threads + Wait + Copy + Send + Sync + 'sta
     Ok(())
 }
 
-/// Sees what is written where the sink fails behind so many bytes.
+/// Sees what is written when the sink fails after so many bytes.
 fn see_failed_write<R: Abort + Clock + Threads + Wait + Copy + Send + Sync + 'static>(
     rt: &R,
     alloc: Global,

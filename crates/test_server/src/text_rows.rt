@@ -20,7 +20,7 @@ const CLOSED: &[u8] =
 /// A run of a command: its input in pieces, what it writes, its status and the number beside it.
 type Row<'a> = (&'a [&'a [u8]], &'a [u8], u8, u64);
 
-/// Runs a command on an input, with a sink that fails behind so many bytes.
+/// Runs a command on an input, with a sink that fails after so many bytes.
 fn run<R: Clock + Threads + Wait + Copy + Send + Sync + 'static>(
     rt: &R,
     alloc: Global,
@@ -177,7 +177,7 @@ fn journals_are_audited(rt: HostRuntime) -> Result<(), Fail> {
     Ok(())
 }
 
-/// Sees what a command writes to a sink that fails behind five bytes.
+/// Sees what a command writes to a sink that fails after five bytes.
 fn see_front<R: Abort + Clock + Threads + Wait + Copy + Send + Sync + 'static>(
     rt: &R,
     alloc: Global,

@@ -22,11 +22,11 @@ pub enum Course {
     GatherAll,
     /// All masks are taken away and given back.
     SetAllMasks,
-    /// One of 100 writes to the second connection fails, behind a wait each.
+    /// One of 100 writes to the second connection fails, after a wait each.
     FindOut,
     /// Another host listens on a port that is free, but not on that of the stand.
     Refuse,
-    /// Where no descriptor is left, accepts fail, and their reports come 100 milliseconds apart at
+    /// If no descriptor is left, accepts fail, and their reports come 100 milliseconds apart at
     /// least.
     Owe,
 }
@@ -214,7 +214,7 @@ fn is_refused(mut host: MioHost<HostRuntime>, alloc: Global, port: u16) -> bool 
     taken == Err(ListenRefused::Failed) && free == Ok(()) && foreign == Err(ListenRefused::Failed)
 }
 
-/// Opens files until no descriptor is left. Nothing, where many more than a process mostly has are
+/// Opens files until no descriptor is left. Nothing, if many more than a process mostly has are
 /// left.
 fn use_up(rt: HostRuntime, alloc: Global) -> Option<Vec<File>> {
     let mut files = Vec::new(alloc);

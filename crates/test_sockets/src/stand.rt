@@ -14,7 +14,7 @@ pub const BOTH: Mask = Mask {
     except: false,
 };
 
-/// What a test says where it can't go on.
+/// What a test says if it can't go on.
 pub fn failed<T>(why: &'static str) -> Result<T, Fail> {
     Err(Fail::from(why))
 }
@@ -85,7 +85,7 @@ impl Stand {
         self.port
     }
 
-    /// Attaches the listener, where its port is known.
+    /// Attaches the listener, if its port is known.
     pub fn watch(&mut self) -> bool {
         self.port > 0 && self.rig.attach(&mut self.listener, 0, Mask::READ)
     }
@@ -99,7 +99,7 @@ impl Stand {
         }
     }
 
-    /// Accepts once, and tells what that gave. A connection has the next number, where there was
+    /// Accepts once, and tells what that gave. A connection has the next number, if there was
     /// memory for it.
     pub fn accept(&mut self) -> Taken<bool> {
         match accept(&mut self.listener) {
@@ -109,7 +109,7 @@ impl Stand {
         }
     }
 
-    /// Accepts a connection, behind waits where none is there yet.
+    /// Accepts a connection, after waits if none is there yet.
     pub fn accept_one(&mut self) -> bool {
         for _ in 0..100 {
             match self.accept() {

@@ -1,4 +1,4 @@
-//! Steps of rows, which are taken one behind the other.
+//! Steps of rows, which are taken one after the other.
 
 use crate::asserts::assert_in;
 use crate::courses::Course;
@@ -14,7 +14,7 @@ pub enum Step {
     Watch,
     /// A peer connects.
     Connect,
-    /// A connection is accepted, behind waits where none is there yet.
+    /// A connection is accepted, after waits if none is there yet.
     AcceptOne,
     /// No connection waits to be accepted.
     AcceptPauses,

@@ -5,7 +5,7 @@ use crate::steps::{Step, take};
 use ev_base::{Got, Kind, Mask, Sent};
 use std::test::Fail;
 
-/// Four reads behind a report give 100 bytes each, and the next pauses.
+/// Four reads after a report give 100 bytes each, and the next pauses.
 static STREAM: &[Step] = &[
     Step::Watch,
     Step::Quiet(0),
@@ -38,7 +38,7 @@ static STREAM: &[Step] = &[
     Step::Read(0, Got::Bytes(100)),
     Step::Holds(8),
     Step::Read(0, Got::Pause),
-    // The end behind a row is reported too.
+    // The end after a row is reported too.
     Step::Sees(1, Kind::Read),
     Step::Read(0, Got::Over),
     Step::Read(0, Got::Over),

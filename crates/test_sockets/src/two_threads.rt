@@ -83,7 +83,7 @@ fn wait_meanwhile(stand: &mut Stand, desk: &Desk) -> bool {
     false
 }
 
-/// Where all bytes were read one more is sent. Then a report comes, which the reader is asked to
+/// When all bytes were read one more is sent. Then a report comes, which the reader is asked to
 /// follow while its mask holds back others, and more bytes come. Tells how many were sent.
 fn turn(stand: &mut Stand, desk: &Desk, sent: u64, more: u64) -> Option<u64> {
     let mut sent = sent;

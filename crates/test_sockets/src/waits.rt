@@ -129,7 +129,7 @@ fn wake_at_each(begun: &AtomicU64, waker: &MioWake) -> u64 {
     woken
 }
 
-/// Makes one wait that is to be woken, and tells when it ended, where that was not by its limit of
+/// Makes one wait that is to be woken, and tells when it ended, if that was not by its limit of
 /// 20 seconds.
 fn woken(stand: &mut Stand, before: u64) -> Option<u64> {
     let now = stand.wait(Some(20_000))?;

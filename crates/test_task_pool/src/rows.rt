@@ -24,7 +24,7 @@ const TWO: &str =
 /// What is written for them, connection after connection.
 const BOTH: &[u8] = b"0 1,2 7 LM_DEBUG: hi\n0 closed: end\n1 1,2 7 LM_DEBUG: hi\n1 closed: end\n";
 
-/// Words, a script, the waits of its net that fail, behind how many bytes the output fails, the
+/// Words, a script, the waits of its net that fail, after how many bytes the output fails, the
 /// status, and what is written.
 type Row<'a> = (&'a str, &'a str, &'a [u64], Option<u64>, u8, &'a [u8]);
 

@@ -10,7 +10,7 @@ abbrev pub without : ℕ → List ℕ → List ℕ
 without e [] = []
 without e (x ∷ xs) = cond (e == x) xs (x ∷ without e xs)
 
--- The events left open by the notes, behind those that were open before.
+-- The events left open by the notes, after those that were open before.
 abbrev pub open_events : List ℕ → List Note → List ℕ
 open_events os [] = os
 open_events os (Begun e ∷ h) = open_events (e ∷ os) h

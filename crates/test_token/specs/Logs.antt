@@ -11,7 +11,7 @@ if_added false e = []
 abbrev pub Adds : Entry → List Entry → List Entry → Type 0
 Adds e old new = (between : List Entry) × (new ≡ (old ++ between) ++ e ∷ [])
 
--- How far the numbers of one writer are counted up in the list, where n of them stood before it.
+-- How far the numbers of one writer are counted up in the list, if n of them stood before it.
 abbrev pub counted : ℕ → ℕ → List Entry → ℕ
 counted by n [] = n
 counted by n (e ∷ es) = counted by (cond (e.by == by && e.seq == n) (n + 1) n) es

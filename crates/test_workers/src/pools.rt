@@ -103,7 +103,7 @@ fn run_many<R: Abort + Wait + Threads + Sync>(
     Ok(seen_of(alloc, HANDLES as u64, ran, pool, root))
 }
 
-// Finds that so many workers start each upcall once, where each member is called again so many
+// Finds that so many workers start each upcall once, if each member is called again so many
 // times, and leave a legal journal.
 fn see_many<R: Abort + Wait + Threads + Sync>(
     rt: &R,
@@ -139,7 +139,7 @@ fn a_long_run_of_eight_workers_leaves_a_legal_journal(rt: HostRuntime) -> Result
     see_many(&rt, rt.alloc(), 8, 1_562)
 }
 
-// Makes so many calls on members as the numbers behind the seed say: suspensions and their ends,
+// Makes so many calls on members as the numbers after the seed say: suspensions and their ends,
 // postings, and now and then a removal.
 fn disturb<R: Wait>(rt: &R, pool: &PlayPool, worker: &mut PlayWorker, seed: u64, calls: u64)
     requires { IsFree pool.now worker.old }
@@ -296,7 +296,7 @@ fn serve<R: Wait>(rt: &R, pool: &PlayPool, root: &mut PlayWorker) -> Option<(u64
     }
 }
 
-// Posts until the ring is full, and once more behind a lead. It tells whether each call answered as
+// Posts until the ring is full, and once more after a lead. It tells whether each call answered as
 // it is to.
 fn fill_ring<R: Wait>(rt: &R, pool: &PlayPool, root: &mut PlayWorker) -> bool
     requires { IsFree pool.now root.old }

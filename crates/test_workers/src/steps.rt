@@ -69,7 +69,7 @@ pub(crate) enum Step {
     Settle(u64),
 }
 
-/// Which steps are taken, and which entries stand in the end, first and rest, where that is said.
+/// Which steps are taken, and which entries stand in the end, first and rest, if that is said.
 #[derive(Clone, Copy)]
 pub(crate) struct Run {
     pub(crate) name: &'static str,
@@ -226,8 +226,8 @@ fn call<R: Wait>(
     }
 }
 
-// Makes these calls one behind another, up to one that does not answer so, and gives its place, or
-// that behind the last one where an upcall was not settled. In the end each was.
+// Makes these calls one after another, up to one that does not answer so, and gives its place, or
+// that after the last one if an upcall was not settled. In the end each was.
 fn play<R: Wait>(
     rt: &R,
     pool: &PlayPool,

@@ -7,7 +7,7 @@ use Rattle.std.specs.Borrow.{Bor}
 abbrev pub parts : ℕ → List ℕ → List (List ℕ)
 parts separator text = slice_split (λ b. b == separator) text
 
--- the parts behind a separator, if there is one
+-- the parts after a separator, if there is one
 abbrev pub parts_behind : ℕ → Option (Bor (List ℕ)) → List (List ℕ)
 parts_behind separator None = []
 parts_behind separator (Some rest) = parts separator rest.now

@@ -3,7 +3,7 @@ ghost use Rattle.std.specs.Prelude.{◌≡◌, ◌∷◌, ◌<◌, length, IfSom
 ghost use Rattle.std.specs.Str.{bytes_eq};
 ghost use Rattle.text_parts.specs.Parts.{parts, parts_behind};
 
-/// What stands before the first separator, and what stands behind it, if there is one.
+/// What stands before the first separator, and what stands after it, if there is one.
 pub fn cut(bytes: &[u8], separator: u8) -> (&[u8], Option<&[u8]>)
     ensures are { parts separator bytes.now ≡ result.0.now ∷ parts_behind separator result.1 }
     ensures shorter { IfSome result.1 (λ rest. length rest.now < length bytes.now) }

@@ -1,4 +1,4 @@
--- What stands behind a place where timers move.
+-- What stands after a place when timers move.
 use Rattle.std.proofs.Common.{ℕ, ◌≡◌, ◌+◌, ◌-◌, ◌<◌, ◌≤◌, List, length, get_or, sym, ap, ◌∙◌, subst}
 use Rattle.std.proofs.Common.{arith}
 use Rattle.std.proofs.lemmas.Bool.Decides.{nat_tests}
@@ -14,7 +14,7 @@ use Rattle.timer_heap.proofs.Removals.{cut, cut_at, length_cut}
 brought_least : (i j k n : ℕ) → n ≤ i → n ≤ j → n ≤ k → n ≤ brought i j k
 brought_least i j k n a b c = grind (arith, nat_tests)
 
--- an exchange of two places behind one
+-- an exchange of two places after one
 pub clear_swap : (handle : ℕ) (slots new : List Timer) (i j from : ℕ) → from ≤ i → from ≤ j
     → i < length slots → j < length slots → new ≡ swap slots i j → IsClear handle slots from
     → IsClear handle new from
@@ -32,7 +32,7 @@ path_before k n (above pos p) =
     let b : k ≤ parent n = path_before k (parent n) p in
     omega arith
 
--- a timer that moves up moves nothing behind it
+-- a timer that moves up moves nothing after it
 pub clear_path : (handle : ℕ) (slots new : List Timer) (from : ℕ) → length new ≡ length slots
     → ((k : ℕ) (d : Timer) → (OnPath k from → ⊥) → get_or new k d ≡ get_or slots k d)
     → IsClear handle slots from → IsClear handle new (from + 1)

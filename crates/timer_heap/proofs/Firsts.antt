@@ -58,7 +58,7 @@ first_deadline-heap t rest heap apart =
     subst (λ v. comes_before t v ≡ true) c.2
     (first_before (t ∷ rest) (suc c.0) u heap (omega arith) (omega (arith, c.1))))
 
--- where the first is not reached, none is
+-- if the first is not reached, none is
 pub none_reached : (now : ℕ) (slots : List Timer) → IsHeap slots
     → ((d : Timer) → now < (get_or slots 0 d).deadline)
     → All (λ u. now < u.deadline) (in_order slots)

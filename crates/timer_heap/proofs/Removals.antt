@@ -74,7 +74,7 @@ module _ (slots : List Timer) (place : ℕ) (l : place < length slots) where
             (heap k d pos (omega arith)))));
       }
 
--- where the place was the last there is a heap
+-- if the place was the last there is a heap
 pub heap_from_around : (slots : List Timer) (place : ℕ) → IsHeapAround slots place
     → length slots ≤ place → IsHeap slots
 heap_from_around slots place h past k d pos l = h.others k d pos l (omega arith) (omega arith)

@@ -92,7 +92,7 @@ sifted_up slots at pos l first h =
           ];
     }
 
--- where the way up ends there is a heap
+-- when the way up ends there is a heap
 pub settled_up : (slots : List Timer) (at : ℕ) → IsHeapBelow slots at
     → ((d : Timer) → 0 < at → comes_before (get_or slots (parent at) d) (get_or slots at d) ≡ true)
     → IsHeap slots
@@ -137,7 +137,7 @@ sifted_down slots at c l pos m child first least h =
           (h.others k d a (omega arith) (omega arith)));
     }
 
--- where the way down ends there is a heap
+-- when the way down ends there is a heap
 pub settled_down : (slots : List Timer) (at : ℕ) → IsHeapAbove slots at
     → ((k : ℕ) (d : Timer) → 0 < k → k < length slots → parent k ≡ at
     → comes_before (get_or slots at d) (get_or slots k d) ≡ true) → IsHeap slots

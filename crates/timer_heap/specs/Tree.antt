@@ -76,7 +76,7 @@ pub record IsIndex (index : List Numbered) (slots : List Timer) (keys : List ℕ
         key = slice_index keys k;
       })
 
--- the place of an entry: that of its key, where a timer of its number stands there
+-- the place of an entry: that of its key, if a timer of its number stands there
 abbrev pub matched : ℕ → ℕ → Option Timer → Option ℕ
 matched place timer None = None
 matched place timer (Some t) = if t.timer == timer then Some place else None

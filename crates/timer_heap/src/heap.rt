@@ -58,7 +58,7 @@ impl HeapTimers {
     pub fn slots(&self) -> &[Timer]
         ensures slots { result.now ≡ self.now.slots }
 
-        // Each timer of the content stands there once, and behind the first place after its parent.
+        // Each timer of the content stands there once, after its parent if it has one.
         ensures content { IsPermutation (in_order self.now.slots) result.now }
         ensures heap { IsHeap result.now }
     {
@@ -128,7 +128,7 @@ impl TimerQueue for HeapTimers {
     }
 
     fn cancel_all(&mut self, handle: Handle) {
-        // From the last place to the first: where a timer is taken out, one from behind takes its
+        // From the last place to the first: when a timer is taken out, a later one takes its
         // place, which is not of this handle, or one from above, which is looked at next.
         let mut end = self.tree.slots.len();
         while end > 0 {

@@ -5,7 +5,7 @@ ghost use Rattle.timer_heap.specs.Tree.{HasKeys, IsIndex};
 use crate::tree::Tree;
 use timer_index::Numbered;
 
-// Makes room for one entry more, where there is none, by forgetting the entries of timers that
+// Makes room for one entry more, if there is none, by forgetting the entries of timers that
 // left.
 pub fn make_room(index: &mut Vec<Numbered>, tree: &Tree)
     requires sound { IsIndex index.old.items tree.now.slots.items tree.now.keys.items }

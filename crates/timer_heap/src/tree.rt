@@ -17,7 +17,7 @@ use timer_queue::Timer;
 pub struct Tree {
     // The heap.
     pub slots: Vec<Timer>,
-    // The key of the timer at each place, and behind those the keys that are free.
+    // The key of the timer at each place, and after those the keys that are free.
     pub keys: Vec<usize>,
     // The place of each key.
     pub places: Vec<usize>,
@@ -156,7 +156,7 @@ impl Tree {
         t
     }
 
-    /// Adds a timer, behind the last and then up.
+    /// Adds a timer, after the last and then up.
     pub(crate) fn add(&mut self, t: Timer)
         requires keyed { HasKeys self.old }
         requires room { length self.old.slots.items < length self.old.keys.items }
@@ -177,7 +177,7 @@ impl Tree {
         self.sift_up(last);
     }
 
-    /// The place of an entry's timer, where the heap has it.
+    /// The place of an entry's timer, if the heap has it.
     pub(crate) fn place_of(&self, entry: &Numbered) -> Option<usize>
         ensures { result ≡ place_in self.now.slots.items self.now.places.items entry.now }
     {

@@ -93,7 +93,7 @@ module _ (t : Timer) (old new : List Timer) (apart : AreApart old) (p : IsPermut
     was_scheduled = any_among (λ u. u.timer == t.timer) t (in_order old)
         ((members_in_order old).there t (same_members.back t (inl refl))) (eq-eqb _ _ refl)
 
-    -- where the first of the heap is taken
+    -- if the first of the heap is taken
     pub in_order-first : ((u : Timer) → Among u new → comes_before t u ≡ true)
         → in_order old ≡ t ∷ in_order new
     in_order-first first =

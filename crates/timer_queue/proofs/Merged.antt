@@ -127,7 +127,7 @@ taken_list (Some t) rs ls new is apart sr sl h =
     ∙ first_list t rs new (subst (λ xs. AreApart (rs ++ xs)) is apart) sr (subst IsSchedule is sl)
     (subst (λ xs. recent_first rs xs ≡ false) is h)
 
--- no timer is due where the first is not
+-- no timer is due if the first is not
 none_from : (now : ℕ) (t : Timer) (all rest : List Timer) → AreApart all → in_order all ≡ t ∷ rest
     → now < t.deadline → All (λ u. now < u.deadline) (in_order all)
 none_from now t all rest apart is lt =
@@ -407,7 +407,7 @@ pub merging_ends : (begun merged left : List Timer) (room spare : ℕ) → left 
 merging_ends begun merged left room spare none m =
     subst (λ xs. IsPermutation begun xs) (ap (λ xs. merged ++ xs) none ∙ append-nil merged) m.timers
 
--- a timer that comes before all of a part behind stands in front of it
+-- a timer that comes before all of a later part stands in front of it
 with_timer-in_front : (t : Timer) (xs ys : List Timer) → list_all (λ u. comes_before t u) ys ≡ true
     → with_timer t (xs ++ ys) ≡ with_timer t xs ++ ys
 with_timer-in_front t [] [] h = refl
@@ -422,14 +422,14 @@ with_timer-in_front t (x ∷ xs) ys h = step (comes_before t x) (with_timer-in_f
     step true e = refl
     step false e = ap (λ us. x ∷ us) e
 
--- the merged timers have the list behind them, and what is left is the recent ones
+-- the merged timers have the list after them, and what is left is the recent ones
 pub passing_room : (begun merged ls rs : List Timer) (room spare : ℕ)
     → IsMerging begun (merged ++ ls) rs (length begun) (length rs) → length begun ≤ room
     → spare + length merged ≡ room → length ls ≤ spare
 passing_room begun merged ls rs room spare m fits is =
     omega (arith, fits, is, m.room_left, length-append merged ls)
 
--- where one of them leaves
+-- if one of them leaves
 module _ (begun whole merged ls rs rest : List Timer) (t : Timer)
     (w : IsMerging begun whole rs (length begun) (length rs)) (parts : merged ++ ls ≡ whole)
     (taken : rs ≡ t ∷ rest) where

@@ -58,7 +58,7 @@ once_at (t ∷ ts) (suc i) (suc j) d h l m e =
     once_at ts i j d (and_parts (not (is_scheduled t.timer ts)) (names_once ts) h).1 (omega arith)
     (omega arith) e
 
--- where the first of a rising list is not reached, none is
+-- if the first of a rising list is not reached, none is
 pub none_due : (now : ℕ) (ts : List Timer) → is_rising ts ≡ true
     → ((d : Timer) → now < (get_or ts 0 d).deadline) → All (λ u. now < u.deadline) ts
 none_due now ts h first zero d m = first d

@@ -18,7 +18,7 @@ use Rattle.timer_queue.proofs.Schedules.{before_trans, with_timer-between, sched
 use Rattle.timer_queue.proofs.Places.{filter_place, rising_at, once_at}
 
 module _ {X : Type 0} where
-  -- a change behind a place, seen from there
+  -- a change after a place, seen from there
   pub insert_behind : (xs : List X) (h j : ℕ) (x : X) → h ≤ length xs
       → drop h (insert xs (h + j) x) ≡ insert (drop h xs) j x
   insert_behind xs zero j x l = let e : 0 + j ≡ j = omega arith in ap (λ n. insert xs n x) e
@@ -109,7 +109,7 @@ rising_parted a xs h i j d l m e = elim (cases_eq i j) [
       (rising_at xs i j d h (omega arith) m))))
 ]
 
--- a timer put in behind those that it does not come before
+-- a timer put in after those that it does not come before
 pub rising_insert : (a : Timer) (xs : List Timer) (p : ℕ) → p ≤ length xs
     → IsPartitionPoint (λ u. not (comes_before a u) ≡ true) (λ u. not (comes_before a u) ≡ false) xs
     p → insert xs p a ≡ with_timer a xs
@@ -153,7 +153,7 @@ remove_numbered number xs p once l at =
     once_apart xs k p d once ne h l (eqb-true _ _ (at d) ∙ sym e))) in
     sym (filter_place q xs p (λ d. ap not (at d)) others l)
 
--- a timer that the last does not come behind stands behind them all
+-- a timer that the last does not come after stands after them all
 pub put_last : (a : Timer) (xs : List Timer) → is_rising xs ≡ true
     → ((d : Timer) → 0 < length xs → comes_before a (get_or xs (length xs - 1) d) ≡ false)
     → insert xs (length xs) a ≡ with_timer a xs
@@ -198,7 +198,7 @@ schedule_front xs ys h = record { rising = rising xs h.rising; once = once xs h.
         (sym (list_any-append (λ u. u.timer == z.timer) zs ys) ∙ not-true _ p.0)).0)
         (once zs p.1)
 
--- the part from a place on comes behind a timer
+-- the part from a place on comes after a timer
 pub all_behind : (p : Timer → Bool) (xs : List Timer) (n : ℕ)
     → AllWithin (λ u. p u ≡ true) xs n (length xs) → list_all p (drop n xs) ≡ true
 all_behind p xs n h =

@@ -75,7 +75,7 @@ schedule_filtered q ts h = record {
   once = once_filtered q ts h.once;
 }
 
--- what stands behind the first timer is a schedule
+-- what stands after the first timer is a schedule
 pub schedule_tail : (t : Timer) (ts : List Timer) → IsSchedule (t ∷ ts) → IsSchedule ts
 schedule_tail t ts h = record {
   rising = (and_parts (list_all (λ u. comes_before t u) ts) (is_rising ts) h.rising).1;

@@ -10,7 +10,7 @@ abbrev pub comes_before : Timer → Timer → Bool
 comes_before a b = nat_lt a.deadline b.deadline
     || (a.deadline == b.deadline && nat_lt a.timer b.timer)
 
--- each timer comes before all those behind it
+-- each timer comes before all those after it
 abbrev pub is_rising : List Timer → Bool
 is_rising [] = true
 is_rising (t ∷ rest) = list_all (λ u. comes_before t u) rest && is_rising rest

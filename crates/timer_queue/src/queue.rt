@@ -20,7 +20,7 @@ pub trait TimerQueue {
     /// How many more timers may be scheduled before `reserve` is called again.
     ghost spare: { Self → ℕ };
 
-    /// Makes at least `n` places spare. It answers `NoMemory` only where fewer were spare, and then
+    /// Makes at least `n` places spare. It answers `NoMemory` only if fewer were spare, and then
     /// all is as before.
     fn reserve(&mut self, n: usize) -> Result<(), NoMemory>
         ensures timers { timers self.new ≡ timers self.old }
@@ -49,7 +49,7 @@ pub trait TimerQueue {
             ≡ spare self.old + length (timers self.old) }
         ensures kept { spare self.old ≤ spare self.new };
 
-    /// The earliest deadline, or `None` where no timer is scheduled.
+    /// The earliest deadline, or `None` if no timer is scheduled.
     fn earliest(&self) -> Option<u64>
         ensures first { result ≡ first_deadline (timers self.now) }
 
@@ -57,7 +57,7 @@ pub trait TimerQueue {
         ensures rising { is_rising (timers self.now) ≡ true }
         ensures once { names_once (timers self.now) ≡ true };
 
-    /// Takes out the first timer whose deadline is at most `now`, or answers `None` where there is
+    /// Takes out the first timer whose deadline is at most `now`, or answers `None` if there is
     /// none.
     fn pop_due(&mut self, now: u64) -> Option<Timer>
         ensures taken { IfSome result (λ t. timers self.old ≡ t ∷ timers self.new) }

@@ -11,7 +11,7 @@ use ev_types::{Handle, NoMemory};
 use std::alloc::Global;
 use std::marker::Model;
 
-/// A timer queue that is one sorted row: a place is found by bisection, and what stands behind it
+/// A timer queue that is one sorted row: a place is found by bisection, and what stands after it
 /// moves. A timer that comes due last is put in, and the first taken out, without moving any other.
 #[derive(Drop)]
 pub struct Row {
@@ -84,7 +84,7 @@ impl Row {
         self.timers.get(self.head).copied()
     }
 
-    /// Takes those out that this timer does not come before, and puts them behind the timers of
+    /// Takes those out that this timer does not come before, and puts them after the timers of
     /// another row.
     pub fn pass_before(&mut self, t: &Timer, to: &mut Row)
         requires order { IsSchedule (to.old.timers ++ self.old.timers) }
@@ -101,7 +101,7 @@ impl Row {
         self.head = end;
     }
 
-    /// Takes all timers out, and puts them behind the timers of another row.
+    /// Takes all timers out, and puts them after the timers of another row.
     pub fn pass_all(&mut self, to: &mut Row)
         requires order { IsSchedule (to.old.timers ++ self.old.timers) }
         requires room { length self.old.timers ≤ to.old.spare }
@@ -116,7 +116,7 @@ impl Row {
         self.head = 0;
     }
 
-    // Puts these behind its timers.
+    // Puts these after its timers.
     fn append(&mut self, run: &[Timer])
         requires order { IsSchedule (self.old.timers ++ run.now) }
         requires room { length run.now ≤ self.old.spare }
@@ -201,7 +201,7 @@ fn close_up(timers: &mut Vec<Timer>, head: usize)
     timers.truncate(held);
 }
 
-// Makes so many places behind the timers from `head` on. The answer is where these begin.
+// Makes so many places after the timers from `head` on. The answer is where these begin.
 fn make_places(timers: &mut Vec<Timer>, head: usize, count: usize) -> usize
     requires within { head ≤ length timers.old.items }
     requires room { length timers.old.items - head + count ≤ vec_capacity timers.old }
@@ -275,7 +275,7 @@ fn pull_back(timers: &mut [Timer], head: usize, place: usize)
 }
 
 // Takes the timer at a place from `head` on out, and moves the fewer of those before it and those
-// behind it. The answer is where the rest begins.
+// after it. The answer is where the rest begins.
 fn take_at(timers: &mut Vec<Timer>, head: usize, place: usize) -> usize
     requires { head + place < length timers.old.items }
     ensures items { drop result timers.new.items ≡ remove (drop head timers.old.items) place }

@@ -15,7 +15,7 @@ use std::mem;
 const RECENT: usize = 1_024;
 
 /// A timer queue that is a sorted list. Timers that were scheduled last stand in a short row of
-/// their own, so that few move where one is put in; where that is full, both are put together.
+/// their own, so that few move when one is put in; when that is full, both are put together.
 #[derive(Drop)]
 pub struct SortedTimers {
     list: Row,

@@ -60,7 +60,7 @@ module _ (spokes resolution : ℕ) where
       let y = among_filter (in_spoke o) t ys b in
       ne (sym (eqb-true _ _ y.1) ∙ eqb-true _ _ x.1)
 
-  -- the chains of the other spokes, where one is changed
+  -- the chains of the other spokes, when one is changed
   others_stay : (heads : List (Option ℕ)) (places new : List Place) (timers : List Timer) (s : ℕ)
       (front back : List Timer) (last to : Option ℕ)
       → of_spoke spokes resolution s timers ≡ front ++ back
@@ -361,7 +361,7 @@ stays_there xs i k d ne l =
     slice_get-take (set xs i (get_or xs (length xs - 1) d)) (length xs - 1) k (omega arith)
     ∙ slice_get-set xs i k (get_or xs (length xs - 1) d) ne
 
--- where the last place goes, every other stays
+-- if the last place goes, every other stays
 pub chains_cut : (spokes resolution : ℕ) (heads : List (Option ℕ)) (places new : List Place)
     (timers : List Timer) → new ≡ take (length places - 1) places
     → ((p : Place) → slice_get places (length places - 1) ≡ Some p → Among p.timer timers → ⊥)

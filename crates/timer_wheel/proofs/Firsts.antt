@@ -130,7 +130,7 @@ earliest_first xs (Some f) apart h =
           ]
         ]
 
--- where another timer leaves the first stays
+-- if another timer leaves the first stays
 pub first_of-without : (number : ℕ) (timers : List Timer)
     → ((f : Timer) → first_of timers ≡ Some f → f.timer ≢ number)
     → first_of (without_timer number timers) ≡ first_of timers
@@ -378,7 +378,7 @@ module _ (spokes resolution : ℕ) (heads new_heads : List (Option ℕ)) (places
     earliest = e;
   }
 
-  -- where another timer was the first
+  -- if another timer was the first
   pub first_stays : ((f : Timer) → first ≡ Some f → f.timer ≢ t.timer)
       → first ≡ first_of (in_order (timers_of new))
   first_stays other =

@@ -1,4 +1,4 @@
--- Timers that come forward where one is taken out.
+-- Timers that come forward when one is taken out.
 use Rattle.std.proofs.Common.{ℕ, ◌≡◌, ◌≢◌, ◌+◌, ◌-◌, ◌<◌, ◌≤◌, List, ◌∷◌, length, get_or, set, take}
 use Rattle.std.proofs.Common.{refl, sym, ap, ◌∙◌, arith, ◌⊎◌, inl, inr, Option, Some}
 use Rattle.std.proofs.lemmas.Bool.{cases_eq}
@@ -83,7 +83,7 @@ forward_filled places new last to hole d l is =
       refl,
     )
 
--- where a timer leaves the last clear place, those from its place on are clear
+-- if a timer leaves the last clear place, those from its place on are clear
 pub clear_taken : (handle : ℕ) (places new : List Place) (from : ℕ) (t : Timer) (p : Place)
     → AreApart (timers_of places) → slice_get places from ≡ Some p → p.timer ≡ t
     → IsPermutation (timers_of places) (t ∷ timers_of new) → ComesForward places new

@@ -1,4 +1,4 @@
--- A way that begins behind a place of the chain.
+-- A way that begins after a place of the chain.
 use Rattle.std.proofs.Common.{ℕ, ◌≡◌, ◌≢◌, ◌<◌, ◌≤◌, ◌==◌, Bool, true, Contains, length, get_or}
 use Rattle.std.proofs.Common.{List, [], ◌∷◌, refl, sym, ap, ◌∙◌, subst, inl, inr, Option, Some}
 use Rattle.std.proofs.Common.{None}
@@ -61,14 +61,14 @@ walk_behind places t k p apart e first at (u ∷ rest) f rising (inr a) =
       follows = w.follows;
     }
 
--- what is known of a place to begin behind: its timer stands in the spoke of t and comes before it
+-- what is known of a place to begin after: its timer stands in the spoke of t and comes before it
 abbrev pub IsFound : ℕ → ℕ → ℕ → List Place → Timer → Option ℕ → Type 0
 IsFound spokes resolution hole places t start =
     (k : ℕ) (p : Place) → start ≡ Some k → slice_get places k ≡ Some p → (k ≢ hole)
     × (spoke_of spokes resolution p.timer.deadline ≡ spoke_of spokes resolution t.deadline)
     × (comes_before p.timer t ≡ true)
 
--- a place of the spoke is one to begin behind
+-- a place of the spoke is one to begin after
 pub start_in_spoke : (spokes resolution s hole : ℕ) (places : List Place) (timers : List Timer)
     (t : Timer) (start : Option ℕ) → s ≡ spoke_of spokes resolution t.deadline
     → IsFound spokes resolution hole places t start

@@ -1,4 +1,4 @@
--- The timers of one spoke, where the whole list gains or loses a timer.
+-- The timers of one spoke, when the whole list gains or loses a timer.
 use Rattle.std.proofs.Common.{◌≡◌, ◌≢◌, ◌==◌, Bool, true, false, not, List, [], ◌∷◌, ◌++◌, refl}
 use Rattle.std.proofs.Common.{sym, ap, ◌∙◌, subst, ◌⊎◌, inl, inr}
 use Rattle.std.proofs.lemmas.Bool.{and_parts, and_from, or_parts, not-true, both_ways, cases_Bool}

@@ -82,7 +82,7 @@ module _ (heads : List (Option ℕ)) (places : List Place) (resolution : ℕ) (t
   module _ (tick turn s : ℕ) (l : s < length heads) (is : s ≡ (tick + turn) % length heads)
       (later : (u : Timer) → Among u (timers_of places) → tick + turn ≤ u.deadline / resolution)
     where
-      -- where one has this tick the head of the spoke has it
+      -- if one has this tick the head of the spoke has it
       head_has : (u : Timer) → Among u (timers_of places) → u.deadline / resolution ≡ tick + turn
           → (v : Timer) × (head_timer places (get_or heads s None) ≡ v ∷ [])
           × ((v ≡ u) ⊎ (comes_before v u ≡ true)) × (v.deadline / resolution ≡ tick + turn)
@@ -179,11 +179,11 @@ module _ (heads : List (Option ℕ)) (places : List Place) (resolution : ℕ) (t
       found_none None e none = next_tick (sym e)
       found_none (Some t) e none = absurd (cc)
 
--- the spoke behind a spoke
+-- the spoke after a spoke
 pub next_spoke : (at n spokes : ℕ) → at ≡ n % spokes → (at + 1) % spokes ≡ (n + 1) % spokes
 next_spoke at n spokes is = ap (λ m. (m + 1) % spokes) is ∙ mod-add-mod n spokes 1
 
--- where the first leaves no other comes due sooner
+-- if the first leaves no other comes due sooner
 pub none_sooner : (spokes resolution : ℕ) (heads : List (Option ℕ)) (places new : List Place)
     (first : Option Timer) (t : Timer) → IsWheel spokes resolution heads places first
     → IsPermutation (timers_of places) (t ∷ timers_of new) → Contains (timers_of places) t

@@ -141,7 +141,7 @@ gap_full places head t timers last at n w len few =
       ap length w.whole,
     )))
 
--- where the timer is one of the chain, the way ends before it
+-- if the timer is one of the chain, the way ends before it
 pub gap_holds : (places : List Place) (head : Option ℕ) (t : Timer) (timers : List Timer)
     (last at : Option ℕ) → (g : IsGap places head t timers last at) → is_rising timers ≡ true
     → Among t timers → (rest : List Timer) × (g.way.back ≡ t ∷ rest)

@@ -33,12 +33,12 @@ pub record Walked (places : List Place) (head : Option ℕ) (t : Timer) (timers 
   pub reaches : Reaches places head front at
   pub follows : Follows places at back
 
--- where there is a place to begin behind, its timer is one of these and comes before t
+-- if there is a place to begin after, its timer is one of these and comes before t
 abbrev pub IsStart : List Place → List Timer → Timer → Option ℕ → Type 0
 IsStart places timers t start = (k : ℕ) (p : Place) → start ≡ Some k → slice_get places k ≡ Some p
     → Contains timers p.timer × (comes_before p.timer t ≡ true)
 
--- the gap of t in a chain: all in front of it come before t, and none behind it does
+-- the gap of t in a chain: all in front of it come before t, and none after it does
 pub record IsGap (places : List Place) (head : Option ℕ) (t : Timer) (timers : List Timer)
     (last at : Option ℕ) : Type 0 where
   pub way : Walked places head t timers last at
@@ -53,7 +53,7 @@ first_of (t ∷ rest) = Some t
 abbrev pub IsEarliest : List Place → Option Timer → Type 0
 IsEarliest places first = first ≡ first_of (in_order (timers_of places))
 
--- where the chain is changed behind the place `last`, or at its head: the heads and the places then
+-- when the chain is changed after the place `last`, or at its head: the heads and the places then
 abbrev pub linked_heads : List (Option ℕ) → ℕ → Option ℕ → Option ℕ → List (Option ℕ)
 linked_heads heads spoke None to = slice_set heads spoke to
 linked_heads heads spoke (Some q) to = heads
@@ -116,12 +116,12 @@ abbrev pub heads_of : List Place → List (Option ℕ) → List Timer
 heads_of places [] = []
 heads_of places (h ∷ rest) = head_timer places h ++ heads_of places rest
 
--- the first, where those at a head are looked at too
+-- the first, if those at a head are looked at too
 abbrev pub earlier_at : Option Timer → List Timer → Option Timer
 earlier_at first [] = first
 earlier_at first (t ∷ rest) = earlier_of first t
 
--- the timer at a head, where its tick is so many after another
+-- the timer at a head, if its tick is so many after another
 abbrev pub in_tick : ℕ → ℕ → ℕ → List Timer → Option Timer
 in_tick resolution tick turn [] = None
 in_tick resolution tick turn (t ∷ rest) =

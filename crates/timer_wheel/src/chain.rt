@@ -39,7 +39,7 @@ pub struct Chains {
 pub struct Gap {
     // The last place whose timer comes before it.
     pub last: Option<usize>,
-    // The place behind that.
+    // The place after that.
     pub at: Option<usize>,
 }
 
@@ -53,7 +53,7 @@ pub fn spoke(spokes: usize, resolution: u64, deadline: u64) -> usize
     ((deadline / resolution) % spokes as u64) as usize
 }
 
-// Where the way to a timer begins: behind a place whose timer comes before it, or at the head of
+// Where the way to a timer begins: after a place whose timer comes before it, or at the head of
 // the chain.
 fn start_of(places: &[Place], head: Option<usize>, start: Option<usize>) -> Gap
     requires { AreApart (timers_of places.now) }
@@ -129,7 +129,7 @@ impl Chains {
         })
     }
 
-    // Has the place `last`, or where there is none the spoke's head, lead to this place.
+    // Has the place `last`, or if there is none the spoke's head, lead to this place.
     fn link(&mut self, spoke: usize, last: Option<usize>, to: Option<usize>)
         requires { spoke < length self.old.heads.items }
         ensures heads { self.new.heads.items ≡ linked_heads self.old.heads.items spoke last to }
@@ -168,7 +168,7 @@ impl Chains {
         name_place(&mut self.hints, self.resolution, &t, place);
     }
 
-    // The timer of an entry, where it is there. It is looked for in the chain of its spoke, from a
+    // The timer of an entry, if it is there. It is looked for in the chain of its spoke, from a
     // hint on.
     pub fn find(&self, entry: Numbered) -> Option<Timer>
         requires { AreChains self.now }

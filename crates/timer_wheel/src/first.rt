@@ -46,7 +46,7 @@ fn first_of_places(places: &[Place]) -> Option<Timer>
     Some(*first)
 }
 
-// The one that comes first, where the timer at a head is looked at too.
+// The one that comes first, if the timer at a head is looked at too.
 fn earlier_at(places: &[Place], first: Option<Timer>, head: Option<usize>) -> Option<Timer>
     ensures { result ≡ earlier_at first (head_timer places.now head) }
 {
@@ -59,7 +59,7 @@ fn earlier_at(places: &[Place], first: Option<Timer>, head: Option<usize>) -> Op
     earlier(first, place.timer)
 }
 
-// The timer at a head, where its tick is this many after another.
+// The timer at a head, if its tick is this many after another.
 fn head_of_tick(
     places: &[Place],
     head: Option<usize>,
@@ -78,7 +78,7 @@ fn head_of_tick(
     }
 }
 
-// How many ticks are tried before all timers are looked at: none where there are few timers, and no
+// How many ticks are tried before all timers are looked at: none if there are few timers, and no
 // more than a turn of the wheel.
 fn ticks_to_try(spokes: usize, timers: usize) -> usize {
     if timers < spokes / 2 {
@@ -113,8 +113,8 @@ impl Chains {
         }
     }
 
-    // The first of the timers, where none comes due before `from`. It is sought tick by tick from
-    // that moment on, and behind a turn of the wheel, or sooner where there are few timers, among
+    // The first of the timers, if none comes due before `from`. It is sought tick by tick from
+    // that moment on, and after a turn of the wheel, or sooner if there are few timers, among
     // all.
     pub fn next_from(&self, from: u64) -> Option<Timer>
         requires from { All (λ (t : Timer). from ≤ t.deadline) (timers_in self.now) }

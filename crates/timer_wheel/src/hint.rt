@@ -30,7 +30,7 @@ fn is_near(places: &[Place], head: Option<usize>, t: &Timer) -> bool {
     false
 }
 
-// The hint of a tick, where there are hints.
+// The hint of a tick, if there are hints.
 fn hint_of(hints: &[usize], tick: u64) -> Option<usize> {
     if hints.is_empty() {
         return None;
@@ -62,7 +62,7 @@ fn is_start(
 }
 
 impl Chains {
-    // A place but `hole` whose timer stands in the spoke of this one and comes before it, where a
+    // A place but `hole` whose timer stands in the spoke of this one and comes before it, if a
     // hint names one and the head is not near.
     pub fn start_for(&self, head: Option<usize>, t: &Timer, hole: usize) -> Option<usize>
         requires spokes { 0 < length self.now.heads.items }

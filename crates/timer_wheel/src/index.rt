@@ -36,7 +36,7 @@ fn renew(index: &mut Vec<Numbered>, places: &[Place])
     sort(index);
 }
 
-// Enters one timer more. Where there is no room, the entries of timers that left are forgotten.
+// Enters one timer more. If there is no room, the entries of timers that left are forgotten.
 pub fn enter(index: &mut Vec<Numbered>, places: &[Place], t: &Timer)
     requires rising { IsRising index.old.items }
     requires covers { Covers index.old.items (timers_of places.now) }

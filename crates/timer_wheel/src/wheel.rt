@@ -142,7 +142,7 @@ impl<const SPOKES: usize> TimerQueue for WheelTimers<SPOKES> {
     }
 
     fn cancel_all(&mut self, handle: Handle) {
-        // From the last place to the first: where a timer is taken out the last comes in its place,
+        // From the last place to the first: when a timer is taken out the last comes in its place,
         // which is not of this handle.
         let mut end = self.chains.places.len();
         while end > 0 {
@@ -168,7 +168,7 @@ impl<const SPOKES: usize> TimerQueue for WheelTimers<SPOKES> {
     }
 }
 
-// Takes a timer out, and looks for the first anew where it was the first.
+// Takes a timer out, and looks for the first anew if it was the first.
 fn remove(chains: &mut Chains, first: &mut Option<Timer>, t: Timer)
     requires wheel { IsWheel (length chains.old.heads.items) chains.old.resolution
         chains.old.heads.items chains.old.places.items first.old }

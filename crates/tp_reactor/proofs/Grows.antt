@@ -138,7 +138,7 @@ module _ {H M Q W V N E : Type 0} (m : Meaning H M Q W V N E) where
     settled_idle : w.mine ≡ None
     settled_idle = ap (λ (x : View (Entry N) DeskTerms). x.mine) d.leaves.view
 
-    -- as many as were asked for were closed, where a notice was posted
+    -- as many as were asked for were closed, if a notice was posted
     closed_now : (until : Option (ℕ × Handle)) (p s : RingView) → PostsNotice until settled p s
         → HasClosed until w.seen
     closed_now until p s post =
@@ -266,7 +266,7 @@ module _ {H M Q W V N E : Type 0} (m : Meaning H M Q W V N E) where
       ap (λ (es : List Ended). total (λ (e : Ended). length e.posted) es) runs_grow.ended,
     ))
 
-  -- ---- what is left to do behind an Over
+  -- ---- what is left to do after an Over
 
   rests_behind : (v w : View (Entry N) DeskTerms) (most : Option ℕ) → IsLed m v most led.Over w
       → v.mine ≡ None → v.root ≡ true → v.children ≡ 0 → IsAtRest w.seen

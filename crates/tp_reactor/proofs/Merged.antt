@@ -101,7 +101,7 @@ module _ (p : Posting → Bool) where
       (omega (arith, made)) in
       all_front p drainer.got m.got.0 m.all m.got.1 (all_of_places p m.all each)
 
--- ---- where no posting was made
+-- ---- if no posting was made
 
 none_posted : (xs : List Posting) → length xs ≤ 0 → list_all (λ (x : Posting). false) xs ≡ true
 none_posted [] le = refl

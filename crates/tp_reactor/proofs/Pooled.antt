@@ -38,7 +38,7 @@ use Rattle.tp_reactor.proofs.Grows.{runs_tell, ends_with_over, tells_before}
 
 -- ---- a dismissal
 
--- the root behind the dismissal of one
+-- the root after the dismissal of one
 abbrev pub behind : {N : Type 0} → WorkerEnd N → WorkerEnd N → WorkerEnd N
 behind root x = record {
   ran = first_ran root.ran x.ran;
@@ -129,7 +129,7 @@ fault_first : {N : Type 0} (v w : View (Entry N) DeskTerms) (a b : Ran) → Tell
 fault_first v w a b p q = either (λ r. TellsFault v r w) (nat_le (rank a) (rank b)) a b p q
 
 module _ {N : Type 0} where
-  -- what holds of the root before and behind so many
+  -- what holds of the root before and after so many
   pub record Left (root left : WorkerEnd N) (many : ℕ) : Type 0 where
     pub terms : left.known.terms ≡ root.known.terms
     pub root_still : left.known.root ≡ root.known.root
@@ -171,7 +171,7 @@ module _ {N : Type 0} where
   dismisses_left root left (x ∷ xs) d =
       left_then root x left (length xs) d.0 (dismisses_left (behind root x) left xs d.1)
 
--- behind the dismissals of workers that a root with view v and postings p hired
+-- after the dismissals of workers that a root with view v and postings p hired
 module _ {H M Q W V N E : Type 0} (m : Meaning H M Q W V N E) (most : Option ℕ)
     (until : Option (ℕ × Handle)) (v : View (Entry N) DeskTerms) (p : RingView) where
   -- what the answer that goes first tells of faults
@@ -194,7 +194,7 @@ module _ {H M Q W V N E : Type 0} (m : Meaning H M Q W V N E) (most : Option ℕ
       dismisses_fault (behind root x) left xs (many + 1) d.1 runs.1
       (fault_first v (joined root.known x.known) root.ran x.ran mine theirs)
 
-  -- where one of them made a posting, as many were closed as were asked for
+  -- if one of them made a posting, as many were closed as were asked for
   pub dismisses_post : (root left : WorkerEnd N) (hired : List (WorkerEnd N)) (many : ℕ)
       → Dismisses root hired left → AllRun m most until v p many hired
       → known_postings root.posted < known_postings left.posted → HasClosed until left.known.seen
@@ -213,7 +213,7 @@ module _ {H M Q W V N E : Type 0} (m : Meaning H M Q W V N E) (most : Option ℕ
 
   -- ---- the end of a pool
 
-  -- behind the dismissals the root went on, or did not
+  -- after the dismissals the root went on, or did not
   pub record GoesOn (left end : WorkerEnd N) : Type 0 where
     pub grows : Grows left.known end.known left.posted end.posted
     pub tells : TellsFault v left.ran left.known → left.known.terms ≡ v.terms

@@ -59,7 +59,7 @@ abbrev pub GoesTo : {H M Q W V N E : Type 0} → Meaning H M Q W V N E → DeskT
 GoesTo m q most history list = LeadsTo m q most history led.Quiet list
     ⊎ ServesTo m q most history list
 
--- so many rounds, one directly behind another
+-- so many rounds, one directly after another
 abbrev pub RoundsTo : {H M Q W V N E : Type 0} → Meaning H M Q W V N E → DeskTerms → Option ℕ → ℕ
     → List (Entry N) → List (Entry N) → Type 0
 RoundsTo m q most zero history list = list ≡ history

@@ -45,7 +45,7 @@ abbrev pub entries_asked : {A X N : Type 0} → (A → Entry N) → Result A X �
 entries_asked e (Ok a) = e a ∷ []
 entries_asked e (Err refused) = []
 
--- The request was answered on the history: its entry is there where it was met, C is its cause, and
+-- The request was answered on the history: its entry is there if it was met, C is its cause, and
 -- R what it leaves of the core.
 pub record Asks {H M Q W V N E A X : Type 0} (e : Summary → A → Entry N) (result : Result A X)
     (C : Summary → Result A X → Type 0)

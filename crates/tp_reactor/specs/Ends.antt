@@ -20,7 +20,7 @@ use Rattle.reactor_core.specs.laws_turns.specs.Opens.{opens_of}
 use Rattle.reactor_desk.specs.declared.terms.DeskTerms.{DeskTerms}
 
 -- A core may be shared: it stands for a history with no open event and no notification, of which it
--- handed nothing over or at least as many entries as a volume has, and where the terms have
+-- handed nothing over or at least as many entries as a volume has, and if the terms have
 -- `by_turn`, it is the length of the history, and the reactor was not stopped.
 pub record MayShare {H M Q W V N E : Type 0} (m : Meaning H M Q W V N E) (t : Terms)
     (h : List (Entry N)) (core : Core H M Q W V N E) : Type 0 where
@@ -47,7 +47,7 @@ pub record IsRoot {N : Type 0} (t : Terms) (h : List (Entry N)) (marks : List â„
 
 -- The core at the end, as the root with view v and postings p knows it: it stands, with its
 -- drainer, for what the root has seen, in which no event is open but the root's own; no mark is
--- below the root's; and the postings of all workers are numbered one behind another, and the
+-- below the root's; and the postings of all workers are numbered one after another, and the
 -- drained ones are the first of them.
 pub record IsClosed {H M Q W V N E : Type 0} (m : Meaning H M Q W V N E)
     (v : View (Entry N) DeskTerms) (p : RingView) (core : Core H M Q W V N E) : Type 0 where

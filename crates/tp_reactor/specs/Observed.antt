@@ -125,7 +125,7 @@ AllObserved m observes most until v p many (before ∷ befores) (x ∷ xs) (afte
     × AllObserved m observes most until v p (many + 1) befores xs afters
 AllObserved m observes most until v p many _ _ _ = ⊥
 
--- The root goes on alone where each left with Over, with the observer that it has then.
+-- The root goes on alone if each left with Over, with the observer that it has then.
 abbrev pub EndsObserved : {H M Q W V N E O : Type 0} → Meaning H M Q W V N E
     → (O → Done H N E → O → Type 0) → Option ℕ → Option (ℕ × Handle) → Ran → WorkerEnd N → O
     → WorkerEnd N → O → Type 0

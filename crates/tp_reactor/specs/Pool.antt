@@ -52,7 +52,7 @@ AllRun m most until v p many (x ∷ xs) =
 abbrev pub BothSeen : {N : Type 0} → View (Entry N) DeskTerms → View (Entry N) DeskTerms → Type 0
 BothSeen v w = Begins v.seen (joined v w).seen × Begins w.seen (joined v w).seen
 
--- The root, with the answer that goes first so far, dismissed these workers one behind another.
+-- The root, with the answer that goes first so far, dismissed these workers one after another.
 abbrev pub Dismisses : {N : Type 0} → WorkerEnd N → List (WorkerEnd N) → WorkerEnd N → Type 0
 Dismisses root [] left = left ≡ root
 Dismisses root (x ∷ xs) left = BothSeen root.known x.known
@@ -62,7 +62,7 @@ Dismisses root (x ∷ xs) left = BothSeen root.known x.known
       posted = ring.joined root.posted x.posted;
     }) xs left
 
--- Where each left with Over the root goes on alone, with the answer of its loop; else the answer is
+-- If each left with Over the root goes on alone, with the answer of its loop; else the answer is
 -- the one that goes first.
 abbrev pub EndsPool : {H M Q W V N E : Type 0} → Meaning H M Q W V N E → Option ℕ
     → Option (ℕ × Handle) → Ran → WorkerEnd N → WorkerEnd N → Type 0
@@ -97,7 +97,7 @@ pub record IsAtRest {N : Type 0} (list : List (Entry N)) : Type 0 where
   pub none : HasNoPick (past_of list)
 
 -- The last lead of a root that knew v at first, and knows w in the end, answered Over, with as many
--- other workers as at first. Where there were none, nothing is left to start or to settle.
+-- other workers as at first. If there were none, nothing is left to start or to settle.
 pub record EndsWithOver {H M Q W V N E : Type 0} (m : Meaning H M Q W V N E) (most : Option ℕ)
     (v w : View (Entry N) DeskTerms) : Type 0 where
   pub last : View (Entry N) DeskTerms

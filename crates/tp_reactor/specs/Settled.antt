@@ -35,7 +35,7 @@ pub record SettlesAndLeads {H M Q W V N E : Type 0} (m : Meaning H M Q W V N E)
   pub settles : HasSettled m v done settled between
   pub leads : IsLed m between most led w
 
--- It was settled, and where a lead is told that was made in the same hold.
+-- It was settled, and a lead that is told was made in the same hold.
 abbrev pub SettlesOn : {H M Q W V N E : Type 0} → Meaning H M Q W V N E → View (Entry N) DeskTerms
     → Done H N E → Settled → Option ℕ → Option (Led H N E) → View (Entry N) DeskTerms → Type 0
 SettlesOn m v done settled most None w = HasSettled m v done settled w

@@ -30,7 +30,7 @@ module _ {H M Q W V N E : Type 0} {kept : Keeping (Desk H M Q W V N E) (Entry N)
       record { ran = answer; known = known_by worker; posted = poster_view (poster_of worker) }
 
   -- What a run with n workers came to, with this answer. One worker makes one loop, entry by entry
-  -- where it was alone; more are a pool, or were not hired for want of memory. With Over the last
+  -- if it was alone; more are a pool, or were not hired for want of memory. With Over the last
   -- lead answered so. The answer tells by the marks of the root. A notice is posted only once as
   -- many handlers as were asked for were closed or refused.
   pub record RunsWorkers (m : Meaning H M Q W V N E) (n : ℕ) (most : Option ℕ)
@@ -50,7 +50,7 @@ module _ {H M Q W V N E : Type 0} {kept : Keeping (Desk H M Q W V N E) (Entry N)
         < known_postings (poster_view (poster_of new)) → HasClosed until (known_by new).seen
 
   -- A root may run its reactor with n workers: as many more may be made, it has nothing open, and
-  -- it may post once where a notice is asked for.
+  -- it may post once if a notice is asked for.
   pub record MayRun (root : Worker H M Q W V N E kept) (n : ℕ) (most : Option ℕ)
       (until : Option (ℕ × Handle)) : Type 0 where
     pub many : 1 ≤ n

@@ -48,7 +48,7 @@ rank ran.Over = 5
 abbrev pub first_ran : Ran → Ran → Ran
 first_ran a b = if nat_le (rank a) (rank b) then a else b
 
--- A notice is posted only where a number of closings was asked for, as many handlers were closed or
+-- A notice is posted only if a number of closings was asked for, as many handlers were closed or
 -- refused, and the reactor was not stopped.
 pub record PostsNotice (until : Option (ℕ × Handle)) (settled : Settled) (p s : RingView) : Type 0
   where
@@ -112,7 +112,7 @@ abbrev pub Round : {H M Q W V N E : Type 0} → Meaning H M Q W V N E → Option
     → View (Entry N) DeskTerms → RingView → View (Entry N) DeskTerms → RingView → Type 0
 Round m most until v p w s = LeadsToNone m most v p w s ⊎ Serves m most until v p w s
 
--- so many rounds, one behind another
+-- so many rounds, one after another
 abbrev pub Rounds : {H M Q W V N E : Type 0} → Meaning H M Q W V N E → Option ℕ
     → Option (ℕ × Handle) → ℕ → View (Entry N) DeskTerms → RingView → View (Entry N) DeskTerms
     → RingView → Type 0

@@ -106,7 +106,7 @@ impl<
         answer
     }
 
-    /// Registers a handler (`Core::register`), with the reports that it wants and, where one is
+    /// Registers a handler (`Core::register`), with the reports that it wants and, if one is
     /// given, a timer: its first delay, from 1 to 4,294,967,295 milliseconds, and its period, 0 for
     /// once. With each refusal, which are those of that call, it comes back.
     pub fn register<R: Wait>(
@@ -130,7 +130,7 @@ impl<
         answer
     }
 
-    /// Removes a handler (`Core::remove`). It takes no memory. `NotLive` comes exactly where the
+    /// Removes a handler (`Core::remove`). It takes no memory. `NotLive` comes exactly if the
     /// handle is not alive.
     pub fn remove<R: Wait>(
         &self,

@@ -41,7 +41,7 @@ impl<
     K: Wake,
 > Reactor<H, M, Q, W, V, K> {
     /// Leads once (POSA2, Leader/Followers; ACE's `handle_events` of `ACE_TP_Reactor`): gets the
-    /// token, hands a volume over where one is due, drains the notifications, and starts the next
+    /// token, hands a volume over if one is due, drains the notifications, and starts the next
     /// upcall, or waits at the net and looks again. A job that it answers is to be run and settled;
     /// meanwhile the token is free.
     pub fn lead<R: Wait>(
@@ -69,7 +69,7 @@ impl<
         led
     }
 
-    // Leads as `lead` does, where it is said as a follower, and else at once.
+    // Leads as `lead` does, if it is said as a follower, and else at once.
     pub(crate) fn lead_on<R: Wait>(
         &self,
         rt: &R,
@@ -91,7 +91,7 @@ impl<
         self.lead_now(rt, worker, most_ms)
     }
 
-    // Whether a worker whose lead came to nothing is to follow: where others lead too. Else it lets
+    // Whether a worker whose lead came to nothing is to follow: if others lead too. Else it lets
     // calls that want the token have it first.
     pub(crate) fn follows_others<R: Wait>(&self, rt: &R) -> bool {
         if !self.turns.is_alone() {
@@ -154,7 +154,7 @@ impl<
     }
 
     // Gets the token for a call that begins with no wait at the net, and ends the wait of a leader
-    // who has it. A leader looks at the count when it has the token, and waits no longer where
+    // who has it. A leader looks at the count when it has the token, and waits no longer if
     // there are any; one that looked before this call was counted is woken by it. So neither is
     // missed.
     pub(crate) fn take<R: Wait>(
@@ -214,9 +214,9 @@ impl<
     }
 
     // Settles the worker's own upcall as `settle` does, and leads in the same hold of the token, so
-    // that a worker that goes on takes the token once for each upcall. It does not lead where as
+    // that a worker that goes on takes the token once for each upcall. It does not lead if as
     // many handlers were closed as `pause_at` says, so that the caller can post that first, nor
-    // where a volume is to be handed over.
+    // if a volume is to be handed over.
     pub(crate) fn settle_on<R: Wait>(
         &self,
         rt: &R,
@@ -264,7 +264,7 @@ impl<
         self.turns.end();
     }
 
-    // Lets the next wait end at once where calls want the token.
+    // Lets the next wait end at once if calls want the token.
     fn heed_callers(&self) {
         if self.wanted.load(Ordering::SeqCst) > 0 {
             self.waker.wake();
@@ -272,7 +272,7 @@ impl<
     }
 
     /// Posts a notification to the handler of a handle (ACE's `notify`), and wakes the leader. It
-    /// neither waits nor takes memory. `Full` comes exactly where 256 places of the ring or more
+    /// neither waits nor takes memory. `Full` comes exactly if 256 places of the ring or more
     /// were held or in flight when it looked, and then nothing is posted.
     pub fn post(
         &self,

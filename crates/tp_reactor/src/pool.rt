@@ -94,16 +94,16 @@ where
     H::End: Send,
 {
     /// Runs the reactor with so many workers, from 1: the root, and hired ones, each on a thread of
-    /// its own where one can be started, and else one behind another (POSA2, Leader/Followers;
+    /// its own if one can be started, and else one after another (POSA2, Leader/Followers;
     /// ACE's `run_reactor_event_loop`, called by a pool of threads). Each leads, runs the job and
     /// settles it, until a lead answers neither a job nor Quiet. Then the hired ones are dismissed,
-    /// and where each left with `Over` the root goes on alone.
+    /// and if each left with `Over` the root goes on alone.
     ///
     /// With `until` each of them posts a notice to the handle, once, when as many handlers as it
     /// names were closed or refused.
     ///
     /// The answer is the first in the order of `Ran` with which any of them left. It is `NoMemory`
-    /// too where there was none for the list of the hired workers: then nobody was hired, and no
+    /// too if there was none for the list of the hired workers: then nobody was hired, and no
     /// lead was made.
     pub fn run_workers<R: Threads + Wait + Sync>(
         &self,
@@ -166,7 +166,7 @@ where
     }
 
     // Hires a worker for each of these observers, into a list that has room for them, lets them and
-    // the root make their loops, and dismisses them. Where each left with Over, the root goes on
+    // the root make their loops, and dismisses them. If each left with Over, the root goes on
     // alone.
     fn run_pool<R: Threads + Wait + Sync, O: Observer<H> + Send + Drop>(
         &self,
@@ -242,7 +242,7 @@ where
         hired
     }
 
-    // The loops of the root and of the hired workers, at once where threads can be started.
+    // The loops of the root and of the hired workers, at once if threads can be started.
     fn run_all<'a, R: Threads + Wait + Sync, O: Observer<H> + Send + Drop + 'a>(
         &'a self,
         rt: &R,
@@ -296,8 +296,8 @@ where
         (ran, crew)
     }
 
-    // The loops of hired workers, each on a thread of its own where one can be started, and else
-    // one behind another.
+    // The loops of hired workers, each on a thread of its own if one can be started, and else
+    // one after another.
     fn work_all<R: Threads + Wait + Sync, O: Observer<H> + Send + Drop>(
         &self,
         rt: &R,

@@ -5,28 +5,28 @@ use std::sync::Wait;
 use std::sync::atomic::{AtomicBool, AtomicU64, Ordering};
 use std::time::Duration;
 
-/// How many microseconds a follower dozes before it looks again: for two dozes an event may wait
-/// behind an upcall that lasts.
+/// How many microseconds a follower dozes before it looks again: for two dozes an event may be
+/// held up by an upcall that lasts.
 const DOZE: u64 = 500;
 
 /// How many microseconds a doze takes, with what the system takes to wake the follower.
 const DOZED: u64 = 560;
 
-/// How many microseconds a worker takes at least from one turn to the next, where another one
+/// How many microseconds a worker takes at least from one turn to the next, if another one
 /// helps: with less the hand-over of the token costs more than is gained.
 const WORTH: u64 = 5;
 
 /// The turns of the workers that make their loops. A worker that comes back from its upcall settles
-/// it and leads on, so that where upcalls are short those who are at it go on alone: a follower who
+/// it and leads on, so that when upcalls are short those who are at it go on alone: a follower who
 /// led would only wait at the net, and have to be woken there for the next settling. A follower is
-/// promoted where upcalls wait that the others are too slow for, and where nobody leads.
+/// promoted when upcalls wait that the others are too slow for, and when nobody leads.
 #[derive(Drop)]
 pub(crate) struct Turns {
     // How many workers make their loops.
     crew: AtomicU64,
     // How many of them are followers.
     followers: AtomicU64,
-    // Rises where a turn begins and where it ends: it is odd while a leader has the token.
+    // Rises when a turn begins and when it ends: it is odd while a leader has the token.
     count: AtomicU64,
     // Whether a follower sleeps until a turn ends.
     asleep: AtomicBool,
@@ -87,7 +87,7 @@ impl Turns {
         self.active() <= 1
     }
 
-    // A turn begins. Tells whether it is counted: not where one worker alone makes its loop.
+    // A turn begins. Tells whether it is counted: not if one worker alone makes its loop.
     pub(crate) fn begin(&self) -> bool {
         let counted = self.crew.load(Ordering::SeqCst) > 1;
         if counted {
@@ -106,7 +106,7 @@ impl Turns {
         self.waiting.fetch_add(1, Ordering::SeqCst);
     }
 
-    // Tells a follower, where one asks, that the token was held where a worker came to settle.
+    // Tells a follower, if one asks, that the token was held when a worker came to settle.
     pub(crate) fn tell_delayed(&self) {
         if self.is_asked() {
             self.delayed.fetch_add(1, Ordering::SeqCst);
@@ -147,7 +147,7 @@ impl Turns {
         }
     }
 
-    // Whether one more worker helps, where so many turns ended in a doze: where upcalls are not
+    // Whether one more worker helps, if so many turns ended in a doze: if upcalls are not
     // short, most turns leave some that wait, and at most one in eight finds the token held. Else
     // those who are at it wait for events themselves, or for what is done under the token, as a
     // write.

@@ -129,7 +129,7 @@ impl<
         }
     }
 
-    // Runs a job, shows it to the observer, settles it and leads again. Where a notice is due it is
+    // Runs a job, shows it to the observer, settles it and leads again. If a notice is due it is
     // posted before that.
     fn serve<R: Wait, O: Observer<H>>(
         &self,
@@ -168,7 +168,7 @@ impl<
     }
 
     // Posts a notice, if one is still to be posted, once as many handlers were closed or refused as
-    // were asked for. Where the ring is full it is still to be posted.
+    // were asked for. If the ring is full it is still to be posted.
     fn tell(
         &self,
         worker: &mut Worker<H, M, Q, W, V>,

@@ -123,7 +123,7 @@ fn reactor(
     }
 }
 
-/// Starts the second upcall while the first is on its way. Where that is refused it is asked for
+/// Starts the second upcall while the first is on its way. If that is refused it is asked for
 /// once more.
 fn second_or_again(core: &mut CallRows, first: &Done<Steady>) -> Option<Done<Steady>>
     requires { IsOut play_rows core.old first.now }
@@ -188,7 +188,7 @@ fn is_made(core: &mut CallRows, call: Call) -> bool
     }
 }
 
-/// Makes a call, and once more where it is refused.
+/// Makes a call, and once more if it is refused.
 fn make(core: &mut CallRows, call: Call) -> Result<(), Refused>
     requires { IsIdle play_rows core.old }
     ensures { IsIdle play_rows core.new }

@@ -26,7 +26,7 @@ impl Gaps {
     }
 }
 
-/// The random number behind this one: a linear congruential generator, with the multiplier and the
+/// The random number after this one: a linear congruential generator, with the multiplier and the
 /// increment of Knuth's MMIX.
 pub fn next_random(random: u64) -> u64 {
     random

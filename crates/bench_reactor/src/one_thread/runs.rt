@@ -40,7 +40,7 @@ fn made(alloc: Global, handles: u64, each: usize) -> Result<BenchRows, Refused>
     }
 }
 
-/// The same. Where there is no memory it is asked for once more.
+/// The same. If there is no memory it is asked for once more.
 pub fn reactor(alloc: Global, handles: u64, each: usize) -> Result<BenchRows, Refused>
     requires least { 1 ≤ handles }
     requires greatest { handles ≤ 4097 }
@@ -63,7 +63,7 @@ fn register_one(core: &mut BenchRows) -> Result<Handle, Refused>
     }
 }
 
-/// Registers a handler, and tells its handle. Where it is refused it is asked for once more.
+/// Registers a handler, and tells its handle. If it is refused it is asked for once more.
 fn register_one_or_again(core: &mut BenchRows) -> Result<Handle, Refused>
     requires { IsIdle round_robin_rows core.old }
     ensures { IsIdle round_robin_rows core.new }
@@ -89,7 +89,7 @@ fn register_and_remove(core: &mut BenchRows, count: u32) -> Result<(), Refused>
     Ok(())
 }
 
-/// Appends a handle. Where there is no memory it is asked for once more.
+/// Appends a handle. If there is no memory it is asked for once more.
 fn append_or_again(live: &mut Vec<Handle>, handle: Handle) -> Result<(), Refused> {
     match live.push(handle) {
         Ok(()) => Ok(()),
@@ -121,7 +121,7 @@ pub fn register_all(
     Ok(live)
 }
 
-/// Waits once, a volume handed over before where one is due.
+/// Waits once, a volume handed over before if one is due.
 fn wait(core: &mut BenchRows) -> Result<(), Refused>
     requires { IsIdle round_robin_rows core.old }
     ensures { IsIdle round_robin_rows core.new }
@@ -136,7 +136,7 @@ fn wait(core: &mut BenchRows) -> Result<(), Refused>
     }
 }
 
-/// Waits once. Where it is refused it is asked for once more.
+/// Waits once. If it is refused it is asked for once more.
 fn wait_or_again(core: &mut BenchRows) -> Result<(), Refused>
     requires { IsIdle round_robin_rows core.old }
     ensures { IsIdle round_robin_rows core.new }
@@ -147,7 +147,7 @@ fn wait_or_again(core: &mut BenchRows) -> Result<(), Refused>
     }
 }
 
-/// Makes the next upcall, a volume handed over before where one is due, and tells whether there was
+/// Makes the next upcall, a volume handed over before if one is due, and tells whether there was
 /// one.
 fn serve(core: &mut BenchRows) -> Result<bool, Refused>
     requires { IsIdle round_robin_rows core.old }
@@ -163,7 +163,7 @@ fn serve(core: &mut BenchRows) -> Result<bool, Refused>
     }
 }
 
-/// Makes the next upcall, and tells whether there was one. Where it is refused it is asked for once
+/// Makes the next upcall, and tells whether there was one. If it is refused it is asked for once
 /// more.
 fn serve_or_again(core: &mut BenchRows) -> Result<bool, Refused>
     requires { IsIdle round_robin_rows core.old }
@@ -215,7 +215,7 @@ fn post_one(core: &mut BenchRows, handle: Handle, seq: u64) -> Result<(), Refuse
     }
 }
 
-/// Posts a notification. Where it is refused it is asked for once more.
+/// Posts a notification. If it is refused it is asked for once more.
 fn post_one_or_again(core: &mut BenchRows, handle: Handle, seq: u64) -> Result<(), Refused>
     requires { IsIdle round_robin_rows core.old }
     ensures { IsIdle round_robin_rows core.new }

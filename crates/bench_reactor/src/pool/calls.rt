@@ -70,7 +70,7 @@ fn serve<R: Wait + Clock>(
     }
 }
 
-/// The time since a moment, in nanoseconds: 0 where the clock could not be read.
+/// The time since a moment, in nanoseconds: 0 if the clock could not be read.
 fn since<R: Clock>(rt: &R, start: io::Result<Instant>) -> u128 {
     match start {
         Ok(start) => match start.elapsed(rt) {

@@ -33,7 +33,7 @@ fn made(alloc: Global, handles: u64) -> Result<EventCore, NoPool>
     }
 }
 
-/// Registers so many members, of which each stops the reactor behind so many inputs.
+/// Registers so many members, of which each stops the reactor after so many inputs.
 fn fill(core: &mut EventCore, handles: u64, inputs: u32)
     requires { IsIdle member_core core.old }
     ensures { IsIdle member_core core.new }

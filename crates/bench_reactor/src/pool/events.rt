@@ -37,7 +37,7 @@ pub struct Run {
     pub entries: u64,
 }
 
-/// A count as a number of 32 bits, the greatest of them where it is larger.
+/// A count as a number of 32 bits, the greatest of them if it is larger.
 pub fn narrow(count: u64) -> u32 {
     u32::try_from(count).unwrap_or(u32::MAX)
 }

@@ -40,7 +40,7 @@ impl<'a, K: Sink> LentBuffer<'a, K> {
         self.held.add(bytes);
     }
 
-    /// Writes bytes where nothing is held.
+    /// Writes bytes when nothing is held.
     fn write_long(&mut self, bytes: &[u8])
         requires { held_in self.old.held ≡ [] }
         ensures same_reference { self.new.sink.ghost_name ≡ self.old.sink.ghost_name }
@@ -54,7 +54,7 @@ impl<'a, K: Sink> LentBuffer<'a, K> {
         self.broken = !done;
     }
 
-    /// Adds bytes where nothing is held.
+    /// Adds bytes when nothing is held.
     fn put_first(&mut self, bytes: &[u8])
         requires held { held_in self.old.held ≡ [] }
         requires count { self.old.held.count ≡ 0 }
@@ -99,7 +99,7 @@ impl<K: Sink> TextOut for LentBuffer<'_, K> {
 
     ghost stands = { HasPut K.facts };
 
-    /// Adds bytes to the text. Where there is room for them, nothing is written.
+    /// Adds bytes to the text. If there is room for them, nothing is written.
     fn put(&mut self, bytes: &[u8]) {
         if bytes.len() <= self.held.room() {
             self.hold(bytes);

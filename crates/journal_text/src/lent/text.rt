@@ -20,7 +20,7 @@ pub trait PutText {
 }
 
 /// Writes a text, and tells whether no write failed. Pieces are gathered, so that a write has 8,192
-/// bytes where the text has as many. It takes no memory. Behind a failed write nothing is written.
+/// bytes if the text has as many. It takes no memory. After a failed write nothing is written.
 pub fn write_text<K: Sink, P: PutText>(sink: &mut K, text: &P) -> bool
     ensures { WritesAll (K.facts sink.old) (P.text text.now) result (K.facts sink.new) }
 {

@@ -35,7 +35,7 @@ static JOURNALS: &[(u64, &str)] = &[
 ];
 
 /// Texts of first lines and of the ends of lines, each with the number of its first bad line, or 0
-/// where it is a journal's.
+/// if it is a journal's.
 static FIRST_LINES: &[(&str, u64)] = &[
     ("", 1),
     ("\n", 1),

@@ -145,7 +145,7 @@ fn see(alloc: Global, watch: &mut JournalSink<MemSink>, steps: &[Step]) -> Resul
     Ok(())
 }
 
-/// Whether a watch over a sink with room for so many bytes is broken behind these entries, and has
+/// Whether a watch over a sink with room for so many bytes is broken after these entries, and has
 /// written this.
 fn writes(
     alloc: Global,
@@ -195,7 +195,7 @@ const NOT_READ: Mask = Mask {
     except: true,
 };
 
-/// Entries with their lines, behind the first line.
+/// Entries with their lines, after the first line.
 static LINES: &[(Step, &[u8])] = &[
     (Scheduled(1, FOURTH, 20, 0), b"most 1\nscheduled 1 3 20 0\n"),
     (Cancelled(1), b"most 1\ncancelled 1\n"),

@@ -76,7 +76,7 @@ fn a_ring_holds_256_postings(rt: HostRuntime) -> Result<(), Fail> {
     Ok(())
 }
 
-/// The posting of the root poster that has this number, where no other poster made one before.
+/// The posting of the root poster that has this number, if no other poster made one before.
 fn posting(number: u64) -> Posting {
     Posting {
         number,

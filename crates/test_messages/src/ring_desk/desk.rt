@@ -65,7 +65,7 @@ impl Desk {
     }
 }
 
-/// Drains one posting under the token, where there is one.
+/// Drains one posting under the token, if there is one.
 pub fn drain_one<R: Wait>(rt: &R, token: &Token<Desk>, ring: &Ring, pass: &mut Pass<Desk>) -> bool
     requires token { token_of pass.old ≡ token_id token.now }
     requires ring { (view_of pass.old).terms.ring ≡ ring_id ring.now }

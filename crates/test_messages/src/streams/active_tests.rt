@@ -172,7 +172,7 @@ impl Task for FlagTask {
     }
 }
 
-/// Sets a flag behind a put, and adds the priorities of the messages that the put gave.
+/// Sets a flag after a put, and adds the priorities of the messages that the put gave.
 fn note_put(
     put: Result<Messages, (Message, NoMemory)>,
     flag: &AtomicBool,

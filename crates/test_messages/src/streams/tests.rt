@@ -113,7 +113,7 @@ fn text(alloc: Global, bytes: &[u8]) -> Result<Message, StreamRefused>
     }
 }
 
-/// The sizes of what comes out where a message of these bytes is put at the head.
+/// The sizes of what comes out when a message of these bytes is put at the head.
 fn put(alloc: Global, stream: &mut Stream, bytes: &[u8]) -> Sizes
     requires { length bytes.now ≤ 1048576 }
 {
@@ -121,7 +121,7 @@ fn put(alloc: Global, stream: &mut Stream, bytes: &[u8]) -> Sizes
     sizes(stream.put(message))
 }
 
-/// The sizes of what comes out where a message of these bytes is put at the tail.
+/// The sizes of what comes out when a message of these bytes is put at the tail.
 fn put_up(alloc: Global, stream: &mut Stream, bytes: &[u8]) -> Sizes
     requires { length bytes.now ≤ 1048576 }
 {
@@ -137,7 +137,7 @@ fn passed_sizes(alloc: Global, passed: Passed) -> Sizes {
     }
 }
 
-/// The sizes of what comes out where a message of these bytes is passed at the head.
+/// The sizes of what comes out when a message of these bytes is passed at the head.
 fn pass(alloc: Global, stream: &mut Stream, bytes: &[u8]) -> Sizes
     requires { length bytes.now ≤ 1048576 }
 {
@@ -145,7 +145,7 @@ fn pass(alloc: Global, stream: &mut Stream, bytes: &[u8]) -> Sizes
     passed_sizes(alloc, stream.pass(message)?)
 }
 
-/// The sizes of what comes out where a message of these bytes is passed at the tail.
+/// The sizes of what comes out when a message of these bytes is passed at the tail.
 fn pass_up(alloc: Global, stream: &mut Stream, bytes: &[u8]) -> Sizes
     requires { length bytes.now ≤ 1048576 }
 {
@@ -153,7 +153,7 @@ fn pass_up(alloc: Global, stream: &mut Stream, bytes: &[u8]) -> Sizes
     passed_sizes(alloc, stream.pass_up(message)?)
 }
 
-/// The name of the module that is pushed in a turn, and the refusal: sixteen are taken, and behind
+/// The name of the module that is pushed in a turn, and the refusal: sixteen are taken, and after
 /// them none.
 fn turn_of(turn: u32) -> (u32, Option<(u32, PushRefused)>) {
     match turn {

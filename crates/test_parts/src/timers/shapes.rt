@@ -67,7 +67,7 @@ fn timers_of_one_deadline_leave_by_number(rt: HostRuntime) -> Result<(), Fail> {
     Ok(())
 }
 
-// Whether three timers leave a queue where they are cancelled.
+// Whether three timers leave a queue when they are cancelled.
 fn is_cancelled(queue: &mut SortedTimers) -> bool {
     let first = queue.cancel(1);
     let again = queue.cancel(1);
@@ -110,7 +110,7 @@ fn is_risen(queue: &HeapTimers) -> bool {
     queue.slots() == slots.as_slice()
 }
 
-// Whether they leave the heap where they are cancelled.
+// Whether they leave the heap when they are cancelled.
 fn leave_slots(queue: &mut HeapTimers) -> bool {
     let first = queue.cancel(0);
     let again = queue.cancel(0);
@@ -158,7 +158,7 @@ fn stand_in_spokes(wheel: &WheelTimers<4>) -> bool {
         && chain(wheel, 3) == (99, 99, 99)
 }
 
-// Whether they leave their spokes where they are cancelled.
+// Whether they leave their spokes when they are cancelled.
 fn leave_spokes(wheel: &mut WheelTimers<4>) -> bool {
     let first = wheel.cancel(0);
     let again = wheel.cancel(0);

@@ -10,7 +10,7 @@ use std::fmt::Write;
 use std::sync::Wait;
 use std::test::Fail;
 
-/// What a script is played with where nothing is said.
+/// What a script is played with if nothing is said.
 const PLAIN: Asked = Asked {
     most: 1001,
     idle: None,
@@ -31,7 +31,7 @@ const UNTIL_ONE: Asked = Asked {
     until: Some(1),
 };
 
-/// The same, where a connection is closed after 100 quiet milliseconds.
+/// The same, but a connection is closed after 100 quiet milliseconds.
 const IDLE: Asked = Asked {
     most: 1001,
     idle: Some(100),
@@ -42,7 +42,7 @@ const IDLE: Asked = Asked {
 type Row = (&'static str, Asked, RunEnd, &'static str);
 
 /// Scripts with the texts of their journals. The first has one connection with one record; in the
-/// second a connection is refused; the third is stopped by a notice behind the first closing; in
+/// second a connection is refused; the third is stopped by a notice after the first closing; in
 /// the fourth a connection is closed as idle before its input is read.
 static JOURNALS: &[Row] = &[
     (
@@ -72,7 +72,7 @@ static JOURNALS: &[Row] = &[
 ];
 
 /// Scripts with the lines of their notes. A record that comes in two pieces is read whole; an idle
-/// connection is closed, at the second time that its timer comes due where a record came between; a
+/// connection is closed, at the second time that its timer comes due if a record came between; a
 /// connection is refused; the notice comes before the second connection; a failure of the listener
 /// is none of a connection, which fails later; a connection that is left open is stopped; and
 /// nothing comes of nothing.

@@ -30,7 +30,7 @@ pub(crate) struct Asked {
     /// After how many quiet milliseconds a connection is closed, from 1 to 4,294,967,295, or that
     /// it never is.
     pub idle: Option<u64>,
-    /// Behind how many closings and refusals the reactor is stopped by a notice, if it is.
+    /// After how many closings and refusals the reactor is stopped by a notice, if it is.
     pub until: Option<u64>,
 }
 
@@ -183,7 +183,7 @@ pub(crate) fn play<R: Wait, W: Watch<ServerNote> + Drop>(
     Ok(serve(rt, core, asked.until))
 }
 
-/// Serves what a net reports until it is over, or was stopped by a notice behind so many closings
+/// Serves what a net reports until it is over, or was stopped by a notice after so many closings
 /// and refusals.
 fn serve<R: Wait, W: Watch<ServerNote> + Drop>(
     rt: &R,
@@ -197,7 +197,7 @@ fn serve<R: Wait, W: Watch<ServerNote> + Drop>(
     (end, watch_of(core))
 }
 
-/// Runs a reactor. Where that ended since so many handlers were closed or refused, it posts the
+/// Runs a reactor. If that ended since so many handlers were closed or refused, it posts the
 /// notice, and runs it again.
 fn run_until<R: Wait, W: Watch<ServerNote> + Drop>(
     rt: &R,

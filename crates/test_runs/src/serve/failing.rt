@@ -23,7 +23,7 @@ const ASKED: Asked = Asked {
     volume: 1,
 };
 
-/// The calls of the net that fail; the number of the volume that is not taken; behind how many
+/// The calls of the net that fail; the number of the volume that is not taken; after how many
 /// bytes a write fails; how the run ends by that; and the journal of one worker, as far as it was
 /// written.
 type Row = (Fails, Option<u64>, Option<u64>, Ending, &'static str);
@@ -41,7 +41,7 @@ const ATTACH_FAILS: Fails = Fails {
 };
 
 /// A wait fails; the listener is not attached; the first volume is not taken; a write fails at the
-/// registration of the acceptor, and one at its closing, where a wait failed before.
+/// registration of the acceptor, and one at its closing, after a wait that failed.
 static ROWS: &[Row] = &[
     (
         WAIT_FAILS,

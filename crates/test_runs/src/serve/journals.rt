@@ -9,7 +9,7 @@ use std::sync::Wait;
 use std::test::Fail;
 use std::thread::Threads;
 
-/// What a run is asked for where nothing is said: one worker, and room for 1,000 connections.
+/// What a run is asked for if nothing is said: one worker, and room for 1,000 connections.
 const PLAIN: Asked = Asked {
     workers: 1,
     connections: 1_000,
@@ -39,7 +39,7 @@ const UNTIL_ONE: Asked = Asked {
     volume: 512,
 };
 
-/// The same, where a connection is closed after 100 quiet milliseconds.
+/// The same, but a connection is closed after 100 quiet milliseconds.
 const IDLE: Asked = Asked {
     workers: 1,
     connections: 1_000,
@@ -53,7 +53,7 @@ const IDLE: Asked = Asked {
 type Row = (&'static str, Asked, Ending, &'static str);
 
 /// Scripts with the lines of their notes. A record that comes in two pieces is read whole; an idle
-/// connection is closed, at the second time that its timer comes due where a record came between; a
+/// connection is closed, at the second time that its timer comes due if a record came between; a
 /// connection is refused; the notice comes before the second connection; a failure of the listener
 /// is none of a connection, which fails later; a connection that is left open is stopped; and
 /// nothing comes of nothing.

@@ -34,7 +34,7 @@ const IDLE: u64 = 100;
 
 /// A connection that sends two pieces and shuts; two whose pieces come by turns; one that sends
 /// nothing between 100 and 200 ms; one that does not take back all that it sent, and so is left
-/// waiting to write; one that fails, behind a failure of the listener; and one that is left open.
+/// waiting to write; one that fails, after a failure of the listener; and one that is left open.
 static ROWS: &[Row] = &[
     Row {
         script: "open 0\ndata 0 68690a\ndata 0 796f0a\nshut 0\n",

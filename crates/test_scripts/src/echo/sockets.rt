@@ -103,7 +103,7 @@ fn a_peer_gets_back_what_it_sent(rt: HostRuntime) -> Result<(), Fail> {
 /// How many bytes a peer sends that begins to read late: more than its sockets hold at once.
 const MANY: usize = 8 << 20;
 
-/// So many bytes, which repeat only behind 251 of them.
+/// So many bytes, which repeat only after 251 of them.
 fn many(alloc: Global) -> Result<Vec<u8>, Fail> {
     let mut bytes = Vec::with_capacity(alloc, MANY)?;
     for at in 0..MANY {

@@ -11,7 +11,7 @@ loop-place-init g c = (
       c.args.tasks.now c.args.first (c.args.message ∷ []) c.requires.passed_by,
 )
 
--- one more task was gone through, and those behind it that give what they get
+-- one more task was gone through, and those after it that give what they get
 pub loop-place-preserved : goal.loop-place-preserved
 loop-place-preserved g c =
     let within : c.loop-place.place < length c.loop-place.tasks = omega arith in (

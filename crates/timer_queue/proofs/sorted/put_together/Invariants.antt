@@ -2,7 +2,7 @@ use Rattle.std.proofs.Common.{◌≡◌, ◌+◌, ◌++◌, length}
 use Rattle.timer_queue.proofs.Merged.{IsMerging}
 use Rattle.timer_queue.proofs.sorted.put_together.Given as goal
 
--- the timers so far with what is left of the list behind them, and the room of both
+-- the timers so far with what is left of the list after them, and the room of both
 abbrev pub invariant-loop-t : goal.invariant-loop-t
 invariant-loop-t l =
     let begun = l.initial.recent.timers ++ l.initial.list.timers in
