@@ -15,7 +15,7 @@ ghost use Rattle.journal_check.specs.Next.{IsNext};
 ghost use Rattle.journal_check.specs.Small.{IsSmall};
 ghost use Rattle.journal_check.specs.Sound.{IsSound};
 
-use crate::machine::Machine;
+use crate::machine::{Machine, Next};
 use ev_types::{Handle, NoMemory};
 use reactor_journal::Entry;
 use std::alloc::Global;
@@ -147,10 +147,13 @@ impl Checker {
         ensures { AreUpToDate self.now → IsSound self.now.machine
             → result ≡ R.may_follow most due ready self.now.machine entry.now }
     {
-        let pick = self.pick();
-        let waits = self.some_wait();
-        self.machine
-            .may_follow(due, ready, pick, waits, entry, most)
+        let next = Next {
+            due,
+            ready,
+            pick: self.pick(),
+            waits: self.some_wait(),
+        };
+        self.machine.may_follow(&next, entry, most)
     }
 
     fn step_at<N>(&mut self, handle: Handle, entry: &Entry<N>) -> Result<(), NoMemory>

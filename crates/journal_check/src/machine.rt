@@ -30,6 +30,19 @@ use std::marker::Model;
 /// The most handles that a journal may open.
 const MOST_HANDLES: u64 = 4_294_967_295;
 
+/// What may come after the entries that were read.
+#[derive(Clone, Copy)]
+pub struct Next {
+    /// Whether a timer may come due now.
+    pub due: bool,
+    /// Whether a report may come now.
+    pub ready: bool,
+    /// The event to be started next.
+    pub pick: Option<u64>,
+    /// Whether some handle waits for its close.
+    pub waits: bool,
+}
+
 /// The summary of the entries that were read.
 #[derive(Drop)]
 pub struct Machine {
@@ -151,42 +164,24 @@ impl Machine {
     }
 
     /// The case of each kind of entry.
-    fn fits<N>(
-        &self,
-        due: bool,
-        ready: bool,
-        pick: Option<u64>,
-        waits: bool,
-        entry: &Entry<N>,
-        most: u64,
-    ) -> bool
-        ensures { pick ≡ K.pick_number self.now → waits ≡ S.some_wait self.now
-            → result ≡ R.fits most due ready self.now entry.now }
+    fn fits<N>(&self, next: &Next, entry: &Entry<N>, most: u64) -> bool
+        ensures { next.now.pick ≡ K.pick_number self.now → next.now.waits ≡ S.some_wait self.now
+            → result ≡ R.fits most next.now.due next.now.ready self.now entry.now }
     {
         match entry {
-            Entry::Started { event } => self.may_begin(is_number(pick, *event), waits),
-            Entry::Polled { now } => self.moment <= *now && !waits,
-            Entry::Ended => !waits,
-            _ => self.fits_alone(due, ready, entry, most),
+            Entry::Started { event } => self.may_begin(is_number(next.pick, *event), next.waits),
+            Entry::Polled { now } => self.moment <= *now && !next.waits,
+            Entry::Ended => !next.waits,
+            _ => self.fits_alone(next.due, next.ready, entry, most),
         }
     }
 
-    /// Whether the entry may follow. `due` says whether a timer may come due now, and `ready`
-    /// whether a report may come now; `pick` is the event to be started next, and `waits` says
-    /// whether some handle waits for its close.
-    pub fn may_follow<N>(
-        &self,
-        due: bool,
-        ready: bool,
-        pick: Option<u64>,
-        waits: bool,
-        entry: &Entry<N>,
-        most: u64,
-    ) -> bool
-        ensures { pick ≡ K.pick_number self.now → waits ≡ S.some_wait self.now
-            → result ≡ R.may_follow most due ready self.now entry.now }
+    /// Whether the entry may follow.
+    pub fn may_follow<N>(&self, next: &Next, entry: &Entry<N>, most: u64) -> bool
+        ensures { next.now.pick ≡ K.pick_number self.now → next.now.waits ≡ S.some_wait self.now
+            → result ≡ R.may_follow most next.now.due next.now.ready self.now entry.now }
     {
-        (winds_up(entry) || !self.ended) && self.fits(due, ready, pick, waits, entry, most)
+        (winds_up(entry) || !self.ended) && self.fits(next, entry, most)
     }
 
     /// Whether the handle waits for its close.
