@@ -6,9 +6,9 @@ use Rattle.cmd_replay.specs.acceptor.specs.Servers.{servers}
 use Rattle.cmd_replay.specs.acceptor.specs.declared.server.ServerHandler.{ServerHandler}
 use Rattle.laws_gen.specs.Runs.{SumsUp}
 use Rattle.laws_gen.proofs.Totals.{sums_up_with_room}
-use Rattle.log_handler.specs.declared.note.ServerNote.{ServerNote}
-use Rattle.reactor_model.specs.reactor_journal.specs.declared.entry.Entry.{Entry}
-use Rattle.reactor_model.specs.Volumes.{VolumesFacts}
+use Rattle.cmd_replay.specs.log_handler.specs.declared.note.ServerNote.{ServerNote}
+use Rattle.cmd_replay.specs.reactor_journal.specs.declared.entry.Entry.{Entry}
+use Rattle.cmd_replay.specs.reactor_model.specs.Volumes.{VolumesFacts}
 use Rattle.run_summary.specs.declared.summary.Summary.{Summary}
 use Rattle.run_summary.specs.Summaries.{told, connections_in, records_in, bytes_in, lines_in}
 use Rattle.run_summary.specs.Summaries.{four_lines}
@@ -20,7 +20,7 @@ use Rattle.cmd_replay.proofs.All.{run-of}
 use Rattle.laws_gen.specs.laws_script_runs.specs.Connections.{HadMemory}
 use Rattle.cmd_replay.specs.server_run.specs.declared.ending.Ending.{Ending}
 use Rattle.cmd_replay.specs.server_run.specs.declared.ending.Ending.TheVariants as ending
-use Rattle.log_handler.specs.sink_buffer.specs.Written.{TakesAll, BreaksOff}
+use Rattle.cmd_replay.specs.sink_buffer.specs.Written.{TakesAll, BreaksOff}
 use Rattle.cmd_gen.specs.Asking.{asked_for, terms_for}
 use Rattle.cmd_gen.specs.Generating.{RunsGenerated}
 use Rattle.cmd_gen.specs.Summing.{LeavesText, full_lines, summary_lines}

@@ -4,9 +4,9 @@ use Rattle.std.proofs.Common.{lit≤}
 use Rattle.ev_base.specs.Counts.{Rose}
 use Rattle.ev_base.specs.declared.end.PeerEnd.{Ghosts}
 use Rattle.script_net.specs.event_script.specs.Script.{ScriptGroup}
-use Rattle.log_handler.specs.declared.note.ServerNote.{ServerNote}
-use Rattle.reactor_model.specs.reactor_journal.specs.declared.entry.Entry.{Entry}
-use Rattle.reactor_model.specs.Volumes.{VolumesFacts}
+use Rattle.cmd_replay.specs.log_handler.specs.declared.note.ServerNote.{ServerNote}
+use Rattle.cmd_replay.specs.reactor_journal.specs.declared.entry.Entry.{Entry}
+use Rattle.cmd_replay.specs.reactor_model.specs.Volumes.{VolumesFacts}
 use Rattle.script_generator.specs.Scripts.{generated}
 use Rattle.script_generator.specs.Texts.{generated_text}
 use Rattle.script_generator.proofs.Whole.{is_script_text}
@@ -14,7 +14,7 @@ use Rattle.script_net.specs.Hosts.{ScriptContent}
 use Rattle.script_net.specs.NetContent.{NetContent}
 use Rattle.script_net.specs.declared.end.ScriptEnd.{ScriptEnd}
 use Rattle.chosen_timers.specs.declared.ChosenTimers.{ChosenTimers}
-use Rattle.reactor_model.specs.declared.watch.NoWatch.{NoWatch}
+use Rattle.cmd_replay.specs.reactor_model.specs.declared.watch.NoWatch.{NoWatch}
 use Rattle.cmd_replay.specs.Leading.{unwatched}
 use Rattle.cmd_replay.specs.Playing.{terms_of_content}
 use Rattle.cmd_replay.specs.Replays.{IsOfText, unseen}

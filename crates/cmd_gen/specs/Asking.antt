@@ -1,8 +1,8 @@
 -- What a run over a generated script is asked for.
 use Rattle.std.specs.Prelude.{ℕ, ◌^◌, None}
 use Rattle.ev_base.specs.Terms.{Terms}
-use Rattle.reactor_model.specs.Volumes.{VolumesFacts}
-use Rattle.log_handler.specs.declared.note.ServerNote.{ServerNote}
+use Rattle.cmd_replay.specs.reactor_model.specs.Volumes.{VolumesFacts}
+use Rattle.cmd_replay.specs.log_handler.specs.declared.note.ServerNote.{ServerNote}
 use Rattle.script_generator.specs.Scripts.{generated}
 use Rattle.cmd_replay.specs.Replays.{unseen}
 use Rattle.cmd_replay.specs.laws_script_served.specs.Terms.{terms_of_script}

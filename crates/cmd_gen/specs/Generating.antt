@@ -2,9 +2,9 @@
 use Rattle.std.specs.Prelude.{◌≡◌, ◌⊎◌, ℕ, List, []}
 use Rattle.ev_base.specs.Counts.{Rose}
 use Rattle.ev_base.specs.declared.end.PeerEnd.{Ghosts}
-use Rattle.reactor_model.specs.reactor_journal.specs.declared.entry.Entry.{Entry}
-use Rattle.reactor_model.specs.Volumes.{VolumesFacts}
-use Rattle.log_handler.specs.declared.note.ServerNote.{ServerNote}
+use Rattle.cmd_replay.specs.reactor_journal.specs.declared.entry.Entry.{Entry}
+use Rattle.cmd_replay.specs.reactor_model.specs.Volumes.{VolumesFacts}
+use Rattle.cmd_replay.specs.log_handler.specs.declared.note.ServerNote.{ServerNote}
 use Rattle.script_generator.specs.Scripts.{generated}
 use Rattle.script_net.specs.declared.end.ScriptEnd.{ScriptEnd}
 use Rattle.cmd_replay.specs.Leading.{unwatched}

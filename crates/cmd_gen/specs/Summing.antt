@@ -2,8 +2,8 @@
 -- now.
 use Rattle.std.specs.Prelude.{◌≡◌, ◌≤◌, ℕ, ◌*◌, List}
 use Rattle.ev_base.specs.Sink.{SinkFacts}
-use Rattle.reactor_model.specs.reactor_journal.specs.declared.entry.Entry.{Entry}
-use Rattle.log_handler.specs.declared.note.ServerNote.{ServerNote}
+use Rattle.cmd_replay.specs.reactor_journal.specs.declared.entry.Entry.{Entry}
+use Rattle.cmd_replay.specs.log_handler.specs.declared.note.ServerNote.{ServerNote}
 use Rattle.script_net.specs.event_script.specs.Script.{steps_of}
 use Rattle.script_generator.specs.Laws.{bytes_of_connections}
 use Rattle.script_generator.specs.Scripts.{generated}
@@ -11,7 +11,7 @@ use Rattle.run_summary.specs.Summaries.{told, connections_in, records_in, bytes_
 use Rattle.run_summary.specs.Summaries.{four_lines}
 use Rattle.cmd_replay.specs.server_run.specs.declared.ending.Ending.{Ending}
 use Rattle.cmd_replay.specs.server_run.specs.declared.ending.Ending.TheVariants as ending
-use Rattle.log_handler.specs.sink_buffer.specs.Written.{TakesAll, BreaksOff}
+use Rattle.cmd_replay.specs.sink_buffer.specs.Written.{TakesAll, BreaksOff}
 use Rattle.cmd_gen.specs.declared.ends.GenerateEnd.{GenerateEnd}
 use Rattle.cmd_gen.specs.declared.ends.GenerateEnd.TheVariants as end
 

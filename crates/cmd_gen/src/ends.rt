@@ -1,6 +1,5 @@
 //! How a run over a generated script ends, and what it leaves.
-use log_handler::ServerNote;
-use reactor_model::Journal;
+use cmd_replay::{Journal, ServerNote};
 
 /// How a run over a generated script ended. Of several faults the first in this order is told.
 #[derive(Clone, Copy, PartialEq, Eq, Debug)]

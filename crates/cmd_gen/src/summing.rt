@@ -4,10 +4,8 @@ ghost use Rattle.cmd_replay.specs.Runs.{FailsNet};
 ghost use Rattle.cmd_gen.specs.Summing.{WritesSummary};
 
 use crate::GenerateEnd;
-use cmd_replay::Ending;
+use cmd_replay::{Ending, Entry, ServerNote};
 use ev_base::Sink;
-use log_handler::ServerNote;
-use reactor_model::Entry;
 use run_summary::Summary;
 
 /// Writes the summary of a run that ended so, left these entries and handed so many over, if it

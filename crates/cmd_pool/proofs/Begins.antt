@@ -5,13 +5,13 @@ use Rattle.ev_base.specs.Host.{LeavesHostOpen}
 use Rattle.ev_base.specs.Net.{IsNew}
 use Rattle.ev_base.specs.Terms.{Terms}
 use Rattle.ev_base.specs.declared.end.PeerEnd.{Ghosts}
-use Rattle.reactor_core.specs.timer_queue.specs.declared.timer.Timer.{Timer}
-use Rattle.reactor_model.specs.reactor_journal.specs.declared.entry.Entry.{Entry}
-use Rattle.reactor_core.specs.Ends.{WhereTold}
-use Rattle.reactor_core.specs.Stands.{Meaning}
-use Rattle.log_handler.specs.declared.note.ServerNote.{ServerNote}
-use Rattle.acceptor.specs.Idle.{IsIdleTime}
-use Rattle.acceptor.specs.declared.server.ServerHandler.{ServerHandler}
+use Rattle.server_run.specs.timer_queue.specs.declared.timer.Timer.{Timer}
+use Rattle.server_run.specs.reactor_journal.specs.declared.entry.Entry.{Entry}
+use Rattle.server_run.specs.reactor_core.specs.Ends.{WhereTold}
+use Rattle.server_run.specs.reactor_core.specs.Stands.{Meaning}
+use Rattle.server_run.specs.log_handler.specs.declared.note.ServerNote.{ServerNote}
+use Rattle.server_run.specs.acceptor.specs.Idle.{IsIdleTime}
+use Rattle.server_run.specs.acceptor.specs.declared.server.ServerHandler.{ServerHandler}
 use Rattle.server_run.specs.Starting.{CanStart, IsFine}
 use Rattle.server_run.specs.declared.asked.Asked.{Asked}
 use Rattle.server_run.specs.declared.asked.Ground.{Ground}

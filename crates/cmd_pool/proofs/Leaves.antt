@@ -7,15 +7,15 @@ use Rattle.ev_base.specs.Counts.{Rose}
 use Rattle.ev_base.specs.Net.{HasNone, IsNew, NetFacts}
 use Rattle.ev_base.specs.Sink.{SinkFacts}
 use Rattle.ev_base.specs.Terms.{Terms}
-use Rattle.log_handler.specs.sink_buffer.specs.Written.{TookAll}
-use Rattle.reactor_core.specs.timer_queue.specs.declared.timer.Timer.{Timer}
-use Rattle.reactor_model.specs.reactor_journal.specs.declared.entry.Entry.{Entry}
-use Rattle.reactor_model.specs.reactor_journal.specs.declared.entry.Entry.TheVariants.{Ended}
-use Rattle.reactor_model.specs.Volumes.{VolumesFacts}
-use Rattle.reactor_core.specs.Calls.{AreCalls}
-use Rattle.reactor_core.specs.Ends.{WhereTold}
-use Rattle.reactor_core.specs.Stands.{Meaning, NetStands}
-use Rattle.log_handler.specs.declared.note.ServerNote.{ServerNote}
+use Rattle.server_run.specs.sink_buffer.specs.Written.{TookAll}
+use Rattle.server_run.specs.timer_queue.specs.declared.timer.Timer.{Timer}
+use Rattle.server_run.specs.reactor_journal.specs.declared.entry.Entry.{Entry}
+use Rattle.server_run.specs.reactor_journal.specs.declared.entry.Entry.TheVariants.{Ended}
+use Rattle.server_run.specs.reactor_model.specs.Volumes.{VolumesFacts}
+use Rattle.server_run.specs.reactor_core.specs.Calls.{AreCalls}
+use Rattle.server_run.specs.reactor_core.specs.Ends.{WhereTold}
+use Rattle.server_run.specs.reactor_core.specs.Stands.{Meaning, NetStands}
+use Rattle.server_run.specs.log_handler.specs.declared.note.ServerNote.{ServerNote}
 use Rattle.grouped_lines.specs.laws_script_runs.specs.Connections.{lines_by_connection}
 use Rattle.server_run.specs.Journals.{IsRun}
 use Rattle.server_run.specs.Served.{FaultRose, HasCauses, IsUnmade, LeavesRun}

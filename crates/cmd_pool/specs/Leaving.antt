@@ -4,12 +4,12 @@ use Rattle.ev_base.specs.Counts.{Rose}
 use Rattle.ev_base.specs.Net.{NetFacts}
 use Rattle.ev_base.specs.Sink.{SinkFacts}
 use Rattle.ev_base.specs.Terms.{Terms}
-use Rattle.log_handler.specs.sink_buffer.specs.Written.{TookAll, TookFront}
-use Rattle.log_handler.specs.declared.note.ServerNote.{ServerNote}
-use Rattle.reactor_model.specs.reactor_journal.specs.Past.{past_of}
-use Rattle.reactor_model.specs.reactor_journal.specs.declared.entry.Entry.{Entry}
-use Rattle.reactor_model.specs.reactor_journal.specs.declared.entry.Entry.TheVariants.{Ended}
-use Rattle.reactor_core.specs.Stands.{Meaning, NetStands}
+use Rattle.server_run.specs.sink_buffer.specs.Written.{TookAll, TookFront}
+use Rattle.server_run.specs.log_handler.specs.declared.note.ServerNote.{ServerNote}
+use Rattle.server_run.specs.reactor_journal.specs.Past.{past_of}
+use Rattle.server_run.specs.reactor_journal.specs.declared.entry.Entry.{Entry}
+use Rattle.server_run.specs.reactor_journal.specs.declared.entry.Entry.TheVariants.{Ended}
+use Rattle.server_run.specs.reactor_core.specs.Stands.{Meaning, NetStands}
 use Rattle.grouped_lines.specs.laws_script_runs.specs.Connections.{lines_by_connection}
 use Rattle.server_run.specs.Journals.{IsRun}
 use Rattle.server_run.specs.Served.{HasLed, HasNoLead, IsUnmade}

@@ -1,8 +1,8 @@
 -- What is put of the records that an upcall read.
 use Rattle.std.specs.Prelude.{◌≡◌, ◌≤◌, ◌+◌, ℕ, List, [], ◌∷◌, ◌++◌, slice_get, Some}
 use Rattle.cdr_record.specs.declared.record.LogRecord.{LogRecord}
-use Rattle.log_handler.specs.declared.note.ServerNote.{ServerNote}
-use Rattle.log_handler.specs.declared.note.ServerNote.TheVariants as note
+use Rattle.server_run.specs.log_handler.specs.declared.note.ServerNote.{ServerNote}
+use Rattle.server_run.specs.log_handler.specs.declared.note.ServerNote.TheVariants as note
 use Rattle.task_server.specs.Calls.{put_log}
 use Rattle.task_server.specs.declared.item.Item.{Item}
 use Rattle.task_server.specs.declared.rule.Log.{Log}

@@ -1,8 +1,8 @@
 -- The statuses of the command.
 use Rattle.std.specs.Prelude.{◌≡◌, ℕ, List, [], ◌∷◌, ◌++◌, None}
 use Rattle.ev_base.specs.Sink.{SinkFacts}
-use Rattle.log_handler.specs.declared.note.ServerNote.{ServerNote}
-use Rattle.reactor_core.specs.Stands.{Meaning}
+use Rattle.server_run.specs.log_handler.specs.declared.note.ServerNote.{ServerNote}
+use Rattle.server_run.specs.reactor_core.specs.Stands.{Meaning}
 use Rattle.cmd_pool.specs.Leaving.{LeavesPool, ListensSo}
 use Rattle.cmd_pool.specs.Starting.{asked_by, pool_terms}
 use Rattle.cmd_pool.specs.declared.ending.PoolEnd.{PoolEnd}

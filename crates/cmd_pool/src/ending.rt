@@ -9,10 +9,7 @@ use crate::made::MadeLines;
 use chosen_timers::ChosenTimers;
 use ev_base::Sink;
 use grouped_lines::write_given_by_connection;
-use log_handler::ServerNote;
-use reactor_core::Parts;
-use reactor_model::{DropVolumes, Entry, Journal, NoWatch};
-use server_run::{Ending, Served};
+use server_run::{DropVolumes, Ending, Entry, Journal, NoWatch, Parts, Served, ServerNote};
 use std::alloc::Global;
 
 /// How a run of the command ended. Of several causes the first in this order is told.

@@ -1,7 +1,7 @@
 //! The lines that writers made, by their places.
 ghost use Rattle.std.specs.Prelude.{◌≡◌, IfSome};
 ghost use Rattle.cdr_record.specs.Borrowed.{owned};
-ghost use Rattle.log_handler.specs.Notes.{entry_lines};
+ghost use Rattle.server_run.specs.log_handler.specs.Notes.{entry_lines};
 ghost use Rattle.log_lines.specs.Texts.{record_line, record_lines};
 ghost use Rattle.sink_buffer.specs.Texts.{Puts};
 
@@ -9,9 +9,8 @@ use crate::line::Lines;
 use crate::places::{Place, Places};
 use cdr_record::RecordRef;
 use grouped_lines::EntryLines;
-use log_handler::{LoggedRecords, ServerNote, put_entry_lines};
+use server_run::{Entry, LoggedRecords, ServerNote, put_entry_lines};
 use log_lines::put_borrowed_line;
-use reactor_model::Entry;
 use sink_buffer::TextOut;
 use std::alloc::Global;
 

@@ -2,8 +2,7 @@
 
 use crate::line::{Line, Lines};
 use ev_base::NoMemory;
-use log_handler::ServerNote;
-use reactor_model::Entry;
+use server_run::{Entry, ServerNote};
 use std::alloc::Global;
 
 /// In the place of a number: there is none.

@@ -9,7 +9,7 @@ ghost use Rattle.cmd_pool.specs.PutItems.{PutsBefore, PutsSome, log_of};
 
 use crate::putter::RecordPutter;
 use cdr_record::{Bytes, LogRecord, RecordRef};
-use log_handler::LoggedRecords;
+use server_run::LoggedRecords;
 use std::alloc::{AllocError, Global};
 use std::sync::Wait;
 use task_server::Item;

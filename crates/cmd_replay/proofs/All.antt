@@ -4,11 +4,11 @@ use Rattle.std.proofs.Common.{None}
 use Rattle.std.proofs.Common.{refl, sym, subst}
 use Rattle.ev_base.specs.Terms.{Terms}
 use Rattle.ev_base.specs.declared.end.PeerEnd.{Ghosts}
-use Rattle.reactor_model.specs.reactor_journal.specs.declared.entry.Entry.{Entry}
-use Rattle.log_handler.specs.declared.note.ServerNote.{ServerNote}
-use Rattle.acceptor.specs.Servers.{servers}
-use Rattle.acceptor.specs.declared.server.ServerHandler.{ServerHandler}
-use Rattle.reactor_model.specs.Handling.{Handling}
+use Rattle.server_run.specs.reactor_journal.specs.declared.entry.Entry.{Entry}
+use Rattle.server_run.specs.log_handler.specs.declared.note.ServerNote.{ServerNote}
+use Rattle.server_run.specs.acceptor.specs.Servers.{servers}
+use Rattle.server_run.specs.acceptor.specs.declared.server.ServerHandler.{ServerHandler}
+use Rattle.server_run.specs.reactor_model.specs.Handling.{Handling}
 use Rattle.script_net.specs.event_script.specs.Script.{ScriptGroup, steps_of, opened}
 use Rattle.script_net.specs.ScriptEnd.{script_end_facts, ScriptEndKeeps}
 use Rattle.script_net.specs.declared.end.ScriptEnd.{ScriptEnd}

@@ -8,21 +8,21 @@ use Rattle.std.proofs.lemmas.List.Folds.{list_all-append}
 use Rattle.ev_base.specs.Counts.{Rose}
 use Rattle.ev_base.specs.Terms.{Terms}
 use Rattle.ev_base.specs.declared.end.PeerEnd.{Ghosts}
-use Rattle.reactor_model.specs.reactor_journal.specs.declared.entry.Entry.{Entry}
-use Rattle.reactor_model.specs.reactor_journal.specs.Past.{past_of}
-use Rattle.reactor_model.specs.reactor_journal.specs.Follow.{follows_ready}
-use Rattle.reactor_core.specs.reactor_summary.specs.Summary.{Summary, summary}
-use Rattle.reactor_core.specs.reactor_summary.specs.declared.parts.LiveHandle.{LiveHandle}
-use Rattle.reactor_model.specs.Volumes.{VolumesFacts}
-use Rattle.reactor_core.specs.Acting.{StopAppends}
-use Rattle.reactor_core.specs.Removing.{AreRemovals, alive_handles}
-use Rattle.reactor_core.specs.Settling.{IsClosing}
-use Rattle.reactor_core.specs.Stands.{Meaning, meaning, HasTaken}
-use Rattle.reactor_core.specs.reactor_state.specs.declared.state.ReactorState.{ReactorState}
-use Rattle.reactor_core.specs.reactor_state.specs.declared.places.Places.{Places}
-use Rattle.reactor_core.specs.reactor_state.specs.declared.places.Pick.{Pick}
-use Rattle.timer_queue.specs.declared.timer.Timer.{Timer}
-use Rattle.reactor_core.specs.Ends.{WhereTold}
+use Rattle.server_run.specs.reactor_journal.specs.declared.entry.Entry.{Entry}
+use Rattle.server_run.specs.reactor_journal.specs.Past.{past_of}
+use Rattle.server_run.specs.reactor_journal.specs.Follow.{follows_ready}
+use Rattle.server_run.specs.reactor_summary.specs.Summary.{Summary, summary}
+use Rattle.server_run.specs.reactor_summary.specs.declared.parts.LiveHandle.{LiveHandle}
+use Rattle.server_run.specs.reactor_model.specs.Volumes.{VolumesFacts}
+use Rattle.server_run.specs.reactor_core.specs.Acting.{StopAppends}
+use Rattle.server_run.specs.reactor_core.specs.Removing.{AreRemovals, alive_handles}
+use Rattle.server_run.specs.reactor_core.specs.Settling.{IsClosing}
+use Rattle.server_run.specs.reactor_core.specs.Stands.{Meaning, meaning, HasTaken}
+use Rattle.server_run.specs.reactor_state.specs.declared.state.ReactorState.{ReactorState}
+use Rattle.server_run.specs.reactor_state.specs.declared.places.Places.{Places}
+use Rattle.server_run.specs.reactor_state.specs.declared.places.Pick.{Pick}
+use Rattle.server_run.specs.timer_queue.specs.declared.timer.Timer.{Timer}
+use Rattle.server_run.specs.reactor_core.specs.Ends.{WhereTold}
 use Rattle.ev_base.specs.Terms.{Group}
 use Rattle.script_net.specs.Hosts.{new_net}
 use Rattle.grouped_lines.specs.laws_script_runs.specs.Runs.{IsWhole}
@@ -30,15 +30,15 @@ use Rattle.laws_journal_length.specs.laws_script_serial.specs.Serial.{Serial}
 use Rattle.server_run.specs.reactor_desk.specs.Desks.{FillsVolume}
 use Rattle.server_run.specs.tp_reactor.specs.Alone.{RunsTo}
 use Rattle.server_run.specs.tp_reactor.specs.declared.working.Ran.{Ran}
-use Rattle.log_handler.specs.declared.note.ServerNote.{ServerNote}
-use Rattle.acceptor.specs.Servers.{servers}
-use Rattle.acceptor.specs.declared.server.ServerHandler.{ServerHandler}
+use Rattle.server_run.specs.log_handler.specs.declared.note.ServerNote.{ServerNote}
+use Rattle.server_run.specs.acceptor.specs.Servers.{servers}
+use Rattle.server_run.specs.acceptor.specs.declared.server.ServerHandler.{ServerHandler}
 use Rattle.script_net.specs.event_script.specs.Script.{ScriptGroup, steps_of, groups_told}
 use Rattle.script_net.specs.NetContent.{NetContent, script_net_facts, script_net_keeps, is_steady}
 use Rattle.script_net.specs.ScriptEnd.{script_end_facts, ScriptEndKeeps}
 use Rattle.script_net.specs.declared.end.ScriptEnd.{ScriptEnd}
 use Rattle.grouped_lines.specs.laws_script_runs.specs.Runs as runs
-use Rattle.reactor_model.specs.Entries.{is_notice}
+use Rattle.server_run.specs.reactor_model.specs.Entries.{is_notice}
 use Rattle.laws_script_served.specs.Served.{ServesScript, FollowsScript, IsServedToOver}
 use Rattle.laws_script_served.proofs.Following.{follows-script, ends-over, runs-over}
 use Rattle.laws_script_served.proofs.Scripts.{text-steps}

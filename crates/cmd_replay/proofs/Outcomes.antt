@@ -6,11 +6,11 @@ use Rattle.std.proofs.lemmas.List.{append-nil}
 use Rattle.ev_base.specs.Sink.{SinkFacts}
 use Rattle.ev_base.specs.Terms.{Terms}
 use Rattle.ev_base.specs.declared.end.PeerEnd.{Ghosts}
-use Rattle.reactor_model.specs.reactor_journal.specs.declared.entry.Entry.{Entry}
-use Rattle.reactor_core.specs.Ends.{WhereTold}
-use Rattle.reactor_core.specs.Stands.{HasTaken, Meaning}
-use Rattle.reactor_model.specs.Volumes.{VolumesFacts}
-use Rattle.log_handler.specs.declared.note.ServerNote.{ServerNote}
+use Rattle.server_run.specs.reactor_journal.specs.declared.entry.Entry.{Entry}
+use Rattle.server_run.specs.reactor_core.specs.Ends.{WhereTold}
+use Rattle.server_run.specs.reactor_core.specs.Stands.{HasTaken, Meaning}
+use Rattle.server_run.specs.reactor_model.specs.Volumes.{VolumesFacts}
+use Rattle.server_run.specs.log_handler.specs.declared.note.ServerNote.{ServerNote}
 use Rattle.cmd_line.specs.declared.options.Form.{Form}
 use Rattle.cmd_line.specs.declared.options.Form.TheVariants.{Plain, Grouped, Journal}
 use Rattle.cmd_line.specs.declared.options.Options.{Options}
@@ -20,7 +20,7 @@ use Rattle.server_run.specs.reactor_desk.specs.Desks.{FillsVolume}
 use Rattle.server_run.specs.declared.asked.Asked.{Asked}
 use Rattle.server_run.specs.declared.ending.Ending.{Ending}
 use Rattle.server_run.specs.declared.ending.Ending.TheVariants as ending
-use Rattle.log_handler.specs.sink_buffer.specs.Written.{TookAll}
+use Rattle.server_run.specs.sink_buffer.specs.Written.{TookAll}
 use Rattle.cmd_replay.specs.Leading.{unwatched, with_lines, with_text}
 use Rattle.cmd_replay.specs.Outputs.{WritesText, text_in}
 use Rattle.cmd_replay.specs.Replays.{EndsReplay, RanIn, RunsScript, terms_in}

@@ -12,12 +12,12 @@ use Rattle.ev_base.specs.Terms.{Terms, Group}
 use Rattle.ev_base.specs.declared.end.PeerEnd.{Ghosts}
 use Rattle.chosen_timers.specs.Chosen.{timers_of}
 use Rattle.chosen_timers.specs.declared.ChosenTimers.{ChosenTimers}
-use Rattle.reactor_model.specs.reactor_journal.specs.declared.entry.Entry.{Entry}
-use Rattle.reactor_core.specs.Ends.{WhereTold}
-use Rattle.reactor_core.specs.Stands.{Meaning}
-use Rattle.acceptor.specs.declared.server.ServerHandler.{ServerHandler}
-use Rattle.reactor_model.specs.Volumes.{VolumesFacts}
-use Rattle.log_handler.specs.declared.note.ServerNote.{ServerNote}
+use Rattle.server_run.specs.reactor_journal.specs.declared.entry.Entry.{Entry}
+use Rattle.server_run.specs.reactor_core.specs.Ends.{WhereTold}
+use Rattle.server_run.specs.reactor_core.specs.Stands.{Meaning}
+use Rattle.server_run.specs.acceptor.specs.declared.server.ServerHandler.{ServerHandler}
+use Rattle.server_run.specs.reactor_model.specs.Volumes.{VolumesFacts}
+use Rattle.server_run.specs.log_handler.specs.declared.note.ServerNote.{ServerNote}
 use Rattle.cmd_line.specs.declared.options.Form.{Form}
 use Rattle.script_net.specs.event_script.specs.Script.{ScriptGroup, steps_of, groups_told, opened}
 use Rattle.script_net.specs.event_script.specs.Stories.{story, stories, offers}
@@ -33,7 +33,7 @@ use Rattle.server_run.specs.declared.asked.Asked.{Asked}
 use Rattle.server_run.specs.declared.ending.Ending.{Ending}
 use Rattle.server_run.specs.declared.ending.Ending.TheVariants as ending
 use Rattle.server_run.specs.declared.ending.Served.{Served}
-use Rattle.log_handler.specs.sink_buffer.specs.Written.{TookAll, TookFront}
+use Rattle.server_run.specs.sink_buffer.specs.Written.{TookAll, TookFront}
 use Rattle.cmd_replay.specs.Outputs.{WritesText, WritesBehind, text_in}
 use Rattle.cmd_replay.specs.Playing.{CanPlay, terms_of_content}
 use Rattle.cmd_replay.specs.Replays.{EndsReplay, IsOfText, RanIn, RunsScript, WritesHeld, end_by}

@@ -5,13 +5,13 @@ use Rattle.std.proofs.lemmas.List.{append-nil}
 use Rattle.ev_base.specs.Counts.{counted}
 use Rattle.ev_base.specs.Sink.{SinkFacts, GrowsBy}
 use Rattle.ev_base.specs.Terms.{Terms}
-use Rattle.log_handler.specs.sink_buffer.specs.Written.{TakesAll, BreaksOff, TookAll, TookFront}
-use Rattle.log_handler.specs.sink_buffer.specs.Gathers.{HoldsBack}
-use Rattle.reactor_model.specs.reactor_journal.specs.declared.entry.Entry.{Entry}
-use Rattle.log_handler.specs.declared.note.ServerNote.{ServerNote}
-use Rattle.log_handler.specs.declared.line_sink.LineSink.{LineSink}
-use Rattle.log_handler.specs.LineSink as lines
-use Rattle.log_handler.specs.Notes.{journal_lines}
+use Rattle.server_run.specs.sink_buffer.specs.Written.{TakesAll, BreaksOff, TookAll, TookFront}
+use Rattle.server_run.specs.sink_buffer.specs.Gathers.{HoldsBack}
+use Rattle.server_run.specs.reactor_journal.specs.declared.entry.Entry.{Entry}
+use Rattle.server_run.specs.log_handler.specs.declared.note.ServerNote.{ServerNote}
+use Rattle.server_run.specs.log_handler.specs.declared.line_sink.LineSink.{LineSink}
+use Rattle.server_run.specs.log_handler.specs.LineSink as lines
+use Rattle.server_run.specs.log_handler.specs.Notes.{journal_lines}
 use Rattle.journal_text.specs.declared.journal_sink.JournalSink.{JournalSink}
 use Rattle.journal_text.specs.JournalSink as journals
 use Rattle.server_run.specs.declared.ending.Ending.{Ending}

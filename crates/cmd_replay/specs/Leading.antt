@@ -3,20 +3,20 @@ use Rattle.std.specs.Prelude.{◌⊎◌, ℕ, Bool, false, List}
 use Rattle.ev_base.specs.Sink.{SinkFacts}
 use Rattle.ev_base.specs.Terms.{Terms}
 use Rattle.ev_base.specs.declared.end.PeerEnd.{Ghosts}
-use Rattle.acceptor.specs.Servers.{servers}
-use Rattle.acceptor.specs.declared.server.ServerHandler.{ServerHandler}
+use Rattle.server_run.specs.acceptor.specs.Servers.{servers}
+use Rattle.server_run.specs.acceptor.specs.declared.server.ServerHandler.{ServerHandler}
 use Rattle.chosen_timers.specs.Chosen.{spare_of, timers_of}
 use Rattle.chosen_timers.specs.declared.ChosenTimers.{ChosenTimers}
 use Rattle.journal_text.specs.JournalSink as text
 use Rattle.journal_text.specs.declared.journal_sink.JournalSink.{JournalSink}
-use Rattle.log_handler.specs.LineSink as lines
-use Rattle.log_handler.specs.declared.line_sink.LineSink.{LineSink}
-use Rattle.log_handler.specs.declared.note.ServerNote.{ServerNote}
-use Rattle.reactor_core.specs.Stands.{Meaning, meaning}
-use Rattle.reactor_core.specs.reactor_state.specs.State.{HasPlaces, IsPlaced, Shows}
-use Rattle.reactor_model.specs.Volumes.{VolumesFacts}
-use Rattle.reactor_model.specs.declared.watch.NoWatch.{NoWatch}
-use Rattle.reactor_model.specs.reactor_journal.specs.declared.entry.Entry.{Entry}
+use Rattle.server_run.specs.log_handler.specs.LineSink as lines
+use Rattle.server_run.specs.log_handler.specs.declared.line_sink.LineSink.{LineSink}
+use Rattle.server_run.specs.log_handler.specs.declared.note.ServerNote.{ServerNote}
+use Rattle.server_run.specs.reactor_core.specs.Stands.{Meaning, meaning}
+use Rattle.server_run.specs.reactor_state.specs.State.{HasPlaces, IsPlaced, Shows}
+use Rattle.server_run.specs.reactor_model.specs.Volumes.{VolumesFacts}
+use Rattle.server_run.specs.reactor_model.specs.declared.watch.NoWatch.{NoWatch}
+use Rattle.server_run.specs.reactor_journal.specs.declared.entry.Entry.{Entry}
 use Rattle.script_net.specs.NetContent.{NetContent, script_net_facts, script_net_keeps}
 use Rattle.script_net.specs.ScriptEnd.{script_end_facts, ScriptEndKeeps}
 use Rattle.script_net.specs.declared.end.ScriptEnd.{ScriptEnd}

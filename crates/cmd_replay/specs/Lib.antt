@@ -4,6 +4,11 @@ pub mod Runs
 pub mod Outputs
 pub mod Replays
 pub mod Replaying
-pub use Rattle.acceptor
+pub use Rattle.server_run.specs.acceptor
 pub use Rattle.laws_script_served
 pub use Rattle.server_run
+pub use Rattle.server_run.specs.reactor_model
+pub use Rattle.server_run.specs.reactor_journal
+pub use Rattle.server_run.specs.log_handler
+pub use Rattle.server_run.specs.sink_buffer
+pub use Rattle.server_run.specs.reactor_core

@@ -1,10 +1,10 @@
 -- What a run over a script writes.
 use Rattle.std.specs.Prelude.{◌≡◌, ℕ, List}
 use Rattle.ev_base.specs.Sink.{SinkFacts}
-use Rattle.log_handler.specs.sink_buffer.specs.Written.{TookAll, TookFront}
-use Rattle.reactor_model.specs.reactor_journal.specs.declared.entry.Entry.{Entry}
-use Rattle.log_handler.specs.declared.note.ServerNote.{ServerNote}
-use Rattle.log_handler.specs.Notes.{journal_lines}
+use Rattle.server_run.specs.sink_buffer.specs.Written.{TookAll, TookFront}
+use Rattle.server_run.specs.reactor_journal.specs.declared.entry.Entry.{Entry}
+use Rattle.server_run.specs.log_handler.specs.declared.note.ServerNote.{ServerNote}
+use Rattle.server_run.specs.log_handler.specs.Notes.{journal_lines}
 use Rattle.journal_text.specs.JournalSink.{text_so_far}
 use Rattle.grouped_lines.specs.laws_script_runs.specs.Connections.{lines_by_connection}
 use Rattle.cmd_line.specs.declared.options.Form.{Form}

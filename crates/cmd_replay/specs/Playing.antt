@@ -6,10 +6,10 @@ use Rattle.ev_base.specs.Story.{OfParts}
 use Rattle.ev_base.specs.Terms.{Terms}
 use Rattle.chosen_timers.specs.Chosen.{timers_of}
 use Rattle.chosen_timers.specs.declared.ChosenTimers.{ChosenTimers}
-use Rattle.reactor_model.specs.reactor_journal.specs.declared.entry.Entry.{Entry}
-use Rattle.reactor_model.specs.Volumes.{VolumesFacts}
-use Rattle.reactor_core.specs.Ends.{WhereTold}
-use Rattle.log_handler.specs.declared.note.ServerNote.{ServerNote}
+use Rattle.server_run.specs.reactor_journal.specs.declared.entry.Entry.{Entry}
+use Rattle.server_run.specs.reactor_model.specs.Volumes.{VolumesFacts}
+use Rattle.server_run.specs.reactor_core.specs.Ends.{WhereTold}
+use Rattle.server_run.specs.log_handler.specs.declared.note.ServerNote.{ServerNote}
 use Rattle.script_net.specs.Content.{ConnectionContent}
 use Rattle.script_net.specs.Hosts.{ScriptContent, LaysDown}
 use Rattle.server_run.specs.Starting.{AreTermsOf}

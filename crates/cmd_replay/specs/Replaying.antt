@@ -5,8 +5,8 @@ use Rattle.ev_base.specs.Sink.{SinkFacts}
 use Rattle.ev_base.specs.Source.{SourceFacts}
 use Rattle.ev_base.specs.declared.end.PeerEnd.{Ghosts}
 use Rattle.bounded_input.specs.Reading.{IsReadWhole, ReadsSome, ReadsUpToFault, ReadsTooLong}
-use Rattle.reactor_model.specs.Volumes.{VolumesFacts}
-use Rattle.log_handler.specs.declared.note.ServerNote.{ServerNote}
+use Rattle.server_run.specs.reactor_model.specs.Volumes.{VolumesFacts}
+use Rattle.server_run.specs.log_handler.specs.declared.note.ServerNote.{ServerNote}
 use Rattle.cmd_line.specs.declared.options.Options.{Options}
 use Rattle.script_net.specs.event_script.specs.Script.{ScriptGroup}
 use Rattle.script_net.specs.event_script.specs.Grammar.{IsScriptText, IsBadAt}

@@ -5,17 +5,17 @@ use Rattle.std.specs.List.{list_any}
 use Rattle.ev_base.specs.ev_types.specs.declared.upcall.Handle.{Handle}
 use Rattle.ev_base.specs.Terms.{Terms}
 use Rattle.ev_base.specs.declared.end.PeerEnd.{Ghosts}
-use Rattle.reactor_model.specs.reactor_journal.specs.declared.entry.Entry.{Entry}
-use Rattle.reactor_model.specs.reactor_journal.specs.declared.entry.Entry.TheVariants.{Closed}
-use Rattle.reactor_model.specs.reactor_journal.specs.declared.entry.Entry.TheVariants.{Ended}
-use Rattle.reactor_model.specs.reactor_journal.specs.Past.{past_of}
-use Rattle.reactor_core.specs.Ends.{WhereTold}
-use Rattle.reactor_core.specs.Stands.{HasTaken, Meaning}
-use Rattle.log_handler.specs.log_lines.specs.declared.end_kind.EndKind.{EndKind}
-use Rattle.log_handler.specs.declared.note.ServerNote.{ServerNote}
-use Rattle.log_handler.specs.declared.note.ServerNote.TheVariants.{Finished}
-use Rattle.acceptor.specs.Servers.{servers}
-use Rattle.acceptor.specs.declared.server.ServerHandler.{ServerHandler}
+use Rattle.server_run.specs.reactor_journal.specs.declared.entry.Entry.{Entry}
+use Rattle.server_run.specs.reactor_journal.specs.declared.entry.Entry.TheVariants.{Closed}
+use Rattle.server_run.specs.reactor_journal.specs.declared.entry.Entry.TheVariants.{Ended}
+use Rattle.server_run.specs.reactor_journal.specs.Past.{past_of}
+use Rattle.server_run.specs.reactor_core.specs.Ends.{WhereTold}
+use Rattle.server_run.specs.reactor_core.specs.Stands.{HasTaken, Meaning}
+use Rattle.server_run.specs.log_lines.specs.declared.end_kind.EndKind.{EndKind}
+use Rattle.server_run.specs.log_handler.specs.declared.note.ServerNote.{ServerNote}
+use Rattle.server_run.specs.log_handler.specs.declared.note.ServerNote.TheVariants.{Finished}
+use Rattle.server_run.specs.acceptor.specs.Servers.{servers}
+use Rattle.server_run.specs.acceptor.specs.declared.server.ServerHandler.{ServerHandler}
 use Rattle.grouped_lines.specs.laws_by_turns.specs.ByTurns.{DispatchedByTurns}
 use Rattle.script_net.specs.event_script.specs.Script.{ScriptGroup, steps_of, groups_told, opened}
 use Rattle.script_net.specs.event_script.specs.Grammar.{IsScriptText}

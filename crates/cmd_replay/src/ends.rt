@@ -2,11 +2,8 @@
 ghost use Rattle.std.specs.Prelude.{◌≡◌};
 
 use chosen_timers::ChosenTimers;
-use log_handler::ServerNote;
-use reactor_core::Parts;
-use reactor_model::Journal;
 use script_net::ScriptNet;
-use server_run::{Ending, Served};
+use server_run::{Ending, Journal, Parts, Served, ServerNote};
 
 /// How a replay ended. Of several faults of a run the first in this order is told.
 #[derive(Clone, Copy, PartialEq, Eq, Debug)]

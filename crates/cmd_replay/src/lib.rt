@@ -10,4 +10,4 @@ mod replaying;
 pub use ends::{Played, ReplayEnd, Replayed};
 pub use playing::play;
 pub use replaying::{replay, run_script};
-pub use server_run::{Asked, Ending, Served};
+pub use server_run::{Asked, Ending, Entry, Journal, NoWatch, Parts, Served, ServerNote, Volumes};

@@ -11,18 +11,16 @@ ghost use Rattle.script_net.specs.ScriptEnd.{script_end_facts, ScriptEndKeeps};
 ghost use Rattle.cmd_replay.specs.Playing.{CanPlay};
 ghost use Rattle.cmd_replay.specs.Runs.{FailsNet, ForScript, LeavesScript};
 
-use acceptor::ServerHandler;
 use chosen_timers::ChosenTimers;
 use ev_base::{Host, PeerEnd};
-use log_handler::ServerNote;
-use reactor_core::{Core, Means};
-use reactor_model::{Volumes, Watch};
 use script_net::{Script, ScriptEnd, ScriptHost, ScriptNet, ScriptWake};
-use server_run::{Asked, Ending, Ground, Served, serve};
+use server_run::{
+    Asked, Core, Ending, Ground, Means, Served, ServerHandler, ServerNote, TimerQueue, Volumes,
+    Watch, serve,
+};
 use std::alloc::Global;
 use std::sync::Wait;
 use std::thread::Threads;
-use timer_queue::TimerQueue;
 
 /// The reactor of a run over a script.
 pub type ScriptCore<W, V> = Core<ServerHandler<ScriptEnd>, ScriptNet, ChosenTimers, W, V>;

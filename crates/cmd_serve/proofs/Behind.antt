@@ -6,19 +6,19 @@ use Rattle.std.proofs.lemmas.List.{append_cancel_left}
 use Rattle.ev_base.specs.Sink.{SinkFacts, GrowsBy}
 use Rattle.ev_base.specs.Net.{NetFacts}
 use Rattle.ev_base.specs.Terms.{Terms}
-use Rattle.log_handler.specs.sink_buffer.specs.Written.{IsPrefixOf, TakesAll, BreaksOff, WritesAll}
-use Rattle.log_handler.specs.sink_buffer.specs.Written.{TookAll, TookFront}
-use Rattle.log_handler.specs.Notes.{journal_lines}
-use Rattle.log_handler.specs.declared.line_sink.LineSink.{LineSink}
-use Rattle.log_handler.specs.declared.note.ServerNote.{ServerNote}
-use Rattle.reactor_model.specs.reactor_journal.specs.declared.entry.Entry.{Entry}
-use Rattle.reactor_model.specs.Handling.{Handling}
-use Rattle.reactor_model.specs.Volumes.{VolumesFacts}
-use Rattle.reactor_core.specs.Stands.{Meaning, meaning}
-use Rattle.reactor_core.specs.reactor_state.specs.declared.places.Places.{Places}
-use Rattle.reactor_core.specs.reactor_state.specs.declared.places.Pick.{Pick}
-use Rattle.reactor_core.specs.reactor_state.specs.declared.state.ReactorState.{ReactorState}
-use Rattle.reactor_core.specs.reactor_summary.specs.Summary.{Summary}
+use Rattle.server_run.specs.sink_buffer.specs.Written.{IsPrefixOf, TakesAll, BreaksOff, WritesAll}
+use Rattle.server_run.specs.sink_buffer.specs.Written.{TookAll, TookFront}
+use Rattle.server_run.specs.log_handler.specs.Notes.{journal_lines}
+use Rattle.server_run.specs.log_handler.specs.declared.line_sink.LineSink.{LineSink}
+use Rattle.server_run.specs.log_handler.specs.declared.note.ServerNote.{ServerNote}
+use Rattle.server_run.specs.reactor_journal.specs.declared.entry.Entry.{Entry}
+use Rattle.server_run.specs.reactor_model.specs.Handling.{Handling}
+use Rattle.server_run.specs.reactor_model.specs.Volumes.{VolumesFacts}
+use Rattle.server_run.specs.reactor_core.specs.Stands.{Meaning, meaning}
+use Rattle.server_run.specs.reactor_state.specs.declared.places.Places.{Places}
+use Rattle.server_run.specs.reactor_state.specs.declared.places.Pick.{Pick}
+use Rattle.server_run.specs.reactor_state.specs.declared.state.ReactorState.{ReactorState}
+use Rattle.server_run.specs.reactor_summary.specs.Summary.{Summary}
 use Rattle.write_behind.specs.Facts.{Taken, grown, counted_on, behind_facts}
 use Rattle.server_run.specs.declared.asked.Asked.{Asked}
 use Rattle.cmd_serve.specs.Leading.{LedSo, behind}

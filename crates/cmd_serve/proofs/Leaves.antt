@@ -8,18 +8,18 @@ use Rattle.ev_base.specs.Counts.{Rose, counted}
 use Rattle.ev_base.specs.Net.{HasNone, IsNew, NetFacts}
 use Rattle.ev_base.specs.Sink.{SinkFacts, GrowsBy}
 use Rattle.ev_base.specs.Terms.{Terms}
-use Rattle.log_handler.specs.sink_buffer.specs.Written.{TookAll, TookFront}
-use Rattle.reactor_core.specs.timer_queue.specs.declared.timer.Timer.{Timer}
-use Rattle.reactor_model.specs.reactor_journal.specs.declared.entry.Entry.{Entry}
-use Rattle.reactor_model.specs.reactor_journal.specs.declared.entry.Entry.TheVariants.{Ended}
-use Rattle.reactor_model.specs.Volumes.{VolumesFacts}
-use Rattle.reactor_core.specs.Calls.{AreCalls}
-use Rattle.reactor_core.specs.Ends.{WhereTold}
-use Rattle.reactor_core.specs.Stands.{HasTaken, Meaning, NetStands}
-use Rattle.log_handler.specs.LineSink.{PutsLines, is_broken, sink_of}
-use Rattle.log_handler.specs.Notes.{journal_lines}
-use Rattle.log_handler.specs.declared.line_sink.LineSink.{LineSink}
-use Rattle.log_handler.specs.declared.note.ServerNote.{ServerNote}
+use Rattle.server_run.specs.sink_buffer.specs.Written.{TookAll, TookFront}
+use Rattle.server_run.specs.timer_queue.specs.declared.timer.Timer.{Timer}
+use Rattle.server_run.specs.reactor_journal.specs.declared.entry.Entry.{Entry}
+use Rattle.server_run.specs.reactor_journal.specs.declared.entry.Entry.TheVariants.{Ended}
+use Rattle.server_run.specs.reactor_model.specs.Volumes.{VolumesFacts}
+use Rattle.server_run.specs.reactor_core.specs.Calls.{AreCalls}
+use Rattle.server_run.specs.reactor_core.specs.Ends.{WhereTold}
+use Rattle.server_run.specs.reactor_core.specs.Stands.{HasTaken, Meaning, NetStands}
+use Rattle.server_run.specs.log_handler.specs.LineSink.{PutsLines, is_broken, sink_of}
+use Rattle.server_run.specs.log_handler.specs.Notes.{journal_lines}
+use Rattle.server_run.specs.log_handler.specs.declared.line_sink.LineSink.{LineSink}
+use Rattle.server_run.specs.log_handler.specs.declared.note.ServerNote.{ServerNote}
 use Rattle.cmd_line.specs.declared.options.Options.{Options}
 use Rattle.server_run.specs.reactor_desk.specs.Desks.{FillsVolume}
 use Rattle.server_run.specs.Journals.{IsRun}

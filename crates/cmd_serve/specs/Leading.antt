@@ -2,11 +2,12 @@
 use Rattle.std.specs.Prelude.{◌<◌, ◌⊎◌, List}
 use Rattle.ev_base.specs.Sink.{SinkFacts}
 use Rattle.ev_base.specs.Terms.{Terms}
-use Rattle.reactor_model.specs.reactor_journal.specs.declared.entry.Entry.{Entry}
-use Rattle.reactor_core.specs.Stands.{Meaning, meaning}
-use Rattle.log_handler.specs.LineSink.{PutsLines, is_broken, line_sink_faults, whole_of}
-use Rattle.log_handler.specs.declared.line_sink.LineSink.{LineSink}
-use Rattle.log_handler.specs.declared.note.ServerNote.{ServerNote}
+use Rattle.server_run.specs.reactor_journal.specs.declared.entry.Entry.{Entry}
+use Rattle.server_run.specs.reactor_core.specs.Stands.{Meaning, meaning}
+use Rattle.server_run.specs.log_handler.specs.LineSink.{PutsLines, is_broken, line_sink_faults}
+use Rattle.server_run.specs.log_handler.specs.LineSink.{whole_of}
+use Rattle.server_run.specs.log_handler.specs.declared.line_sink.LineSink.{LineSink}
+use Rattle.server_run.specs.log_handler.specs.declared.note.ServerNote.{ServerNote}
 use Rattle.server_run.specs.Served.{HasLed, HasNoLead}
 use Rattle.server_run.specs.declared.asked.Asked.{Asked}
 use Rattle.server_run.specs.declared.ending.Ending.{Ending}

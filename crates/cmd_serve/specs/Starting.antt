@@ -2,8 +2,8 @@
 use Rattle.std.specs.Prelude.{ℕ, ◌+◌, length, Some, option_map}
 use Rattle.ev_base.specs.Sink.{SinkFacts}
 use Rattle.ev_base.specs.Terms.{Terms, open_terms}
-use Rattle.log_handler.specs.declared.note.ServerNote.{ServerNote}
-use Rattle.reactor_model.specs.Volumes.{VolumesFacts}
+use Rattle.server_run.specs.log_handler.specs.declared.note.ServerNote.{ServerNote}
+use Rattle.server_run.specs.reactor_model.specs.Volumes.{VolumesFacts}
 use Rattle.cmd_line.specs.declared.options.Options.{Options}
 use Rattle.server_run.specs.declared.asked.Asked.{Asked}
 

@@ -4,10 +4,7 @@ ghost use Rattle.cmd_serve.specs.Leaving.{IsUnserved, end_of, left_by, told_end}
 
 use chosen_timers::ChosenTimers;
 use ev_base::Sink;
-use log_handler::{LineSink, ServerNote};
-use reactor_core::Parts;
-use reactor_model::{Journal, Watch};
-use server_run::{Ending, Served};
+use server_run::{Ending, Journal, LineSink, Parts, Served, ServerNote, Watch};
 use std::alloc::Global;
 
 /// How a run over a host ended. Of several causes the first in this order is told; if the host

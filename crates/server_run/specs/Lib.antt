@@ -8,3 +8,13 @@ pub use Rattle.laws_script_taken.specs.laws_script_complete
 pub use Rattle.laws_script_taken
 pub use Rattle.tp_reactor
 pub use Rattle.tp_reactor.specs.reactor_desk
+pub use Rattle.laws_script_taken.specs.reactor_model
+pub use Rattle.laws_script_taken.specs.reactor_journal
+pub use Rattle.log_handler
+pub use Rattle.acceptor
+pub use Rattle.log_handler.specs.sink_buffer
+pub use Rattle.log_handler.specs.log_lines
+pub use Rattle.tp_reactor.specs.reactor_core
+pub use Rattle.tp_reactor.specs.reactor_state
+pub use Rattle.tp_reactor.specs.reactor_summary
+pub use Rattle.tp_reactor.specs.timer_queue

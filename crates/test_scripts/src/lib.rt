@@ -1,6 +1,5 @@
 //! Rows of scripts: their text, their generator and the summary of a run, the nets that play them,
-//! the words of the command line, what the program's top call makes of scripts, and the echo
-//! server.
+//! and the echo server over them; of the words of the command line; and of the writes of lines.
 #![tactic(auto)]
 
 #[cfg(test)]
@@ -10,15 +9,9 @@ mod echo;
 #[cfg(test)]
 mod generator;
 #[cfg(test)]
-mod journal_rows;
-#[cfg(test)]
-mod many_rows;
+mod line_rows;
 #[cfg(test)]
 mod nets;
-#[cfg(test)]
-mod played_rows;
-#[cfg(test)]
-mod running;
 #[cfg(test)]
 mod scripts;
 #[cfg(test)]

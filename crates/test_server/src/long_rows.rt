@@ -1,9 +1,10 @@
 //! Long inputs of `one`: volumes that are handed over, and a write that fails early.
 ghost use Rattle.std.specs.Prelude.{None, ◌==◌, ◌&&◌, ◌-◌, ◌^◌};
+ghost use Rattle.ev_base.specs.MemSink.{mem_sink_facts};
 
 use crate::asserts::assert_same;
-use crate::running::{Left, RECORD, room, room_for, run_line, volumes};
-use ev_base::{Got, MemSink, Source};
+use crate::running::{Left, RECORD, room, room_for, run_line, volumes, whole};
+use ev_base::{Got, MemSink, MemSource, Sink, Source, Wrote};
 use reactor_model::check;
 use std::alloc::Global;
 use std::process::Abort;
@@ -149,5 +150,52 @@ fn a_failed_write_ends_a_long_display(rt: HostRuntime) -> Result<(), Fail> {
     let (status, at, left, is_front) = run_broken(&rt, rt.alloc(), "display", b"1,2 7 LM_D")?;
     assert_same(&rt, (status, at, is_front), (4, 0, true));
     assert!(rt; left > (1 << 40) - 1_000_000);
+    Ok(())
+}
+
+/// A sink in memory that counts its writes.
+#[derive(Drop)]
+struct CountingSink {
+    below: MemSink,
+    writes: u64,
+}
+
+impl Sink for CountingSink {
+    ghost facts = { λ sink. mem_sink_facts sink.below };
+
+    fn write(&mut self, piece: &[u8]) -> Wrote {
+        self.writes = self.writes.saturating_add(1);
+        self.below.write(piece)
+    }
+}
+
+/// A source of a hundred records.
+fn hundred(alloc: Global) -> Result<MemSource, Fail> {
+    let mut bytes = Vec::new(alloc);
+    for _ in 0..100 {
+        bytes.extend_from_slice(RECORD)?;
+    }
+    whole(alloc, bytes)
+}
+
+/// Runs `one` on a hundred records, and gives the status, and how many writes and bytes there were.
+fn run_hundred<R: Clock + Threads + Wait + Copy + Send + Sync + 'static>(
+    rt: &R,
+    alloc: Global,
+) -> Result<(u8, u64, usize), Fail> {
+    let below = room_for(alloc, 4096, None)?;
+    let output = CountingSink { below, writes: 0 };
+    let input = hundred(alloc)?;
+    let left = run_line(rt, alloc, "one", input, output, volumes(alloc, &[])?)?;
+    let written = left.output.below.bytes().len();
+    Ok((left.status, left.output.writes, written))
+}
+
+#[test]
+fn the_lines_of_a_piece_are_written_together(rt: HostRuntime) -> Result<(), Fail> {
+    // 3,000 bytes are one piece: one write for its 100 lines of 21 bytes, and one for the closing
+    // line of 14
+    let left = run_hundred(&rt, rt.alloc())?;
+    assert_same(&rt, left, (0, 2, 100 * 21 + 14));
     Ok(())
 }

@@ -1,8 +1,8 @@
 use denote.Param.Send.{param_send, param_sync, sendable}
 use Rattle.std.proofs.Common.{rules, ap, sym, subst, refl, List, Some, true}
-use Rattle.reactor_model.specs.reactor_journal.specs.declared.entry.Entry.{Entry}
-use Rattle.log_handler.specs.declared.note.ServerNote.{ServerNote}
-use Rattle.reactor_model.proofs.watch.NoWatch.TheSendSync as sends
+use Rattle.cmd_replay.specs.reactor_journal.specs.declared.entry.Entry.{Entry}
+use Rattle.cmd_replay.specs.log_handler.specs.declared.note.ServerNote.{ServerNote}
+use Rattle.cmd_replay.specs.reactor_model.proofs.watch.NoWatch.TheSendSync as sends
 use Rattle.cmd_replay.specs.Replays.{unseen}
 use Rattle.cmd_replay.proofs.RunsScript.{can-play}
 use Rattle.cmd_replay.specs.server_run.specs.Starting.{IsFine}

@@ -1,7 +1,7 @@
 use denote.Param.Send.{param_send, param_sync, sendable}
 use Rattle.std.proofs.Common.{rules, ◌∙◌, subst, refl, Some, true}
 use Rattle.cmd_line.specs.declared.options.Form.TheVariants.{Grouped}
-use Rattle.reactor_model.proofs.watch.NoWatch.TheSendSync as sends
+use Rattle.server_run.specs.reactor_model.proofs.watch.NoWatch.TheSendSync as sends
 use Rattle.grouped_lines.specs.laws_script_runs.specs.Connections.{lines_by_connection}
 use Rattle.cmd_replay.specs.Leading.{unwatched}
 use Rattle.cmd_replay.specs.Replays.{WritesHeld, unseen}

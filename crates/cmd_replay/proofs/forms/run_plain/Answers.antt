@@ -1,8 +1,8 @@
 use denote.Exit.{no}
 use denote.Param.Send.{param_send, param_sync, arg_send}
 use Rattle.std.proofs.Common.{rules, ◌≡◌, ◌+◌, ◌∙◌, ap, sym, subst, refl}
-use Rattle.log_handler.proofs.line_sink.LineSink.TheSendSync as sends
-use Rattle.log_handler.specs.LineSink as lines
+use Rattle.server_run.specs.log_handler.proofs.line_sink.LineSink.TheSendSync as sends
+use Rattle.server_run.specs.log_handler.specs.LineSink as lines
 use Rattle.cmd_line.specs.declared.options.Form.TheVariants.{Plain}
 use Rattle.cmd_replay.specs.Leading.{with_lines}
 use Rattle.cmd_replay.specs.Outputs.{WritesText, text_in}

@@ -1,4 +1,4 @@
-use Rattle.log_handler.specs.LineSink.{sink_of}
+use Rattle.server_run.specs.log_handler.specs.LineSink.{sink_of}
 use Rattle.cmd_replay.specs.Playing.{terms_of_content}
 use Rattle.cmd_replay.proofs.forms.run_plain.Given as goal
 

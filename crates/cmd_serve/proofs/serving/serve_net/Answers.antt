@@ -2,7 +2,7 @@ use denote.Exit.{no}
 use denote.Param.Send.{arg_send, param_send, param_sync, sendable}
 use Rattle.std.proofs.Common.{rules, refl}
 use Rattle.chosen_timers.proofs.ChosenTimers.TheSendSync as timers
-use Rattle.log_handler.proofs.line_sink.LineSink.TheSendSync as lines
+use Rattle.server_run.specs.log_handler.proofs.line_sink.LineSink.TheSendSync as lines
 use Rattle.cmd_serve.specs.Starting.{asked_by}
 use Rattle.cmd_serve.proofs.Begins.{can-start, faults-are, fine, opening-is}
 use Rattle.cmd_serve.proofs.Leaves.{leaves-host, leaves-net, sized, under}

@@ -2,18 +2,14 @@
 ghost use Rattle.ev_base.specs.MemSink.{mem_sink_facts};
 
 use crate::asserts::{assert_in, assert_same};
-use crate::running::{RECORD, room_for, run_line, volumes, whole};
 use cdr_record::{Bytes, LogRecord, RecordList, Records};
-use ev_base::{Answer, Handle, Mask, MemSink, MemSource, Sink, Wrote};
+use ev_base::{Answer, Handle, Mask, MemSink, Sink, Wrote};
 use journal_text::JournalSink;
 use log_handler::{EndKind, LineSink, LoggedRecords, ServerNote};
 use packed_records::GatheredRecords;
 use reactor_model::{Entry, Watch};
 use std::alloc::Global;
-use std::sync::Wait;
 use std::test::Fail;
-use std::thread::Threads;
-use std::time::Clock;
 
 const LINE: &[u8] = b"3 1,2 7 LM_DEBUG: hi\n";
 
@@ -36,8 +32,10 @@ impl Sink for CountingSink {
 }
 
 fn counting_sink(alloc: Global) -> Result<CountingSink, Fail> {
-    let below = room_for(alloc, 4096, None)?;
-    Ok(CountingSink { below, writes: 0 })
+    match MemSink::new(alloc, 4096, None) {
+        Ok(below) => Ok(CountingSink { below, writes: 0 }),
+        Err(_) => Err(Fail::from("no room")),
+    }
 }
 
 /// A record with this message.
@@ -245,35 +243,5 @@ fn an_entry_of_a_journal_is_written_at_once(rt: HostRuntime) -> Result<(), Fail>
     let is_so = is_taken(&output, 3, text);
     drop(output);
     assert!(rt; is_so);
-    Ok(())
-}
-
-/// A source of a hundred records.
-fn hundred(alloc: Global) -> Result<MemSource, Fail> {
-    let mut bytes = Vec::new(alloc);
-    for _ in 0..100 {
-        bytes.extend_from_slice(RECORD)?;
-    }
-    whole(alloc, bytes)
-}
-
-/// Runs `one` on a hundred records, and gives the status, and how many writes and bytes there were.
-fn run_hundred<R: Clock + Threads + Wait + Copy + Send + Sync + 'static>(
-    rt: &R,
-    alloc: Global,
-) -> Result<(u8, u64, usize), Fail> {
-    let output = counting_sink(alloc)?;
-    let input = hundred(alloc)?;
-    let left = run_line(rt, alloc, "one", input, output, volumes(alloc, &[])?)?;
-    let written = left.output.below.bytes().len();
-    Ok((left.status, left.output.writes, written))
-}
-
-#[test]
-fn the_lines_of_a_piece_are_written_together(rt: HostRuntime) -> Result<(), Fail> {
-    // 3,000 bytes are one piece: one write for its 100 lines of 21 bytes, and one for the closing
-    // line of 14
-    let left = run_hundred(&rt, rt.alloc())?;
-    assert_same(&rt, left, (0, 2, 100 * 21 + 14));
     Ok(())
 }
