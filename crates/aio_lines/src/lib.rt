@@ -1,5 +1,5 @@
-//! The lines of an echo service made of operations: one for each connection that was closed, written
-//! as the journal says that it was.
+//! The lines of an echo service made of operations: one for each connection that was closed,
+//! written as the journal says that it was.
 #![tactic(auto)]
 
 mod line;

@@ -8,8 +8,8 @@ use proactor::{AioNote, AsynchNote};
 use reactor_model::Entry;
 use sink_buffer::{ShortText, TextOut};
 
-/// Puts the line of a connection that was closed: `{conn} read {R} wrote {W} cancelled {C}`, with its
-/// number, how many bytes were read and written, and how many operations were cancelled.
+/// Puts the line of a connection that was closed: `{conn} read {R} wrote {W} cancelled {C}`, with
+/// its number, how many bytes were read and written, and how many operations were cancelled.
 pub fn put_connection_line<T: TextOut>(out: &mut T, note: &AsynchNote)
     ensures { Puts T.stands out.old (connection_line note.now) out.new }
 {

@@ -372,7 +372,8 @@ adds_writes s es t tried = by s.standing.writes refl tried
         → TakesWrite took write rest (record s { facts = facts }) es t → Adds s es t
     came_to write rest is (sent.Bytes n) facts w c = subst (λ (e : List Event). Adds s e t)
         (sym c.tells) (goes_on write rest is n facts
-        (nat_lt (s.standing.sent + n) (length write.bytes)) (s.standing.sent + n) c.told w c.advances)
+        (nat_lt (s.standing.sent + n) (length write.bytes)) (s.standing.sent + n) c.told w
+        c.advances)
     came_to write rest is sent.Pause facts w c = subst (λ (e : List Event). Adds s e t) (sym c.0)
         (subst (λ (u : State). Adds s [] u) (sym c.1) (adds_none s facts w.counts.bytes
         w.counts.gave w.written w.faults (sym w.counts.over)))

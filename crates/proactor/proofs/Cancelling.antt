@@ -35,7 +35,8 @@ cancelled_one follows id old new (Ok next) f = record {
 cancelled_one follows id old new (Err none) f = record {
   reply = FoundNoMemory;
   nothing = refl;
-  told_so = λ first before h. subst (follows new first) (sym (append-nil before)) (f first before h);
+  told_so = λ first before h. subst (follows new first) (sym (append-nil before))
+      (f first before h);
 }
 
 -- some are cancelled, and the others stand still
@@ -96,7 +97,8 @@ module _ {C : Type 0} (follows : C → Op → List Told → Type 0) (start : Sta
   }
 
   pub cancelling_more : (s t : Stands) (a b : C) (sums : Sums) (cancelled now : ℕ) (id : ℕ)
-      → Cancelling follows start old before s a sums cancelled → TakesOut s.reads s.writes (Some id) t
+      → Cancelling follows start old before s a sums cancelled
+      → TakesOut s.reads s.writes (Some id) t
       → CancelsOne follows id a b → now ≡ min (cancelled + 1) (2 ^ 64 - 1)
       → Cancelling follows start old before t b (completed_sums false sums) now
   cancelling_more s t a b sums cancelled now id h out one count =

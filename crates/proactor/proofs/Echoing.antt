@@ -136,7 +136,10 @@ after_read : (past : List Event) (s t : State) (es : List Event) (came : Outcome
     → taken es ≡ bytes → given es ≡ []
     → (some_of finds_over es ≡ true → bytes ≡ [])
     → ((up_in reply ≡ []) ⊎ (up_in reply ≡ back_of bytes ∷ []) × (some_of finds_over es ≡ false))
-    → t ≡ record { facts = facts; standing = queued (up_in reply) (record s.standing { reads = [] }) }
+    → t ≡ record {
+      facts = facts;
+      standing = queued (up_in reply) (record s.standing { reads = [] });
+    }
     → EchoAt (past ++ es) t
 after_read past s t es came reply bytes facts e took gave over up is =
     ⊎_elim (λ none. idle none) (λ some. by bytes refl some.0 some.1) up
@@ -415,7 +418,8 @@ tried_write past s es t e echoes c = came_to c.took c.facts c.writes c.takes
         → EndWrites s.facts (drop s.standing.sent e.write.bytes) took facts
         → TakesWrite took e.write [] (record s { facts = facts }) es t → EchoAt (past ++ es) t
     came_to (sent.Bytes n) facts w c = goes_on n facts
-        (nat_lt (s.standing.sent + n) (length e.write.bytes)) c.told refl w.within c.advances c.tells
+        (nat_lt (s.standing.sent + n) (length e.write.bytes)) c.told refl w.within c.advances
+        c.tells
     came_to sent.Pause facts w c =
         echo_none past s es t (WritesNext, e) c.0 (ap (λ (u : State). u.standing) c.1)
     came_to sent.Failed facts w c =

@@ -21,7 +21,8 @@ some_of_append p (x ∷ xs) ys = ap (λ (b : Bool). p x || b) (some_of_append p 
 
 pub lengths : {A B : Type 0} (f : A → List B) (xs ys : List A)
     → length (flat_map f (xs ++ ys)) ≡ length (flat_map f xs) + length (flat_map f ys)
-lengths f xs ys = ap length (flat_map-append f xs ys) ∙ length-append (flat_map f xs) (flat_map f ys)
+lengths f xs ys = ap length (flat_map-append f xs ys)
+    ∙ length-append (flat_map f xs) (flat_map f ys)
 
 pub count_done_append : (xs ys : List Event) → count_done (xs ++ ys) ≡ count_done xs + count_done ys
 count_done_append xs ys =

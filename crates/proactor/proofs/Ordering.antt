@@ -204,7 +204,8 @@ single all s e t w all_written within bytes = record {
       ∙ ap (λ (xs : List ℕ). xs ++ given (e ∷ [])) w.bytes
       ∙ append_assoc (bytes_of (completed_writes all)) _ (given (e ∷ []))
       ∙ ap (λ (xs : List ℕ). bytes_of (completed_writes all) ++ xs) bytes
-      ∙ sym (append_assoc (bytes_of (completed_writes all)) (bytes_of (completed_writes (e ∷ []))) _)
+      ∙ sym (append_assoc (bytes_of (completed_writes all)) (bytes_of (completed_writes (e ∷ [])))
+      _)
       ∙ ap (λ (xs : List ℕ). xs ++ take t.standing.sent (first_bytes t.standing.writes))
       (sym (flat_map-append (λ (x : Writing). x.bytes) (completed_writes all)
       (completed_writes (e ∷ []))))

@@ -156,7 +156,8 @@ module _ {E C : Type 0} {G : Ghosts E} (tells : E → EndFacts) (keeps : Terms �
           → FinishesReadOf reads id (standing_of mid).reads
           → DoesPart tells keeps follows (completes_read came) old new step
       by [] is f = absurd f
-      by (read ∷ rest) is f = part (completes_read came) came id (ReadDone read came h.reply) old mid
+      by (read ∷ rest) is f = part (completes_read came) came id (ReadDone read came h.reply) old
+          mid
           new step h
           (subst (λ (reads : List Reading). CompletesFirstRead reads came (state_of tells old)
           (ReadDone read came h.reply ∷ []) (state_of tells new)) is (record {
@@ -182,7 +183,8 @@ module _ {E C : Type 0} {G : Ghosts E} (tells : E → EndFacts) (keeps : Terms �
           → FinishesWriteOf writes id (standing_of mid).writes
           → DoesPart tells keeps follows (completes_write came) old new step
       by [] is f = absurd f
-      by (write ∷ rest) is f = part (completes_write came) came id (WriteDone write came h.reply) old
+      by (write ∷ rest) is f = part (completes_write came) came id (WriteDone write came h.reply)
+          old
           mid new step h
           (subst (λ (writes : List Writing). CompletesFirstWrite writes came (state_of tells old)
           (WriteDone write came h.reply ∷ []) (state_of tells new)) is (record {
@@ -224,7 +226,8 @@ module _ {E C : Type 0} {G : Ghosts E} (tells : E → EndFacts) (keeps : Terms �
             ∙ ap (λ (b : Bool). is_starved came || b) (lost all taken.others taken.all_is);
         sums = refl;
         told_so = λ first before h. subst (λ (ops : List Op). follows mid first
-            (before ++ record { completed = completion id came; asked = ops; done = next.done } ∷ []))
+            (before ++ record { completed = completion id came; asked = ops; done = next.done } ∷
+            []))
             taken.are (told first before h);
         number = refl;
         end = refl;
@@ -462,7 +465,8 @@ module _ {E C : Type 0} {G : Ghosts E} (tells : E → EndFacts) (keeps : Terms �
       → DoesPart tells keeps follows tries_write old new step
   tried_write P took piece old mid new step g w standing sums handler number end d f =
       carried tells keeps follows P tries_write old mid new step sums handler number end d
-      (wrote_by took (tells (end_of mid)) piece (state_of tells old) d.events (state_of tells new) g w
+      (wrote_by took (tells (end_of mid)) piece (state_of tells old) d.events (state_of tells new) g
+      w
       (λ write rest is. f write rest is (subst (λ (s : State). P s d.events (state_of tells new))
       (called old mid standing) d.done)))
 
@@ -505,7 +509,8 @@ module _ {E C : Type 0} {G : Ghosts E} (tells : E → EndFacts) (keeps : Terms �
       (record { moved = false; over = false; starved = false })
   write_paused piece old new g w standing sums handler number end =
       idle tells keeps follows tries_write old new sums handler number end
-      (wrote_by sent.Pause (tells (end_of new)) piece (state_of tells old) [] (state_of tells new) g w
+      (wrote_by sent.Pause (tells (end_of new)) piece (state_of tells old) [] (state_of tells new) g
+      w
       (λ write rest is. (refl, called old new standing)))
 
   -- the first read was tried, which came to this
@@ -545,7 +550,8 @@ module _ {E C : Type 0} {G : Ghosts E} (tells : E → EndFacts) (keeps : Terms �
 
   -- it gave bytes
   pub read_bytes : (n : ℕ) (buffer bytes : List ℕ) (want : ℕ) (old mid new : AsynchEnd E C G)
-      (step : Step) → bytes ≡ take n buffer → Wants (standing_of old).reads (Some want) → length buffer ≡ want
+      (step : Step) → bytes ≡ take n buffer → Wants (standing_of old).reads (Some want)
+      → length buffer ≡ want
       → EndGives (tells (end_of old)) buffer n (tells (end_of mid))
       → standing_of mid ≡ standing_of old → sums_of mid ≡ taken_sums n (sums_of old)
       → handler_of mid ≡ handler_of old → number_of mid ≡ number_of old
@@ -565,7 +571,8 @@ module _ {E C : Type 0} {G : Ghosts E} (tells : E → EndFacts) (keeps : Terms �
               told = d.events;
               completes = subst (λ (xs : List ℕ). CompletesRead read rest (outcome.Read xs)
                   (record (state_of tells old) { facts = tells (end_of mid) }) d.events
-                  (state_of tells new)) is (subst (λ (reads : List Reading). CompletesFirstRead reads
+                  (state_of tells new)) is
+                  (subst (λ (reads : List Reading). CompletesFirstRead reads
                   (outcome.Read bytes) (record (state_of tells old) { facts = tells (end_of mid) })
                   d.events (state_of tells new)) (sym first) (subst (λ (s : State).
                   completes_read (outcome.Read bytes) s d.events (state_of tells new))

@@ -32,7 +32,8 @@ within_more (x ∷ xs) w sent h some = h
 pub reads_pushed : (old new : List Reading) (r : Reading) (done : Result (Unit {0}) NoMemory)
     → OnOk done (new ≡ old ++ r ∷ []) → OnErr done (new ≡ old) → AreReads old → 1 ≤ r.want
     → r.want ≤ 65536 → AreReads new
-reads_pushed old new r (Ok _) ok err h some few = subst AreReads (sym ok) (more_reads old r h some few)
+reads_pushed old new r (Ok _) ok err h some few = subst AreReads (sym ok)
+    (more_reads old r h some few)
 reads_pushed old new r (Err _) ok err h some few = subst AreReads (sym err) h
 
 pub writes_pushed : (old new : List Writing) (w : Writing) (sent : ℕ)
@@ -62,7 +63,8 @@ queued_both a b s =
     ∙ ap (λ (xs : List Writing). s.writes ++ xs) (sym (writes_in_append a b)) in
     cc
 
-pub both_taken_up : (ops : Ops) (old mid new : Stands) (all : Bool) → QueuesOne ops.first old true mid
+pub both_taken_up : (ops : Ops) (old mid new : Stands) (all : Bool)
+    → QueuesOne ops.first old true mid
     → QueuesOne ops.second mid all new → TakesUp ops old all new
 both_taken_up ops old mid new true first second = record {
   up = ops_of ops;

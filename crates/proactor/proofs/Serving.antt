@@ -165,7 +165,8 @@ module _ {E : Type 0} {G : Ghosts E} (tells : E → EndFacts) (keeps : Terms →
   mask_act : (t : Terms) (up : Upcall) (from : Origin AsynchNote) (origin : Origin AioNote)
       (a : Option (Act (AsynchEnd E EchoCompletions G) AsynchNote E))
       (b : Option (Act (AioHandler E G) AioNote E)) → IsSameAct a b
-      → MayAct (asynch_ends {E = E} {C = EchoCompletions} {G = G} tells keeps follows_echo) t up from
+      → MayAct (asynch_ends {E = E} {C = EchoCompletions} {G = G} tells keeps follows_echo) t up
+      from
       a → MayAct (services {E = E} {G = G} tells keeps) t up origin b
   mask_act t up from origin None b same may =
       subst (MayAct (services {E = E} {G = G} tells keeps) t up origin) (sym same) tt
@@ -213,7 +214,8 @@ module _ {E : Type 0} {G : Ghosts E} (tells : E → EndFacts) (keeps : Terms →
               ∙ sym (map-append wrapped_item h.items _);
           fits = one.fits;
         };
-        act = mask_act t up (record { note = s.made.note; moment = now }) (record { note = turn.note; moment = now }) s.made.act turn.act
+        act = mask_act t up (record { note = s.made.note; moment = now })
+            (record { note = turn.note; moment = now }) s.made.act turn.act
             s.wraps.acts one.act;
       }
 
@@ -223,7 +225,8 @@ module _ {E : Type 0} {G : Ghosts E} (tells : E → EndFacts) (keeps : Terms →
       → TalkFits tells keeps t origin end had
       → ServiceGone tells keeps t origin left.0 had reason left.1
   talk_gone t origin had reason end left own c h =
-      let gone = c.gone t h.items (λ is. closing h.items (subst EndsInClose h.are (own is))) h.fits in
+      let gone = c.gone t h.items (λ is. closing h.items (subst EndsInClose h.are (own is))) h.fits
+      in
       inr (record {
         told = c.told;
         notes = c.notes;
@@ -233,7 +236,8 @@ module _ {E : Type 0} {G : Ghosts E} (tells : E → EndFacts) (keeps : Terms →
         items = h.items;
         are = h.are;
         gone = gone;
-        back = writes_back gone.conn gone.first gone.turns.start h.items gone.all gone.closing gone.last
+        back = writes_back gone.conn gone.first gone.turns.start h.items gone.all gone.closing
+            gone.last
             gone.told_so.reads gone.told_so.echoes gone.turns.course;
       })
 

@@ -274,7 +274,8 @@ module _ {E C : Type 0} {G : Ghosts E} (tells : E → EndFacts) (keeps : Terms �
       → AsynchGone tells keeps follows t (end_of handler) had reason
       (note_of (number_of handler) cancelled sums)
   leaves handler had reason left sums cancelled own h c =
-      let nothing = cancels_nothing (standing_of handler).reads (standing_of handler).writes c.events
+      let nothing = cancels_nothing (standing_of handler).reads (standing_of handler).writes
+      c.events
       c.cancels in record {
         conn = number_of handler;
         first = h.first;
@@ -341,23 +342,25 @@ fits_new tells keeps follows t handler first operation fresh standing sums told 
     )
 
 -- one whose end was attached
-pub fits_attached : {E C : Type 0} {G : Ghosts E} (tells : E → EndFacts) (keeps : Terms → E → Type 0)
+pub fits_attached : {E C : Type 0} {G : Ghosts E} (tells : E → EndFacts)
+    (keeps : Terms → E → Type 0)
     (follows : C → Op → List Told → Type 0) (t : Terms) (old new : AsynchEnd E C G)
     (had : List (Item AsynchNote)) → number_of new ≡ number_of old
     → standing_of new ≡ standing_of old → sums_of new ≡ sums_of old
     → handler_of new ≡ handler_of old → tells (end_of new) ≡ tells (end_of old)
     → keeps t (end_of new) → AsynchFits tells keeps follows t old had
     → AsynchFits tells keeps follows t new had
-fits_attached {C = C} tells keeps follows t old new had number standing sums handler end kept h = record {
-  first = h.first;
-  all = h.all;
-  turns = subst (λ (conn : ℕ). HadTurns conn h.first had h.all (state_of tells new)) (sym number)
-      (subst (λ (s : State). HadTurns (number_of old) h.first had h.all s) (sym same) h.turns);
-  accounts = subst (λ (s : State). Accounts h.first h.all s) (sym same) h.accounts;
-  sums = subst (IsSummed h.all no_sums) (sym sums) h.sums;
-  told_so = subst (λ (c : C). follows c h.first (told h.all)) (sym handler) h.told_so;
-  kept_end = kept;
-}
+fits_attached {C = C} tells keeps follows t old new had number standing sums handler end kept h =
+    record {
+      first = h.first;
+      all = h.all;
+      turns = subst (λ (conn : ℕ). HadTurns conn h.first had h.all (state_of tells new)) (sym number)
+          (subst (λ (s : State). HadTurns (number_of old) h.first had h.all s) (sym same) h.turns);
+      accounts = subst (λ (s : State). Accounts h.first h.all s) (sym same) h.accounts;
+      sums = subst (IsSummed h.all no_sums) (sym sums) h.sums;
+      told_so = subst (λ (c : C). follows c h.first (told h.all)) (sym handler) h.told_so;
+      kept_end = kept;
+    }
   where
     same : state_of tells new ≡ state_of tells old
     same = state_is (state_of tells new) (tells (end_of old)) (standing_of old) end standing

@@ -1,4 +1,5 @@
--- The acceptor of an echo service made of operations (C++NPv2 chapter 4; POSA2, Acceptor-Connector).
+-- The acceptor of an echo service made of operations (C++NPv2 chapter 4; POSA2,
+-- Acceptor-Connector).
 use Rattle.std.specs.Prelude.{◌≡◌, ◌+◌, ℕ, zero, suc, nat_lt, Bool, true, false, List, [], ◌∷◌}
 use Rattle.std.specs.Prelude.{◌++◌, Option, Some, None}
 use Rattle.std.specs.List.{flat_map}
@@ -44,7 +45,8 @@ count_taken acceptor = acceptor.taken
 
 -- a turn of these parts
 pub record IsTurn {E : Type 0} {G : Ghosts E} (answer : Answer) (said : AioNote)
-    (act : Option (Act (AioHandler E G) AioNote E)) (turn : Turn (AioHandler E G) AioNote E) : Type 0
+    (act : Option (Act (AioHandler E G) AioNote E))
+    (turn : Turn (AioHandler E G) AioNote E) : Type 0
   where
     pub answers : turn.answer ≡ answer
     pub notes : turn.note ≡ said

@@ -59,8 +59,8 @@ abbrev pub first_bytes : List Writing → List ℕ
 first_bytes [] = []
 first_bytes (write ∷ rest) = write.bytes
 
--- The bytes that were given to the end: those of the writes that completed with all of theirs, in the
--- order in which they were asked, and then a front of those of the next one.
+-- The bytes that were given to the end: those of the writes that completed with all of theirs, in
+-- the order in which they were asked, and then a front of those of the next one.
 pub record GaveInOrder (asked : List Writing) (all : List Event) : Type 0 where
   pub next : List Writing
   pub order : asked ≡ written all ++ next

@@ -11,8 +11,8 @@ use Rattle.proactor.specs.declared.standing.Reading.{Reading}
 use Rattle.proactor.specs.declared.standing.Writing.{Writing}
 use Rattle.proactor.specs.Operations.{Told}
 
--- What a completion led to: the operations that the handler asked for, of which the first were taken
--- up and the others were not, and whether it was done; or that it found no memory.
+-- What a completion led to: the operations that the handler asked for, of which the first were
+-- taken up and the others were not, and whether it was done; or that it found no memory.
 pub data Reply : Type 0 where
   Asked : (up : List Op) (others : List Op) (done : Bool) → Reply
   FoundNoMemory : Reply

@@ -99,7 +99,8 @@ Advances false now write rest before events after =
 pub record TakesBytes (n : ℕ) (write : Writing) (rest : List Writing) (before : State)
     (events : List Event) (after : State) : Type 0 where
   pub told : List Event
-  pub advances : Advances (nat_lt (before.standing.sent + n) (length write.bytes)) (before.standing.sent + n) write
+  pub advances : Advances (nat_lt (before.standing.sent + n) (length write.bytes))
+      (before.standing.sent + n) write
       rest before told after
   pub tells : events ≡ Gave (take n (drop before.standing.sent write.bytes)) ∷ told
 

@@ -10,7 +10,8 @@ returns g c = record {
       g.E.PeerEnd.keeps g.C.CompletionHandler.follows t c.args.self.peer.end had c.args._why n)
       (sym c.note.ensures) (leaves g.E.PeerEnd.tells g.E.PeerEnd.keeps
       g.C.CompletionHandler.follows t c.args.self had c.args._why c.cancel_all-cancelled.new.handler
-      c.cancel_all-cancelled.new.sums c.cancel_all-cancelled.result own h c.cancel_all-cancelled.ensures);
+      c.cancel_all-cancelled.new.sums c.cancel_all-cancelled.result own h
+      c.cancel_all-cancelled.ensures);
   serial = λ t origin had h. tt;
   kept = λ t origin had h. h.kept_end;
   end = refl;
