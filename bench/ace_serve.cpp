@@ -3,7 +3,7 @@
 // at the end a closing line. It decodes and prints as `plain_epoll.c` does.
 //
 // ace_serve REACTOR PORT [UNTIL [THREADS]]: REACTOR is `tp`, which waits by `select` and has at most some 1,000 connections at once, or `dev_poll`, which
-// waits by epoll. It ends once UNTIL connections were closed, where that is above 0. THREADS (1 if left out) threads run the reactor's event loop.
+// waits by epoll. It ends once UNTIL connections were closed, if that is above 0. THREADS (1 if left out) threads run the reactor's event loop.
 #define ACE_HAS_EVENT_POLL
 #include <ace/Acceptor.h>
 #include <ace/Dev_Poll_Reactor.h>

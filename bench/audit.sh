@@ -9,7 +9,7 @@ work=$(mktemp -d) || exit 1
 trap 'rm -rf "$work"' EXIT
 cc -O2 -o "$work/decoder" "$root/bench/plain_decoder.c" || exit 1
 "$root/bin/logd" one </dev/null >/dev/null || exit 1
-# journal KIND ENTRIES: the text of a journal. Each connection is accepted, ends and is closed; where KIND is `with`, it brings a record before that.
+# journal KIND ENTRIES: the text of a journal. Each connection is accepted, ends and is closed; if KIND is `with`, it brings a record before that.
 cat >"$work/journal" <<'P'
 import sys
 kind, entries = sys.argv[1], int(sys.argv[2])

@@ -1,5 +1,5 @@
 #!/bin/sh
-# Ends `logd serve --control` by its standard input, with 1 worker and with 4: a FIFO that is closed, also where bytes came there before; a
+# Ends `logd serve --control` by its standard input, with 1 worker and with 4: a FIFO that is closed, also if bytes came there before; a
 # terminal; a socket; /dev/null and a file, which are at their end from the start; and contrib/logd_until_signal at SIGTERM. Up to 1,000
 # connections are open then. It checks the status and that each of them has its line. Needs python3, script(1), and rt, or the program that LOGD names.
 root=$(cd "$(dirname "$0")/.." && pwd)

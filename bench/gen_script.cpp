@@ -1,7 +1,7 @@
 // Writes a script of network events to standard output: so many connections, each with 125 records that come in two pieces, in 125 rounds at
 // moments 0 to 124. Its words are the number of connections, from 1 to 1000, and a seed below 2^32. A script of 1000 connections has
 // 252,000 steps and some 15 MB. Connection c sends in round r a record of version 1 of type 2^((r + c) mod 11), of process 1000 + c,
-// with r seconds and SEED mod 1000000 microseconds, little-endian where r + c is odd; its message has (SEED + 7 r + 3 c) mod 40 letters and
+// with r seconds and SEED mod 1000000 microseconds, little-endian if r + c is odd; its message has (SEED + 7 r + 3 c) mod 40 letters and
 // a closing zero byte.
 #include <cstdint>
 #include <cstdio>

@@ -1,8 +1,8 @@
 /* A plain epoll server, to compare `logd serve` with: it makes the same reads and writes and prints the same lines. It reads pieces
-   of 4,096 bytes, pauses behind four reads in a row, writes the lines of the records that each piece completes in one write, and a
+   of 4,096 bytes, pauses after four reads in a row, writes the lines of the records that each piece completes in one write, and a
    closing line at the end of each connection.
 
-   plain_epoll PORT [UNTIL [THREADS [grouped]]]: ends once UNTIL connections were closed, where that is above 0. THREADS (1 if left out)
+   plain_epoll PORT [UNTIL [THREADS [grouped]]]: ends once UNTIL connections were closed, if that is above 0. THREADS (1 if left out)
    threads have an epoll set each; the first also accepts, and deals the connections out in turn. With `grouped` it keeps the lines of each connection, and
    writes those of one connection after another at its end. */
 #define _GNU_SOURCE

@@ -118,7 +118,7 @@ static void put_record(struct text *t, uint64_t number, const unsigned char *p, 
     put(t, "\n", 1);
 }
 
-/* Puts the lines of the records that are whole. False where one is malformed. */
+/* Puts the lines of the records that are whole. False if one is malformed. */
 static int decode(struct connection *c, struct text *t) {
     size_t at = 0;
     int good = 1;

@@ -2,7 +2,7 @@
 # Has each allocation of `logd one` on one record refused, one in each run, and prints how the run ended: status 6 with no line, with the
 # lines of what came before and a closing line `no memory` or `stopped`, or status 0. Then the same with `logd replay --journal` by two
 # workers on a script of two connections: status 0 or 6, and a journal that `logd audit` finds legal, in which each handle that was opened
-# was closed, or none. Ends with status 1 where a run ended otherwise. Needs cc and glibc.
+# was closed, or none. Ends with status 1 if a run ended otherwise. Needs cc and glibc.
 root=$(cd "$(dirname "$0")/.." && pwd)
 work=$(mktemp -d) || exit 1
 trap 'rm -rf "$work"' EXIT

@@ -78,7 +78,7 @@ static void send_records(int s, const unsigned char *bytes, size_t n) {
     for (size_t at = 0; at < n; at += AT_ONCE * RECORD) send_all(s, bytes + at, n - at < AT_ONCE * RECORD ? n - at : AT_ONCE * RECORD);
 }
 
-/* Ends a connection, behind the server's own end. */
+/* Ends a connection, after the server's own end. */
 static void hang_up(int s) {
     char byte;
     shutdown(s, SHUT_WR);
@@ -316,7 +316,7 @@ static struct told *told(unsigned long number) {
     return &all[number];
 }
 
-/* Whether a line behind the connection's number is that of the client's next record. */
+/* Whether a line after the connection's number is that of the client's next record. */
 static int is_next(struct told *t, const char *rest) {
     static const char front[] = " 1,2 7 LM_DEBUG: ";
     char wanted[MESSAGE + 64], text[MESSAGE + 1];
