@@ -7,7 +7,7 @@ ghost use Rattle.cmd_line.specs.Parse.{parser_of, text_in};
 ghost use Rattle.aio_words.specs.Words.{AreInRange, aio_by, aio_line, aio_of, options_of};
 
 use clap::{ArgMatches, Command};
-use cmd_line::{number_in, option, parse_words, text_of};
+use cmd_line::{has_dashes, number_in, option, parse_words, text_of};
 use ev_types::NoMemory;
 use std::alloc::{AllocError, Global};
 
@@ -37,18 +37,6 @@ pub fn aio_words(alloc: Global, words: &[String]) -> Result<Option<AioWords>, No
         return Ok(None);
     }
     read(alloc, words)
-}
-
-// Whether the word `--` is one of these.
-fn has_dashes(words: &[String]) -> bool
-    ensures { result ≡ has_dashes (map string_bytes words.now) }
-{
-    for word in words {
-        if word.as_str() == "--" {
-            return true;
-        }
-    }
-    false
 }
 
 // What the options say.

@@ -11,7 +11,7 @@ ghost use Rattle.cmd_forward.specs.Words.{AreInRange, forward_by, forward_line, 
 ghost use Rattle.cmd_forward.specs.Words.{options_of};
 
 use clap::{ArgMatches, Command};
-use cmd_line::{number_in, option, parse_words, text_of};
+use cmd_line::{has_dashes, number_in, option, parse_words, text_of};
 use ev_base::NoMemory;
 use std::alloc::{AllocError, Global};
 
@@ -49,18 +49,6 @@ impl ForwardOptions {
             _ => Ok(None),
         }
     }
-}
-
-// Whether the word `--` is one of these.
-fn has_dashes(words: &[String]) -> bool
-    ensures { result ≡ has_dashes (map string_bytes words.now) }
-{
-    for word in words {
-        if word.as_str() == "--" {
-            return true;
-        }
-    }
-    false
 }
 
 // What the words say that stand after the command's name.

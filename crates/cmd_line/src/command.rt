@@ -65,8 +65,8 @@ impl Command {
     }
 }
 
-// Whether the word `--` is one of these.
-fn has_dashes(words: &[String]) -> bool
+/// Whether the word `--` is one of these. No command takes it.
+pub fn has_dashes(words: &[String]) -> bool
     ensures { result ≡ has_dashes (map string_bytes words.now) }
 {
     for word in words {

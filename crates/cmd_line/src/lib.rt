@@ -7,7 +7,7 @@ mod options;
 mod parse;
 mod rows;
 
-pub use command::Command;
+pub use command::{Command, has_dashes};
 pub use number::number_in;
 pub use options::{Form, Options, Timers, text_of};
 pub use parse::{option, parse_words};

@@ -9,8 +9,8 @@ use crate::line::Lines;
 use crate::places::{Place, Places};
 use cdr_record::RecordRef;
 use grouped_lines::EntryLines;
-use server_run::{Entry, LoggedRecords, ServerNote, put_entry_lines};
 use log_lines::put_borrowed_line;
+use server_run::{Entry, LoggedRecords, ServerNote, put_entry_lines};
 use sink_buffer::TextOut;
 use std::alloc::Global;
 

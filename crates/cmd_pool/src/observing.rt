@@ -1,7 +1,7 @@
 //! What the observer of a worker does.
 use crate::putter::RecordPutter;
-use server_run::{Done, Observer, ServerHandler, ServerNote};
 use ev_base::PeerEnd;
+use server_run::{Done, Observer, ServerHandler, ServerNote};
 use std::sync::Wait;
 
 impl<R: Wait, E: PeerEnd> Observer<ServerHandler<E>> for RecordPutter<R> {

@@ -10,7 +10,7 @@ ghost use Rattle.cmd_line.specs.Ranges.{IsWithin};
 ghost use Rattle.cmd_pool.specs.Words.{AreInRange, options_by, options_of, pool_line, pool_of};
 
 use clap::{ArgMatches, Command};
-use cmd_line::{number_in, option, parse_words, text_of};
+use cmd_line::{has_dashes, number_in, option, parse_words, text_of};
 use ev_base::NoMemory;
 use std::alloc::{AllocError, Global};
 
@@ -44,18 +44,6 @@ pub fn read_words(alloc: Global, words: &[String]) -> Result<Option<PoolOptions>
         Some((name, rest)) if name.as_str() == "pool" => read_options(alloc, rest),
         _ => Ok(None),
     }
-}
-
-// Whether the word `--` is one of these.
-fn has_dashes(words: &[String]) -> bool
-    ensures { result ≡ has_dashes (map string_bytes words.now) }
-{
-    for word in words {
-        if word.as_str() == "--" {
-            return true;
-        }
-    }
-    false
 }
 
 // What the words after the command's name ask for.

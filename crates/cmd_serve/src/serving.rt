@@ -9,10 +9,10 @@ ghost use Rattle.cmd_serve.specs.Starting.{asked_by, terms_of};
 
 use crate::ending::{leave, told_end, unserved};
 use crate::{HostEnd, HostServed};
-use server_run::{Asked, Core, Ground, LineSink, Means, ServerHandler, ServerNote, Volumes, serve};
 use chosen_timers::ChosenTimers;
 use cmd_line::Options;
 use ev_base::{Host, ListenRefused, Net, PeerEnd, Sink, Wake};
+use server_run::{Asked, Core, Ground, LineSink, Means, ServerHandler, ServerNote, Volumes, serve};
 use std::alloc::Global;
 use std::marker::Brand;
 use std::sync::Wait;

@@ -13,5 +13,7 @@ pub use asked::{Asked, Ground};
 pub use ending::{Ending, Served};
 pub use log_handler::{LineSink, LoggedRecords, ServerNote, put_entry_lines};
 pub use running::{serve, serve_observed};
-pub use tp_reactor::{Core, Done, DropVolumes, Entry, Journal, Means, NoWatch, Observer, Parts};
-pub use tp_reactor::{TimerQueue, Volumes, Watch};
+pub use tp_reactor::{
+    Core, Done, DropVolumes, Entry, Journal, Means, NoWatch, Observer, Parts, TimerQueue, Volumes,
+    Watch,
+};
