@@ -89,6 +89,6 @@ pub returns-in-Err-take-clause-cause : goal.returns-in-Err-take-clause-cause
 returns-in-Err-take-clause-cause g c =
     let facts = g.V.Volumes.facts in
     subst (λ refused. IsHandOverCause refused (facts c.args.self.now.volumes).faults
-    (facts c.take.new.self).faults) (sym c.refusal_of.ensures)
+    (facts c.take.new.self).faults) (sym c.hand_over_refusal.ensures)
     (take_refused (facts c.args.self.now.volumes) c.replace-volume.result c.in-Err-take.back
     c.in-Err-take.why (facts c.take.new.self) c.in-Err-take.ensures.takes).1
