@@ -66,7 +66,7 @@ module _ {K V : Type 0} {G : Ghosts ScriptEnd} (facts : V → VolumesFacts Serve
       r.is.held ∙ ap (λ (k : ℕ). drop k r.journal) ends.1 in
       ap summary_lines whole ∙ full n seed v r.how r.journal least many
       (run-of (terms_for n seed v) (asked_for n) (generated n seed) r.journal r.how (inl ends.0)
-      r.ran.ended) ends.0 (subst HadMemory whole memory)
+      r.ran.came) ends.0 (subst HadMemory whole memory)
 
   -- what was written of the summary is written of the lines that are known
   pub writes-full : (ended : GenerateEnd) (o p : SinkFacts)

@@ -85,7 +85,7 @@ module _ {V : Type 0} {G : Ghosts ScriptEnd} (facts : V → VolumesFacts ServerN
   pub not-noticed : served.ending ≡ ending.Notified → ⊥
   not-noticed is =
       let r = run-of (terms_for n seed v) (asked_for n) (generated n seed) l.journal served.ending
-      (inr is) l.ran.ended in
+      (inr is) l.ran.came in
       noticed (subst (λ (how : Ending). EndsScript (asked_for n) (generated n seed) how l.journal
       r.run) is r.ends)
 

@@ -1,6 +1,6 @@
 -- From what a run of the server leaves to what the command does.
-use Rattle.std.proofs.Common.{◌≡◌, ◌≤◌, ◌^◌, ◌⊎◌, inl, inr, arith, ℕ, zero, suc}
-use Rattle.std.proofs.Common.{List, [], ◌∷◌, ◌++◌, length, drop, Option, Some, None, refl, sym, ap}
+use Rattle.std.proofs.Common.{◌≡◌, ◌≤◌, ◌^◌, inl, inr, arith, ℕ, zero, suc}
+use Rattle.std.proofs.Common.{List, [], length, drop, Option, Some, None, refl, sym, ap}
 use Rattle.std.proofs.Common.{◌∙◌, subst}
 use Rattle.std.proofs.lemmas.List.{drop_all}
 use Rattle.ev_base.specs.Counts.{Rose}
@@ -10,7 +10,6 @@ use Rattle.ev_base.specs.Terms.{Terms}
 use Rattle.server_run.specs.sink_buffer.specs.Written.{TookAll}
 use Rattle.server_run.specs.timer_queue.specs.declared.timer.Timer.{Timer}
 use Rattle.server_run.specs.reactor_journal.specs.declared.entry.Entry.{Entry}
-use Rattle.server_run.specs.reactor_journal.specs.declared.entry.Entry.TheVariants.{Ended}
 use Rattle.server_run.specs.reactor_model.specs.Volumes.{VolumesFacts}
 use Rattle.server_run.specs.reactor_core.specs.Calls.{AreCalls}
 use Rattle.server_run.specs.reactor_core.specs.Ends.{WhereTold}
@@ -18,11 +17,12 @@ use Rattle.server_run.specs.reactor_core.specs.Stands.{Meaning, NetStands}
 use Rattle.server_run.specs.log_handler.specs.declared.note.ServerNote.{ServerNote}
 use Rattle.grouped_lines.specs.laws_script_runs.specs.Connections.{lines_by_connection}
 use Rattle.server_run.specs.Journals.{IsRun}
-use Rattle.server_run.specs.Served.{FaultRose, HasCauses, IsUnmade, LeavesRun}
+use Rattle.server_run.specs.Served.{CameSo, FaultRose, HasCauses, LeavesRun}
 use Rattle.server_run.specs.declared.asked.Asked.{Asked}
 use Rattle.server_run.specs.declared.ending.Ending.{Ending}
 use Rattle.server_run.specs.declared.ending.Ending.TheVariants as ending
 use Rattle.server_run.specs.declared.ending.Served.{Served}
+use Rattle.server_run.proofs.Came.{ended_alone}
 use Rattle.cmd_pool.specs.declared.ending.PoolEnd.{PoolEnd}
 use Rattle.cmd_pool.specs.declared.ending.PoolEnd.TheVariants as end
 use Rattle.cmd_pool.specs.declared.ending.PoolServed.{PoolServed}
@@ -81,31 +81,23 @@ rose-from before now none rose = subst (λ (n : ℕ). Rose n now) none rose
 
 module _ {H M Q W V E : Type 0} (m : Meaning H M Q W V ServerNote E) (t : Terms) (until : Option ℕ)
   where
-    -- a listener that was not attached leaves the end alone
-    ended-alone : (net : NetFacts E) (journal : List (Entry ServerNote))
-        → IsUnmade ending.NotAttached journal ⊎ IsRun m.means t until net ending.NotAttached journal
-        → journal ≡ Ended ∷ []
-    ended-alone net journal (inl unmade) = absurd unmade.ending
-    ended-alone net journal (inr run) =
-        run.is ∙ ap (λ (l : List (Entry ServerNote)). l ++ Ended ∷ run.closing) run.ends.0
-        ∙ ap (λ (l : List (Entry ServerNote)). Ended ∷ l) run.ends.1
-
-    net-failed : (how : Ending) (old net : NetFacts E) (v w : VolumesFacts ServerNote)
+    net-failed : {led : Type 0} (how : Ending) (old net : NetFacts E)
+        (v w : VolumesFacts ServerNote)
         (journal : List (Entry ServerNote)) → IsNew old → FaultRose how old net v w
-        → IsUnmade how journal ⊎ IsRun m.means t until net how journal
+        → CameSo how journal (IsRun m.means t until net how journal) led
         → NetFailedSo (end_by how) net journal
-    net-failed ending.NotAttached old net v w journal new rose run =
+    net-failed ending.NotAttached old net v w journal new rose came =
         inr (
           rose-from old.failed_attaches net.failed_attaches new.failed_attaches rose,
-          ended-alone net journal run,
+          ended_alone m.means t until net journal came,
         )
-    net-failed ending.NetFault old net v w journal new rose run =
+    net-failed ending.NetFault old net v w journal new rose came =
         inl (rose-from old.failed_waits net.failed_waits new.failed_waits rose)
-    net-failed ending.Broken old net v w journal new rose run = tt
-    net-failed ending.NoMemory old net v w journal new rose run = tt
-    net-failed ending.VolumeFault old net v w journal new rose run = tt
-    net-failed ending.Notified old net v w journal new rose run = tt
-    net-failed ending.Over old net v w journal new rose run = tt
+    net-failed ending.Broken old net v w journal new rose came = tt
+    net-failed ending.NoMemory old net v w journal new rose came = tt
+    net-failed ending.VolumeFault old net v w journal new rose came = tt
+    net-failed ending.Notified old net v w journal new rose came = tt
+    net-failed ending.Over old net v w journal new rose came = tt
 
     net-unwritten : (how : Ending) (net : NetFacts E) (journal : List (Entry ServerNote))
         → NetFailedSo (end_by how) net journal
@@ -175,8 +167,7 @@ module _ {H M Q W V E K : Type 0} (m : Meaning H M Q W V ServerNote E) (sink : K
         (record {
           ending = ending.NoMemory;
           named = tt;
-          run = inl (record { ending = tt; none = refl });
-          led = inl (record { ending = tt; journal_is = inl refl });
+          came = inl (record { named = inr refl; none = refl });
           stands = new-stands m pool_terms asked.until refl (m.facts net) new;
           keeps = keeps;
           failed = tt;
@@ -192,7 +183,7 @@ module _ {H M Q W V E K : Type 0} (m : Meaning H M Q W V ServerNote E) (sink : K
     failed-so : NetFailedSo (end_by ran.ending) (m.facts ran.parts.net) l.journal
     failed-so = net-failed m pool_terms asked.until ran.ending (m.facts net)
         (m.facts ran.parts.net) (m.volumes volumes) (m.volumes ran.parts.volumes) l.journal new
-        c.rose l.run
+        c.rose l.came
 
     runs : (how : PoolEnd) → MayEnd how ran.ending
         → NetFailedSo how (m.facts ran.parts.net) l.journal
@@ -200,8 +191,7 @@ module _ {H M Q W V E K : Type 0} (m : Meaning H M Q W V ServerNote E) (sink : K
     runs how named failed = record {
       ending = ran.ending;
       named = named;
-      run = l.run;
-      led = l.led;
+      came = l.came;
       stands = l.stand.net;
       keeps = l.stand.net_keeps;
       failed = failed;

@@ -12,7 +12,7 @@ use Rattle.server_run.specs.reactor_journal.specs.declared.entry.Entry.TheVarian
 use Rattle.server_run.specs.reactor_core.specs.Stands.{Meaning, NetStands}
 use Rattle.grouped_lines.specs.laws_script_runs.specs.Connections.{lines_by_connection}
 use Rattle.server_run.specs.Journals.{IsRun}
-use Rattle.server_run.specs.Served.{HasLed, HasNoLead, IsUnmade}
+use Rattle.server_run.specs.Served.{CameSo, HasLed}
 use Rattle.server_run.specs.declared.asked.Asked.{Asked}
 use Rattle.server_run.specs.declared.ending.Ending.{Ending}
 use Rattle.server_run.specs.declared.ending.Ending.TheVariants as ending
@@ -81,16 +81,15 @@ NetFailedSo end.WriteFault net journal = Unit {0}
 NetFailedSo end.NoMemory net journal = Unit {0}
 NetFailedSo end.ListenFault net journal = Unit {0}
 
--- The server ended in a way of this name, and the journal is that of a run which ended so; or there
--- was no memory for a reactor, and the journal is empty. So many workers led to it as were asked
--- for, or none did. The net stands for the journal: the ends that were retired or turned away are
--- left as it says.
+-- The run of the server came to this journal, and ended in a way that may be told so. If workers
+-- led, they were as many as were asked for. The net stands for the journal: the ends that were
+-- retired or turned away are left as it says.
 pub record RunsPool {H M Q W V E : Type 0} (m : Meaning H M Q W V ServerNote E) (t : Terms)
     (asked : Asked) (net : M) (how : PoolEnd) (journal : List (Entry ServerNote)) : Type 0 where
   pub ending : Ending
   pub named : MayEnd how ending
-  pub run : IsUnmade ending journal ⊎ IsRun m.means t asked.until (m.facts net) ending journal
-  pub led : HasNoLead ending journal ⊎ HasLed m t asked ending journal
+  pub came : CameSo ending journal (IsRun m.means t asked.until (m.facts net) ending journal)
+      (HasLed m t asked ending journal)
   pub stands : NetStands m.means t (past_of journal) [] (m.facts net)
   pub keeps : m.keeps t net
   pub failed : NetFailedSo how (m.facts net) journal

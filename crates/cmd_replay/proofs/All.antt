@@ -1,7 +1,6 @@
 -- A run that was over with its script has done all that it has.
-use Rattle.std.proofs.Common.{◌≡◌, ◌∙◌, ◌<◌, ◌≤◌, ◌+◌, ◌⊎◌, inl, inr, arith, ℕ, List, [], Option}
-use Rattle.std.proofs.Common.{None}
-use Rattle.std.proofs.Common.{refl, sym, subst}
+use Rattle.std.proofs.Common.{◌≡◌, ◌∙◌, ◌<◌, ◌≤◌, ◌+◌, ◌⊎◌, arith, ℕ, List, Option, None, refl, sym}
+use Rattle.std.proofs.Common.{subst}
 use Rattle.ev_base.specs.Terms.{Terms}
 use Rattle.ev_base.specs.declared.end.PeerEnd.{Ghosts}
 use Rattle.server_run.specs.reactor_journal.specs.declared.entry.Entry.{Entry}
@@ -23,8 +22,9 @@ use Rattle.server_run.specs.laws_script_complete.proofs.Taking.{all_accepted}
 use Rattle.server_run.specs.declared.asked.Asked.{Asked}
 use Rattle.server_run.specs.declared.ending.Ending.{Ending}
 use Rattle.server_run.specs.declared.ending.Ending.TheVariants as ending
-use Rattle.server_run.specs.Journals.{EndsByNotice}
-use Rattle.cmd_replay.specs.Runs.{DoesAll, EndedSo, IsScriptRun}
+use Rattle.server_run.specs.Served.{CameSo}
+use Rattle.server_run.proofs.Came.{made_at}
+use Rattle.cmd_replay.specs.Runs.{DoesAll, IsScriptRun}
 
 module _ (G : Ghosts ScriptEnd) (t : Terms) (asked : Asked) (groups : List ScriptGroup)
     (journal : List (Entry ServerNote)) (most : t.most ≡ asked.connections + 1) where
@@ -58,49 +58,14 @@ module _ (G : Ghosts ScriptEnd) (t : Terms) (asked : Asked) (groups : List Scrip
     grouped_text = text how r asked.idle refl over;
   }
 
-  not-noticed : (run : List (Entry ServerNote)) → asked.until ≡ None → EndsByNotice asked.until run
-      → ⊥
-  not-noticed run none ends = let q = sym none ∙ ends.asked in cc
+  pub all-of : (how : Ending) → IsScriptRun G t asked groups how journal → how ≡ ending.Over
+      → asked.until ≡ None → DoesAll asked groups journal
+  all-of how r over none = does-all how r (r.over over none)
 
-  pub all-of : (how : Ending) → (how ≡ ending.Over) ⊎ (how ≡ ending.Notified)
-      → IsScriptRun G t asked groups how journal → asked.until ≡ None → DoesAll asked groups journal
-  all-of ending.Over why r none = does-all ending.Over r (r.over refl none)
-  all-of ending.Notified why r none = absurd (not-noticed r.run none r.ends)
-  all-of ending.NotAttached why r none = absurd r.ends
-  all-of ending.NetFault why r none = absurd r.ends
-  all-of ending.Broken (inl q) r none = absurd cc
-  all-of ending.Broken (inr q) r none = absurd cc
-  all-of ending.NoMemory (inl q) r none = absurd cc
-  all-of ending.NoMemory (inr q) r none = absurd cc
-  all-of ending.VolumeFault (inl q) r none = absurd cc
-  all-of ending.VolumeFault (inr q) r none = absurd cc
-
--- a run that was ended so left the journal of one, and did all if no notice was asked for
-pub run-of : {G : Ghosts ScriptEnd} (t : Terms) (asked : Asked) (groups : List ScriptGroup)
-    (journal : List (Entry ServerNote)) (how : Ending) → (how ≡ ending.Over)
-    ⊎ (how ≡ ending.Notified) → EndedSo G t asked groups how journal
+-- a run that was over, or was ended by a notice, left the journal of one
+pub run-of : {G : Ghosts ScriptEnd} {led : Type 0} (t : Terms) (asked : Asked)
+    (groups : List ScriptGroup) (journal : List (Entry ServerNote)) (how : Ending)
+    → (how ≡ ending.Over) ⊎ (how ≡ ending.Notified)
+    → CameSo how journal (IsScriptRun G t asked groups how journal) led
     → IsScriptRun G t asked groups how journal
-run-of t asked groups journal ending.Over which ended = ended.0
-run-of t asked groups journal ending.Notified which ended = ended
-run-of t asked groups journal ending.Broken (inl q) ended = absurd cc
-run-of t asked groups journal ending.Broken (inr q) ended = absurd cc
-run-of t asked groups journal ending.NotAttached (inl q) ended = absurd cc
-run-of t asked groups journal ending.NotAttached (inr q) ended = absurd cc
-run-of t asked groups journal ending.NetFault (inl q) ended = absurd cc
-run-of t asked groups journal ending.NetFault (inr q) ended = absurd cc
-run-of t asked groups journal ending.NoMemory (inl q) ended = absurd cc
-run-of t asked groups journal ending.NoMemory (inr q) ended = absurd cc
-run-of t asked groups journal ending.VolumeFault (inl q) ended = absurd cc
-run-of t asked groups journal ending.VolumeFault (inr q) ended = absurd cc
-
--- whatever ended it, it left the journal of a run, or none
-pub run-or-none : {G : Ghosts ScriptEnd} (t : Terms) (asked : Asked) (groups : List ScriptGroup)
-    (journal : List (Entry ServerNote)) (how : Ending) → EndedSo G t asked groups how journal
-    → (journal ≡ []) ⊎ IsScriptRun G t asked groups how journal
-run-or-none t asked groups journal ending.Over ended = inr ended.0
-run-or-none t asked groups journal ending.Notified ended = inr ended
-run-or-none t asked groups journal ending.Broken ended = ended
-run-or-none t asked groups journal ending.NotAttached ended = ended
-run-or-none t asked groups journal ending.NetFault ended = ended
-run-or-none t asked groups journal ending.NoMemory ended = ended
-run-or-none t asked groups journal ending.VolumeFault ended = ended
+run-of t asked groups journal how which came = made_at how journal which came

@@ -51,14 +51,15 @@ use Rattle.laws_journal_length.proofs.Short.{short}
 use Rattle.server_run.specs.tp_reactor.specs.declared.working.Ran.TheVariants as ran
 use Rattle.server_run.specs.Journals.{IsRun, EndsAtNetOver, EndsSo, HasNotices, WindsUp, BeginsSo}
 use Rattle.server_run.specs.Journals.{first_entry}
-use Rattle.server_run.specs.Served.{LeavesRun, HasLed, HasNoLead, IsUnmade, MayBeUnmade}
-use Rattle.server_run.specs.Served.{MayLackLead, ending_of, FaultRose}
+use Rattle.server_run.specs.Served.{CameSo, FaultRose, HasLed, IsUnled, LeavesRun, Names}
+use Rattle.server_run.specs.Served.{ending_of}
 use Rattle.server_run.specs.declared.asked.Asked.{Asked}
 use Rattle.server_run.specs.declared.ending.Ending.{Ending}
 use Rattle.server_run.specs.declared.ending.Ending.TheVariants as ending
 use Rattle.server_run.specs.declared.ending.Served.{Served}
+use Rattle.server_run.proofs.Came.{came_as, made_at, unled_goes_on, unmade_goes_on}
 use Rattle.cmd_replay.specs.Runs.{ForScript, IsScriptRun, IsOfOneWorker, LeavesScript, EndsScript}
-use Rattle.cmd_replay.specs.Runs.{EndedSo, FailsNet}
+use Rattle.cmd_replay.specs.Runs.{FailsNet}
 use Rattle.cmd_replay.proofs.All.{all-of}
 
 -- ---- removals
@@ -112,17 +113,12 @@ answer-over ran.NoMemory is = absurd (false≢true (ap is-over is))
 answer-over ran.VolumeFault is = absurd (false≢true (ap is-over is))
 answer-over ran.Stopped is = absurd (false≢true (ap is-over is))
 
-led-over : (how : Ending) (answer : Ran) → (how ≡ ending.Broken) ⊎ (how ≡ ending_of answer)
-    → how ≡ ending.Over → answer ≡ ran.Over
+led-over : (how : Ending) (answer : Ran) → Names how (ending_of answer) → how ≡ ending.Over
+    → answer ≡ ran.Over
 unfolding is-over
 led-over how answer named over = ⊎_elim
     (λ (b : how ≡ ending.Broken). absurd (false≢true (ap is-over (sym b ∙ over))))
     (λ (n : how ≡ ending_of answer). answer-over answer (sym n ∙ over)) named
-
--- a run that no worker led did not end so
-unled-over : {N : Type 0} (how : Ending) (journal : List (Entry N)) → HasNoLead how journal
-    → how ≡ ending.Over → ⊥
-unled-over how journal h over = subst MayLackLead over h.ending
 
 -- a net that plays a script and is steady failed in no call
 failed-none : (net : NetContent) → is_steady net ≡ true → (net.failed_waits ≡ 0)
@@ -165,15 +161,13 @@ few-wound list journal alive are running small w =
     ap length are in
     omega (arith, gone, many, alive_many, small)
 
-few-unled : (journal : List (Entry ServerNote)) → (journal ≡ [])
-    ⊎ (WindsUp [] journal ⊎ WindsUp (first_entry ∷ []) journal) → length journal ≤ 200
-few-unled journal is = ⊎_elim
-    (λ (none : journal ≡ []). subst (λ (j : List (Entry ServerNote)). length j ≤ 200) (sym none)
-    (omega arith))
-    (λ winds. ⊎_elim (λ (w : WindsUp [] journal). few-wound [] journal [] refl refl (omega arith) w)
+few-unled : (journal : List (Entry ServerNote)) → WindsUp [] journal
+    ⊎ WindsUp (first_entry ∷ []) journal → length journal ≤ 200
+few-unled journal winds = ⊎_elim
+    (λ (w : WindsUp [] journal). few-wound [] journal [] refl refl (omega arith) w)
     (λ (w : WindsUp (first_entry ∷ []) journal).
-    few-wound (first_entry ∷ []) journal _ refl refl (omega arith) w) winds)
-    is
+    few-wound (first_entry ∷ []) journal _ refl refl (omega arith) w)
+    winds
 
 module _ {G : Ghosts ScriptEnd} {W V Q : Type 0} (shows : ReactorState Q → Summary → Type 0)
     (places : Places → ReactorState Q → Type 0) (placed : ReactorState Q → Pick → Type 0)
@@ -310,14 +304,14 @@ module _ {G : Ghosts ScriptEnd} {W V Q : Type 0} (shows : ReactorState Q → Sum
         turns = follows.turns;
       }
 
-      of-one : asked.workers ≡ 1 → asked.until ≡ None → (HasNoLead served.ending l.journal)
+      of-one : asked.workers ≡ 1 → asked.until ≡ None → (IsUnled served.ending l.journal)
           ⊎ (HasLed script_meaning t asked served.ending l.journal)
           → IsOfOneWorker asked groups served.ending l.journal
       of-one workers none led = ⊎_elim
-          (λ (h : HasNoLead served.ending l.journal).
+          (λ (u : IsUnled served.ending l.journal).
           record {
-            serial = λ over. absurd (unled-over served.ending l.journal h over);
-            few = λ idle. short-of (few-unled l.journal h.journal_is);
+            serial = λ over. absurd (unled_goes_on served.ending l.journal u over);
+            few = λ idle. short-of (few-unled l.journal u.winds);
           })
           (λ (d : HasLed script_meaning t asked served.ending l.journal). record {
             serial = λ over.
@@ -338,49 +332,25 @@ module _ {G : Ghosts ScriptEnd} {W V Q : Type 0} (shows : ReactorState Q → Sum
               + quiet_groups groups + 200
           short-of few = omega (arith, few)
 
-    one-so : asked.workers ≡ 1 → asked.until ≡ None
+    abbrev Run : Type 0
+    Run = IsRun {H = ServerHandler ScriptEnd G} (servers {G = G} script_end_facts ScriptEndKeeps) t
+        asked.until (script_net_facts net) served.ending l.journal
+
+    abbrev Led : Type 0
+    Led = HasLed script_meaning t asked served.ending l.journal
+
+    one-so : asked.workers ≡ 1 → asked.until ≡ None → CameSo served.ending l.journal Run Led
         → IsOfOneWorker asked groups served.ending l.journal
-    one-so workers none = ⊎_elim
-        (λ (u : IsUnmade served.ending l.journal).
-        record {
-          serial = λ over. absurd (subst MayBeUnmade over u.ending);
-          few = λ idle. none-long (ap length u.none);
-        })
-        (λ r. of-one r workers none l.led)
-        l.run
+    one-so workers none (inr came) = of-one came.0 workers none came.1
+    one-so workers none (inl unmade) = record {
+      serial = λ over. absurd (unmade_goes_on served.ending l.journal unmade over);
+      few = λ idle. none-long (ap length unmade.none);
+    }
       where
         none-long : length l.journal ≡ 0 → length l.journal
             ≤ 16 * length (steps_of groups) + all_bytes (steps_of groups) / 1024
             + quiet_groups groups + 200
         none-long none = omega (arith, none)
-
-    some-so : (served.ending ≡ ending.Over) ⊎ (served.ending ≡ ending.Notified)
-        → IsScriptRun G t asked groups served.ending l.journal
-    some-so how = ⊎_elim (λ (u : IsUnmade served.ending l.journal).
-        absurd (⊎_elim (λ over. subst MayBeUnmade over u.ending)
-        (λ noticed. subst MayBeUnmade noticed u.ending) how)) (λ r. is-run r) l.run
-
-    or-none : (how : Ending) → served.ending ≡ how → (l.journal ≡ [])
-        ⊎ IsScriptRun G t asked groups how l.journal
-    or-none how is = subst (λ (e : Ending). (l.journal ≡ [])
-        ⊎ IsScriptRun G t asked groups e l.journal) is
-        (⊎_elim (λ (u : IsUnmade served.ending l.journal). inl u.none) (λ r. inr (is-run r)) l.run)
-
-    some-at : (how : Ending) → served.ending ≡ how → (how ≡ ending.Over) ⊎ (how ≡ ending.Notified)
-        → IsScriptRun G t asked groups how l.journal
-    some-at how is which = subst (λ (e : Ending). IsScriptRun G t asked groups e l.journal) is
-        (some-so (⊎_elim (λ over. inl (is ∙ over)) (λ noticed. inr (is ∙ noticed)) which))
-
-    ended-so : (how : Ending) → served.ending ≡ how → EndedSo G t asked groups how l.journal
-    ended-so ending.Over is =
-        let run = some-at ending.Over is (inl refl) in
-        (run, λ none. all-of G t asked groups l.journal f.most ending.Over (inl refl) run none)
-    ended-so ending.Notified is = some-at ending.Notified is (inr refl)
-    ended-so ending.Broken is = or-none ending.Broken is
-    ended-so ending.NotAttached is = or-none ending.NotAttached is
-    ended-so ending.NetFault is = or-none ending.NetFault is
-    ended-so ending.NoMemory is = or-none ending.NoMemory is
-    ended-so ending.VolumeFault is = or-none ending.VolumeFault is
 
     pub leaves-script : LeavesScript G script_meaning t asked groups served
     leaves-script = record {
@@ -395,8 +365,9 @@ module _ {G : Ghosts ScriptEnd} {W V Q : Type 0} (shows : ReactorState Q → Sum
       watch = l.stand.watch;
       ran = record {
         bound = l.bound;
-        ended = ended-so served.ending refl;
-        led = l.led;
-        one = one-so;
+        came = came_as served.ending l.journal (λ r. is-run r) (λ led. led) l.came;
+        all = λ over none. all-of G t asked groups l.journal f.most served.ending
+            (is-run (made_at served.ending l.journal (inl over) l.came)) over none;
+        one = λ workers none. one-so workers none l.came;
       };
     }

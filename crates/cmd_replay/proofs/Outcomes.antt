@@ -60,26 +60,26 @@ not-over is = cc
 not-failed : ending.NoMemory ≡ ending.VolumeFault → ⊥
 not-failed is = cc
 
--- no worker led
-unled : {H M Q W V E : Type 0} {G : Ghosts ScriptEnd} (m : Meaning H M Q W V ServerNote E)
+-- no reactor was made
+unmade : {H M Q W V E : Type 0} {G : Ghosts ScriptEnd} (m : Meaning H M Q W V ServerNote E)
     (t : Terms) (asked : Asked) (groups : List ScriptGroup)
     → RanSo G m t asked groups ending.NoMemory []
-unled m t asked groups = record {
+unmade m t asked groups = record {
   bound = lit≤ tt;
-  ended = inl refl;
-  led = inl (record { ending = tt; journal_is = inl refl });
+  came = inl (record { named = inr refl; none = refl });
+  all = λ over until. absurd (not-over over);
   one = λ workers until. record {
     serial = λ over. absurd (not-over over);
     few = λ idle. omega arith;
   };
 }
 
-unled-in : {K V : Type 0} (G : Ghosts ScriptEnd) (sink : K → SinkFacts)
+unmade-in : {K V : Type 0} (G : Ghosts ScriptEnd) (sink : K → SinkFacts)
     (facts : V → VolumesFacts ServerNote) (form : Form) (t : Terms) (asked : Asked)
     (groups : List ScriptGroup) → RanIn G sink facts form t asked groups ending.NoMemory []
-unled-in G sink facts Plain t asked groups = unled (with_lines G sink facts) t asked groups
-unled-in G sink facts Grouped t asked groups = unled (unwatched G facts) t asked groups
-unled-in G sink facts Journal t asked groups = unled (with_text G sink facts) t asked groups
+unmade-in G sink facts Plain t asked groups = unmade (with_lines G sink facts) t asked groups
+unmade-in G sink facts Grouped t asked groups = unmade (unwatched G facts) t asked groups
+unmade-in G sink facts Journal t asked groups = unmade (with_text G sink facts) t asked groups
 
 -- if there was no memory for a run, nothing was written, and the journal is empty
 pub runs-none : {K V : Type 0} {G : Ghosts ScriptEnd} (sink : K → SinkFacts)
@@ -104,7 +104,7 @@ runs-none {K} {V} {G} sink facts form asked groups output volumes played is u =
         filled = subst (λ (n : ℕ). FillsVolume asked.volume n) (sym u.first)
             (λ some. absurd (omega (arith, some)));
       };
-      ran = unled-in G sink facts form t asked groups;
+      ran = unmade-in G sink facts form t asked groups;
       ends = subst (λ (e : ReplayEnd). EndsReplay e ending.NoMemory v.faults
           (facts played.volumes).faults) (sym is) not-failed;
       written = subst (λ (e : ReplayEnd).

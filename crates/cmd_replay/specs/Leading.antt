@@ -1,5 +1,5 @@
--- How the workers of a run over a script led.
-use Rattle.std.specs.Prelude.{◌⊎◌, ℕ, Bool, false, List}
+-- What the parts of a reactor mean whose workers lead a run over a script.
+use Rattle.std.specs.Prelude.{ℕ, Bool, false, List}
 use Rattle.ev_base.specs.Sink.{SinkFacts}
 use Rattle.ev_base.specs.Terms.{Terms}
 use Rattle.ev_base.specs.declared.end.PeerEnd.{Ghosts}
@@ -20,9 +20,6 @@ use Rattle.server_run.specs.reactor_journal.specs.declared.entry.Entry.{Entry}
 use Rattle.script_net.specs.NetContent.{NetContent, script_net_facts, script_net_keeps}
 use Rattle.script_net.specs.ScriptEnd.{script_end_facts, ScriptEndKeeps}
 use Rattle.script_net.specs.declared.end.ScriptEnd.{ScriptEnd}
-use Rattle.server_run.specs.Served.{HasLed, HasNoLead}
-use Rattle.server_run.specs.declared.asked.Asked.{Asked}
-use Rattle.server_run.specs.declared.ending.Ending.{Ending}
 
 -- What the parts of a reactor mean and tell that runs the server over a script, with a watch and
 -- volumes that mean and tell this.
@@ -54,8 +51,3 @@ abbrev pub unwatched : {V : Type 0} → (G : Ghosts ScriptEnd) → (V → Volume
     → Meaning (ServerHandler ScriptEnd G) NetContent ChosenTimers NoWatch V ServerNote ScriptEnd
 unwatched G volumes = script_meaning G (λ t watch h. Unit {0}) (λ watch. 0) (λ watch. false)
     (λ watch. 0) volumes
-
--- no worker led, or as many as were asked for did
-abbrev pub LedOrNone : {H M Q W V N E : Type 0} → Meaning H M Q W V N E → Terms → Asked → Ending
-    → List (Entry N) → Type 0
-LedOrNone m t asked how journal = HasNoLead how journal ⊎ HasLed m t asked how journal

@@ -36,13 +36,13 @@ use Rattle.server_run.specs.laws_script_taken.specs.Taken.{accepts_connection, I
 use Rattle.laws_script_served.specs.Terms.{HaveScript}
 use Rattle.laws_journal_length.specs.Few.{all_bytes, quiet_groups}
 use Rattle.server_run.specs.Journals.{BeginsSo, EndsByNotice, HasNotices}
+use Rattle.server_run.specs.Served.{CameSo, HasLed}
 use Rattle.server_run.specs.Starting.{AreTermsOf}
 use Rattle.server_run.specs.reactor_desk.specs.Desks.{FillsVolume}
 use Rattle.server_run.specs.declared.asked.Asked.{Asked}
 use Rattle.server_run.specs.declared.ending.Ending.{Ending}
 use Rattle.server_run.specs.declared.ending.Ending.TheVariants as ending
 use Rattle.server_run.specs.declared.ending.Served.{Served}
-use Rattle.cmd_replay.specs.Leading.{LedOrNone}
 
 -- Why a run over a script ended: nothing could be reported any more, and the script answers its
 -- last wait so; or a notice ended it. A net that plays a script fails in no call.
@@ -119,25 +119,16 @@ pub record DoesAll (asked : Asked) (groups : List ScriptGroup)
   pub grouped_text : asked.idle ≡ None → opened (steps_of groups) ≤ asked.connections
       → HadMemory journal → lines_by_connection journal ≡ grouped (steps_of groups)
 
--- What the journal is, by how the run ended. At a wait that was answered Over, it is that of a run,
--- which did all that the script has, if no notice was asked for. By its notice, it is that of a
--- run. Else it is so too, or empty, if there was no memory for a reactor.
-abbrev pub EndedSo : Ghosts ScriptEnd → Terms → Asked → List ScriptGroup → Ending
-    → List (Entry ServerNote) → Type 0
-EndedSo G t asked groups ending.Over journal = IsScriptRun G t asked groups ending.Over journal
-    × (asked.until ≡ None → DoesAll asked groups journal)
-EndedSo G t asked groups ending.Notified journal =
-    IsScriptRun G t asked groups ending.Notified journal
-EndedSo G t asked groups how journal = (journal ≡ []) ⊎ IsScriptRun G t asked groups how journal
-
--- What a run over a script came to that ended so, with this journal, which has at most 2^62 entries.
--- So many workers led to it as were asked for, or none did.
+-- What a run over a script came to that ended so, with this journal, of at most 2^62 entries. If
+-- workers led, they were as many as were asked for. If it was over, and no notice was asked for, it
+-- did all that the script has.
 pub record RanSo {H M Q W V E : Type 0} (G : Ghosts ScriptEnd) (m : Meaning H M Q W V ServerNote E)
     (t : Terms) (asked : Asked) (groups : List ScriptGroup) (how : Ending)
     (journal : List (Entry ServerNote)) : Type 0 where
   pub bound : length journal ≤ 2 ^ 62
-  pub ended : EndedSo G t asked groups how journal
-  pub led : LedOrNone m t asked how journal
+  pub came : CameSo how journal (IsScriptRun G t asked groups how journal)
+      (HasLed m t asked how journal)
+  pub all : how ≡ ending.Over → asked.until ≡ None → DoesAll asked groups journal
   pub one : asked.workers ≡ 1 → asked.until ≡ None → IsOfOneWorker asked groups how journal
 
 -- Its first entries were handed over, so many, and the others are held. Those that were handed over

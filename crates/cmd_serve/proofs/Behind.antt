@@ -20,7 +20,10 @@ use Rattle.server_run.specs.reactor_state.specs.declared.places.Pick.{Pick}
 use Rattle.server_run.specs.reactor_state.specs.declared.state.ReactorState.{ReactorState}
 use Rattle.server_run.specs.reactor_summary.specs.Summary.{Summary}
 use Rattle.write_behind.specs.Facts.{Taken, grown, counted_on, behind_facts}
+use Rattle.server_run.specs.Journals.{IsRun}
+use Rattle.server_run.specs.Served.{CameSo}
 use Rattle.server_run.specs.declared.asked.Asked.{Asked}
+use Rattle.server_run.proofs.Came.{came_as}
 use Rattle.cmd_serve.specs.Leading.{LedSo, behind}
 use Rattle.cmd_serve.specs.declared.ending.HostEnd.{HostEnd}
 use Rattle.cmd_serve.specs.declared.ending.HostEnd.TheVariants as end
@@ -127,26 +130,24 @@ module _ {H M Q W V E : Type 0} (means : Handling H E ServerNote) (net_facts : M
       → RunsOverNet m2 t asked o net (told_end whole how) journal
   run_below t asked o several whole net how journal r = by-whole whole
     where
-      led : LedSo m2 t asked o r.ending journal
-      led = ⊎_elim inl (λ so. inr (inr (several, ⊎_elim (λ l. l) (λ l. l.1) so))) r.led
+      came : CameSo r.ending journal (IsRun means t asked.until (net_facts net) r.ending journal)
+          (LedSo m2 t asked o r.ending journal)
+      came = came_as r.ending journal (λ run. run)
+          (λ led. inr (several, ⊎_elim (λ one. one) (λ more. more.1) led)) r.came
 
       by-whole : (whole : Bool) → RunsOverNet m2 t asked o net (told_end whole how) journal
       by-whole true = record {
-        broken = r.broken;
         ending = r.ending;
         named = r.named;
-        run = r.run;
-        led = led;
+        came = came;
         stands = r.stands;
         keeps = r.keeps;
         failed = r.failed;
       }
       by-whole false = record {
-        broken = true;
         ending = r.ending;
-        named = refl;
-        run = r.run;
-        led = led;
+        named = inl refl;
+        came = came;
         stands = r.stands;
         keeps = r.keeps;
         failed = tt;

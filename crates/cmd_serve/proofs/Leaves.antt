@@ -1,7 +1,7 @@
 -- From what a run of the server leaves to what one over a host does.
-use Rattle.std.proofs.Common.{◌≡◌, ◌≤◌, ◌⊎◌, inl, inr, ⊎_elim, arith, ℕ, Bool, true, false}
+use Rattle.std.proofs.Common.{◌≡◌, ◌≤◌, inl, inr, arith, ℕ, Bool, true, false}
 use Rattle.std.proofs.Common.{List, []}
-use Rattle.std.proofs.Common.{◌∷◌, ◌++◌, length, drop, Option, Some, None, refl, sym, ap, ◌∙◌}
+use Rattle.std.proofs.Common.{◌++◌, length, drop, Option, Some, None, refl, sym, ap, ◌∙◌}
 use Rattle.std.proofs.Common.{subst, append-nil}
 use Rattle.std.specs.Prelude.{option_map}
 use Rattle.ev_base.specs.Counts.{Rose, counted}
@@ -11,7 +11,6 @@ use Rattle.ev_base.specs.Terms.{Terms}
 use Rattle.server_run.specs.sink_buffer.specs.Written.{TookAll, TookFront}
 use Rattle.server_run.specs.timer_queue.specs.declared.timer.Timer.{Timer}
 use Rattle.server_run.specs.reactor_journal.specs.declared.entry.Entry.{Entry}
-use Rattle.server_run.specs.reactor_journal.specs.declared.entry.Entry.TheVariants.{Ended}
 use Rattle.server_run.specs.reactor_model.specs.Volumes.{VolumesFacts}
 use Rattle.server_run.specs.reactor_core.specs.Calls.{AreCalls}
 use Rattle.server_run.specs.reactor_core.specs.Ends.{WhereTold}
@@ -23,16 +22,18 @@ use Rattle.server_run.specs.log_handler.specs.declared.note.ServerNote.{ServerNo
 use Rattle.cmd_line.specs.declared.options.Options.{Options}
 use Rattle.server_run.specs.reactor_desk.specs.Desks.{FillsVolume}
 use Rattle.server_run.specs.Journals.{IsRun}
-use Rattle.server_run.specs.Served.{FaultRose, HasCauses, IsUnmade, LeavesRun}
+use Rattle.server_run.specs.Served.{CameSo, FaultRose, HasCauses, LeavesRun}
 use Rattle.server_run.specs.declared.asked.Asked.{Asked}
 use Rattle.server_run.specs.declared.ending.Ending.{Ending}
 use Rattle.server_run.specs.declared.ending.Ending.TheVariants as ending
 use Rattle.server_run.specs.declared.ending.Served.{Served}
+use Rattle.server_run.proofs.Came.{came_as, ended_alone}
 use Rattle.cmd_serve.specs.declared.ending.HostEnd.{HostEnd}
 use Rattle.cmd_serve.specs.declared.ending.HostEnd.TheVariants as end
 use Rattle.cmd_serve.specs.declared.ending.HostServed.{HostServed}
-use Rattle.cmd_serve.specs.Leaving.{IsJournal, IsUnserved, LeavesHost, MayLackNet, NetFailedSo}
-use Rattle.cmd_serve.specs.Leaving.{RunsOverNet, RunsWhereGiven, OutputTook, end_of, left_by}
+use Rattle.cmd_serve.specs.Leaving.{IsJournal, IsUnserved, LeavesHost, MayEnd, MayLackNet}
+use Rattle.cmd_serve.specs.Leaving.{NetFailedSo, OutputTook, RunsOverNet, RunsWhereGiven, end_of}
+use Rattle.cmd_serve.specs.Leaving.{left_by}
 use Rattle.cmd_serve.specs.Starting.{asked_by, terms_of}
 
 -- ---- the lines
@@ -103,6 +104,12 @@ untouched-lines sink output volumes served u =
     subst (λ (k : _). TookAll (sink output) [] (sink k)) (sym u.same_output)
     (wrote-nothing (sink output))
 
+-- ---- how it ends
+
+may-end : (broken : Bool) (how : Ending) → MayEnd (end_of broken how) how
+may-end true how = inl refl
+may-end false how = inr refl
+
 -- ---- the net
 
 rose-from : (before now : ℕ) → before ≡ 0 → Rose before now → Rose 0 now
@@ -110,33 +117,24 @@ rose-from before now none rose = subst (λ (n : ℕ). Rose n now) none rose
 
 module _ {H M Q W V E : Type 0} (m : Meaning H M Q W V ServerNote E) (t : Terms) (until : Option ℕ)
   where
-    -- a listener that was not attached leaves the end alone
-    ended-alone : (net : NetFacts E) (journal : List (Entry ServerNote))
-        → IsUnmade ending.NotAttached journal ⊎ IsRun m.means t until net ending.NotAttached journal
-        → journal ≡ Ended ∷ []
-    ended-alone net journal (inl unmade) = absurd unmade.ending
-    ended-alone net journal (inr run) =
-        run.is ∙ ap (λ (l : List (Entry ServerNote)). l ++ Ended ∷ run.closing) run.ends.0
-        ∙ ap (λ (l : List (Entry ServerNote)). Ended ∷ l) run.ends.1
-
-    net-failed : (broken : Bool) (how : Ending) (old net : NetFacts E)
+    net-failed : {led : Type 0} (broken : Bool) (how : Ending) (old net : NetFacts E)
         (v w : VolumesFacts ServerNote)
         (journal : List (Entry ServerNote)) → IsNew old → FaultRose how old net v w
-        → IsUnmade how journal ⊎ IsRun m.means t until net how journal
+        → CameSo how journal (IsRun m.means t until net how journal) led
         → NetFailedSo (end_of broken how) net journal
-    net-failed true how old net v w journal new rose run = tt
-    net-failed false ending.NotAttached old net v w journal new rose run =
+    net-failed true how old net v w journal new rose came = tt
+    net-failed false ending.NotAttached old net v w journal new rose came =
         inr (
           rose-from old.failed_attaches net.failed_attaches new.failed_attaches rose,
-          ended-alone net journal run,
+          ended_alone m.means t until net journal came,
         )
-    net-failed false ending.NetFault old net v w journal new rose run =
+    net-failed false ending.NetFault old net v w journal new rose came =
         inl (rose-from old.failed_waits net.failed_waits new.failed_waits rose)
-    net-failed false ending.Broken old net v w journal new rose run = tt
-    net-failed false ending.NoMemory old net v w journal new rose run = tt
-    net-failed false ending.VolumeFault old net v w journal new rose run = tt
-    net-failed false ending.Notified old net v w journal new rose run = tt
-    net-failed false ending.Over old net v w journal new rose run = tt
+    net-failed false ending.Broken old net v w journal new rose came = tt
+    net-failed false ending.NoMemory old net v w journal new rose came = tt
+    net-failed false ending.VolumeFault old net v w journal new rose came = tt
+    net-failed false ending.Notified old net v w journal new rose came = tt
+    net-failed false ending.Over old net v w journal new rose came = tt
 
     told-none : {A : Type 0} (P : List A → Type 0) (told : Option (List A)) → P [] → HasNone told
         → WhereTold P told
@@ -204,11 +202,9 @@ module _ {H M Q V E K : Type 0} (m : Meaning H M Q (LineSink K) V ServerNote E)
   untouched-net : (net : M) → IsNew (m.facts net) → m.keeps terms net → (asked : Asked)
       → RunsOverNet m terms asked (sink output) net end.NoMemory []
   untouched-net net new keeps asked = record {
-    broken = false;
     ending = ending.NoMemory;
-    named = refl;
-    run = inl (record { ending = tt; none = refl });
-    led = inl (record { ending = tt; journal_is = inl refl });
+    named = inr refl;
+    came = inl (record { named = inr refl; none = refl });
     stands = new-stands m terms asked.until refl (m.facts net) new;
     keeps = keeps;
     failed = tt;
@@ -263,16 +259,14 @@ module _ {H M Q V E K : Type 0} (m : Meaning H M Q (LineSink K) V ServerNote E)
         → RunsOverNet m terms asked (sink output) served.parts.net
         (end_of (is_broken served.parts.watch) served.ending) l.journal
     runs-over new c = record {
-      broken = is_broken served.parts.watch;
       ending = served.ending;
-      named = refl;
-      run = l.run;
-      led = ⊎_elim inl (λ led. inr (inl led)) l.led;
+      named = may-end (is_broken served.parts.watch) served.ending;
+      came = came_as served.ending l.journal (λ run. run) inl l.came;
       stands = l.stand.net;
       keeps = l.stand.net_keeps;
       failed = net-failed m terms asked.until (is_broken served.parts.watch) served.ending
           (m.facts net) (m.facts served.parts.net) (m.volumes volumes)
-          (m.volumes served.parts.volumes) l.journal new c.rose l.run;
+          (m.volumes served.parts.volumes) l.journal new c.rose l.came;
     }
 
     pub leaves-host : (result : HostServed M K V) → result ≡ left_by served → IsNew (m.facts net)

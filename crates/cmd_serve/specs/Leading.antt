@@ -8,7 +8,7 @@ use Rattle.server_run.specs.log_handler.specs.LineSink.{PutsLines, is_broken, li
 use Rattle.server_run.specs.log_handler.specs.LineSink.{whole_of}
 use Rattle.server_run.specs.log_handler.specs.declared.line_sink.LineSink.{LineSink}
 use Rattle.server_run.specs.log_handler.specs.declared.note.ServerNote.{ServerNote}
-use Rattle.server_run.specs.Served.{HasLed, HasNoLead}
+use Rattle.server_run.specs.Served.{HasLed}
 use Rattle.server_run.specs.declared.asked.Asked.{Asked}
 use Rattle.server_run.specs.declared.ending.Ending.{Ending}
 use Rattle.write_behind.specs.Facts.{Taken, behind_facts}
@@ -19,9 +19,9 @@ abbrev pub behind : {H M Q W V E : Type 0} → Meaning H M Q W V ServerNote E �
 behind m o = meaning m.means m.facts m.keeps m.shows m.places m.placed
     (PutsLines (behind_facts o)) (line_sink_faults (behind_facts o)) is_broken whole_of m.volumes
 
--- No worker led, or as many as were asked for did. If they are several, their output may write
--- behind the one that was handed in.
+-- As many workers led as were asked for. If they are several, their output may write behind the one
+-- that was handed in.
 abbrev pub LedSo : {H M Q W V E : Type 0} → Meaning H M Q W V ServerNote E → Terms → Asked
     → SinkFacts → Ending → List (Entry ServerNote) → Type 0
-LedSo m t asked o how journal = HasNoLead how journal ⊎ (HasLed m t asked how journal
-    ⊎ ((1 < asked.workers) × HasLed (behind m o) t asked how journal))
+LedSo m t asked o how journal = HasLed m t asked how journal
+    ⊎ ((1 < asked.workers) × HasLed (behind m o) t asked how journal)

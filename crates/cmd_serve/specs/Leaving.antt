@@ -17,7 +17,7 @@ use Rattle.server_run.specs.log_handler.specs.declared.line_sink.LineSink.{LineS
 use Rattle.server_run.specs.log_handler.specs.declared.note.ServerNote.{ServerNote}
 use Rattle.server_run.specs.reactor_desk.specs.Desks.{FillsVolume}
 use Rattle.server_run.specs.Journals.{IsRun}
-use Rattle.server_run.specs.Served.{IsUnmade}
+use Rattle.server_run.specs.Served.{CameSo}
 use Rattle.server_run.specs.declared.asked.Asked.{Asked}
 use Rattle.server_run.specs.declared.ending.Ending.{Ending}
 use Rattle.server_run.specs.declared.ending.Ending.TheVariants as ending
@@ -91,18 +91,20 @@ NetFailedSo end.NoMemory net journal = Unit {0}
 NetFailedSo end.ListenFault net journal = Unit {0}
 NetFailedSo end.VolumeFault net journal = Unit {0}
 
--- The run of the server ended in a way of this name, and the journal is that of a run which ended
--- so; or there was no memory for a reactor, and the journal is empty. So many workers led to it as
--- were asked for, or none did: of the answers of several the first in order ended the run. The net
--- stands for the journal: the ends that were retired or turned away are left as it says.
+-- a run may be told of so whose server ended so: a failed write is told whatever else ended it
+abbrev pub MayEnd : HostEnd → Ending → Type 0
+MayEnd how ending = (how ≡ end.WriteFault) ⊎ (how ≡ end_of false ending)
+
+-- The run of the server came to this journal, and ended in a way that may be told so. If workers
+-- led, they were as many as were asked for; of the answers of several the first in order ended it.
+-- The net stands for the journal: the ends that were retired or turned away are left as it says.
 pub record RunsOverNet {H M Q W V E : Type 0} (m : Meaning H M Q W V ServerNote E) (t : Terms)
     (asked : Asked) (o : SinkFacts) (net : M) (how : HostEnd)
     (journal : List (Entry ServerNote)) : Type 0 where
-  pub broken : Bool
   pub ending : Ending
-  pub named : how ≡ end_of broken ending
-  pub run : IsUnmade ending journal ⊎ IsRun m.means t asked.until (m.facts net) ending journal
-  pub led : LedSo m t asked o ending journal
+  pub named : MayEnd how ending
+  pub came : CameSo ending journal (IsRun m.means t asked.until (m.facts net) ending journal)
+      (LedSo m t asked o ending journal)
   pub stands : NetStands m.means t (past_of journal) [] (m.facts net)
   pub keeps : m.keeps t net
   pub failed : NetFailedSo how (m.facts net) journal

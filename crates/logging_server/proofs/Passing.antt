@@ -96,7 +96,7 @@ module _ {K V : Type 0} (G : Ghosts ScriptEnd) (sink : K → SinkFacts)
   run =
       let ends = subst (λ (e : ReplayEnd). EndsReplay e runs.how (facts volumes).faults
       (facts played.volumes).faults) r.done runs.ends in
-      run-of terms asked served.groups runs.journal runs.how ends runs.ran.ended
+      run-of terms asked served.groups runs.journal runs.how ends runs.ran.came
 
   -- the text is that of its journal
   wrote : text ≡ text_in Journal (options.most + 1) runs.journal

@@ -62,7 +62,7 @@ use Rattle.server_run.specs.declared.ending.Ending.{Ending}
 use Rattle.server_run.specs.declared.ending.Ending.TheVariants as ending
 use Rattle.server_run.specs.declared.ending.Served.{Served}
 use Rattle.server_run.proofs.Cuts.{Cut, ends_by_notice, is_right}
-use Rattle.server_run.proofs.Leaving.{broken_told, leaves}
+use Rattle.server_run.proofs.Leaving.{broken_told, leaves, names}
 use Rattle.tp_reactor.proofs.Merged.{AllPosted, all_drained}
 use Rattle.server_run.proofs.Notified.{KeepsNotices}
 use Rattle.server_run.proofs.Notices.{all_of_filter, none_of_all}
@@ -303,11 +303,6 @@ module _ {H M Q W V E : Type 0} (m : Meaning H M Q W V ServerNote E) (t : Terms)
     broken_answer ran.Stopped is = cc
     broken_answer ran.Over is = cc
 
-    named_so : (now : Ending) (b : Bool) → now ≡ named (ending_of answer) b → (now ≡ ending.Broken)
-        ⊎ (now ≡ ending_of answer)
-    named_so now true is = inl is
-    named_so now false is = inr is
-
     pub leaves_led : (armed : Q → List Timer) (served : Served M Q W V)
         → served.ending ≡ named (ending_of answer) (m.is_broken served.parts.watch)
         → ((first : ℕ) → Stands m t core first w.seen → NoneOpen w.seen
@@ -324,7 +319,7 @@ module _ {H M Q W V E : Type 0} (m : Meaning H M Q W V ServerNote E) (t : Terms)
         (λ c. ends_by armed served fin stops keeps by_turn c answer refl)
         (inr (record {
           answer = answer;
-          named = named_so served.ending (m.is_broken served.parts.watch) is;
+          named = names (ending_of answer) served.ending (m.is_broken served.parts.watch) is;
           list = w.seen;
           winds = fin.winds;
           terms = v.terms;

@@ -26,7 +26,7 @@ use Rattle.tp_reactor.specs.reactor_state.specs.Tables.{armed_of}
 use Rattle.tp_reactor.specs.reactor_desk.specs.Desks.{FillsVolume}
 use Rattle.server_run.specs.Finishing.{Finishes, named}
 use Rattle.server_run.specs.Journals.{BeginsSo, EndsSo, WindsUp, first_entry}
-use Rattle.server_run.specs.Served.{HasLed, HasNoLead, LeavesRun, MayBeUnmade, MayLackLead}
+use Rattle.server_run.specs.Served.{HasLed, IsUnled, LeavesRun, Names}
 use Rattle.server_run.specs.declared.asked.Asked.{Asked}
 use Rattle.server_run.specs.declared.ending.Ending.{Ending}
 use Rattle.server_run.specs.declared.ending.Ending.TheVariants as ending
@@ -40,6 +40,11 @@ use Rattle.server_run.proofs.Winding.{Breaks, sum, whole_of_over}
 pub broken_told : (how now : Ending) (b : Bool) → now ≡ named how b → b ≡ true → now ≡ ending.Broken
 broken_told how now true is q = is
 broken_told how now false is q = absurd (false≢true q)
+
+-- an ending that is told names what ended the run
+pub names : (how now : Ending) (b : Bool) → now ≡ named how b → Names now how
+names how now true is = inl is
+names how now false is = inr is
 
 pub broken_why : (P : Type 0) (how now : Ending) (b : Bool) → now ≡ named how b
     → now ≡ ending.Broken → (b ≡ true → P) → (how ≡ ending.Broken → P) → P
@@ -87,8 +92,7 @@ module _ {H M Q W V E : Type 0} (m : Meaning H M Q W V ServerNote E) (armed : Q 
       → BeginsSo list
       → DispatchedByTurns m.means t 1 list → list_all (is_right asked.until) list ≡ true
       → ((c : Cut list fin.journal) → EndsSo asked.until (m.facts served.parts.net) how c.run
-      c.closing) → (HasNoLead served.ending fin.journal
-      ⊎ HasLed m t asked served.ending fin.journal)
+      c.closing) → (IsUnled served.ending fin.journal ⊎ HasLed m t asked served.ending fin.journal)
       → ((before : ℕ) → how ≡ ending.Broken → t.output_faults ≡ Some before
       → Rose before (m.faults served.parts.watch)) → LeavesRun m armed t asked served
   leaves first list core fin filled begins turned right ends led caused =
@@ -99,21 +103,23 @@ module _ {H M Q W V E : Type 0} (m : Meaning H M Q W V ServerNote E) (armed : Q 
         stand = fin.stand;
         bound = fin.bound;
         filled = filled;
-        run = inr (record {
-          whole = whole_of_over t.most fin.journal fin.legal fin.over;
-          run = c.run;
-          closing = c.closing;
-          is = c.is;
-          begins = begins_of list fin.journal c begins;
-          turned = turned_cut m.means t 1 list fin.journal c turned;
-          offers = offers_cut m.means t list fin.journal c turned;
-          faults = omega (arith, fin.stand.net.faults, count-past is_fault fin.journal);
-          notices = notices_of asked.until fin.journal
-              (right_cut asked.until list fin.journal c right);
-          ends = ends_named asked.until (m.facts served.parts.net) how served.ending
-              (m.is_broken served.parts.watch) c.run c.closing is (ends c);
-        });
-        led = led;
+        came = inr (
+          record {
+            whole = whole_of_over t.most fin.journal fin.legal fin.over;
+            run = c.run;
+            closing = c.closing;
+            is = c.is;
+            begins = begins_of list fin.journal c begins;
+            turned = turned_cut m.means t 1 list fin.journal c turned;
+            offers = offers_cut m.means t list fin.journal c turned;
+            faults = omega (arith, fin.stand.net.faults, count-past is_fault fin.journal);
+            notices = notices_of asked.until fin.journal
+                (right_cut asked.until list fin.journal c right);
+            ends = ends_named asked.until (m.facts served.parts.net) how served.ending
+                (m.is_broken served.parts.watch) c.run c.closing is (ends c);
+          },
+          led,
+        );
         broken = broken_rose fin.broken caused;
       }
 
@@ -143,20 +149,9 @@ module _ {H M Q W V E : Type 0} (m : Meaning H M Q W V ServerNote E) (armed : Q 
   taken_at_first None h = tt
   taken_at_first (Some taken) h = (taken, sym (append-nil taken), h)
 
-  unmade : (b : Bool) → MayBeUnmade (named ending.NoMemory b)
-  unmade true = tt
-  unmade false = tt
-
-  unled : (b : Bool) → MayLackLead how → MayLackLead (named how b)
-  unled true may = tt
-  unled false may = may
-
-  pub lacks : (journal : List (Entry ServerNote)) → MayLackLead how → (journal ≡ [])
-      ⊎ (WindsUp [] journal ⊎ WindsUp (first_entry ∷ []) journal) → HasNoLead served.ending journal
-  lacks journal may is_so = record {
-    ending = subst MayLackLead (sym is) (unled (m.is_broken served.parts.watch) may);
-    journal_is = is_so;
-  }
+  for_cause : (cause : Ending) → how ≡ cause → Names served.ending cause
+  for_cause cause same =
+      subst (Names served.ending) same (names how served.ending (m.is_broken served.parts.watch) is)
 
   pub leaves_unmade : (most : ℕ) (net : M) (timers : Q) (watch : W) (volumes : V) → Breaks m
       → how ≡ ending.NoMemory → CanBegin (m.facts net) (m.keeps t net) (armed timers)
@@ -183,13 +178,7 @@ module _ {H M Q W V E : Type 0} (m : Meaning H M Q W V ServerNote E) (armed : Q 
         };
         bound = lit≤ tt;
         filled = none_handed_over asked.volume;
-        run = inl (record {
-          ending = subst MayBeUnmade
-              (sym (is ∙ ap (λ h. named h (m.is_broken served.parts.watch)) memory))
-              (unmade (m.is_broken served.parts.watch));
-          none = refl;
-        });
-        led = inl (lacks [] (subst MayLackLead (sym memory) tt) (inl refl));
+        came = inl (record { named = for_cause ending.NoMemory memory; none = refl });
         broken = broken_rose (λ before b told. broke t served.parts.watch [] before seen b told)
             (λ before b. absurd (let not : ending.NoMemory ≡ ending.Broken = sym memory ∙ b in cc));
       }
@@ -216,36 +205,42 @@ module _ {H M Q W V E : Type 0} (m : Meaning H M Q W V ServerNote E) (armed : Q 
       c.how
 
   ends_unled : (list journal : List (Entry ServerNote)) (c : Cut list journal) (net : NetFacts E)
-      (now : Ending) → MayLackLead now → (now ≡ ending.NotAttached → list ≡ [])
-      → EndsSo asked.until net now c.run c.closing
-  ends_unled list journal c net ending.Broken may none = tt
-  ends_unled list journal c net ending.NotAttached may none =
-      nothing_closed list journal c (none refl)
-  ends_unled list journal c net ending.NoMemory may none = tt
-  ends_unled list journal c net ending.NetFault may none = absurd may
-  ends_unled list journal c net ending.VolumeFault may none = absurd may
-  ends_unled list journal c net ending.Notified may none = absurd may
-  ends_unled list journal c net ending.Over may none = absurd may
+      → (how ≡ ending.NotAttached) ⊎ (how ≡ ending.NoMemory)
+      → (how ≡ ending.NotAttached → list ≡ []) → EndsSo asked.until net how c.run c.closing
+  ends_unled list journal c net (inl apart) none =
+      subst (λ (x : Ending). EndsSo asked.until net x c.run c.closing) (sym apart)
+      (nothing_closed list journal c (none apart))
+  ends_unled list journal c net (inr memory) none =
+      subst (λ (x : Ending). EndsSo asked.until net x c.run c.closing) (sym memory) tt
+
+  not_broken : (how ≡ ending.NotAttached) ⊎ (how ≡ ending.NoMemory) → how ≡ ending.Broken → ⊥
+  not_broken (inl apart) broken = let both = sym apart ∙ broken in cc
+  not_broken (inr memory) broken = let both = sym memory ∙ broken in cc
 
   -- the reactor was stopped at once, with no handler or with the acceptor alone
   pub leaves_unled : (first : ℕ) (list : List (Entry ServerNote))
       (core : Core H M Q W V ServerNote E) → Finishes m armed t first list core served.parts
-      → FillsVolume asked.volume first → (list ≡ []) ⊎ (list ≡ first_entry ∷ []) → MayLackLead how
-      → (how ≡ ending.NotAttached → list ≡ []) → (how ≡ ending.Broken → ⊥)
-      → LeavesRun m armed t asked served
-  leaves_unled first list core fin filled so may none other =
+      → FillsVolume asked.volume first → (list ≡ []) ⊎ (list ≡ first_entry ∷ [])
+      → (how ≡ ending.NotAttached) ⊎ (how ≡ ending.NoMemory)
+      → (how ≡ ending.NotAttached → list ≡ []) → LeavesRun m armed t asked served
+  leaves_unled first list core fin filled so why none =
       leaves first list core fin filled
       (⊎_elim inl (λ one. inr ([], one)) so)
       (none_turned m.means list (⊎_elim (λ none. omega (arith, ap length none))
       (λ one. omega (arith, ap length one)) so))
       (⊎_elim (λ none. ap (list_all (is_right asked.until)) none)
       (λ one. ap (list_all (is_right asked.until)) one ∙ right_first asked.until) so)
-      (λ c. ends_unled list fin.journal c (m.facts served.parts.net) how may none)
-      (inl (lacks fin.journal may (inr (⊎_elim
-      (λ none. inl (subst (λ (k : List (Entry ServerNote)). WindsUp k fin.journal) none fin.winds))
-      (λ one. inr (subst (λ (k : List (Entry ServerNote)). WindsUp k fin.journal) one fin.winds))
-      so))))
-      (λ before b. absurd (other b))
+      (λ c. ends_unled list fin.journal c (m.facts served.parts.net) why none)
+      (inl (record {
+        named = ⊎_elim (λ apart. inl (for_cause ending.NotAttached apart))
+            (λ memory. inr (for_cause ending.NoMemory memory)) why;
+        winds = ⊎_elim
+            (λ none. inl (subst (λ (k : List (Entry ServerNote)). WindsUp k fin.journal) none
+            fin.winds))
+            (λ one. inr (subst (λ (k : List (Entry ServerNote)). WindsUp k fin.journal) one
+            fin.winds)) so;
+      }))
+      (λ before b. absurd (not_broken why b))
     where
       right_first : (until : Option ℕ) → list_all (is_right {N = ServerNote} until)
           (first_entry ∷ []) ≡ true

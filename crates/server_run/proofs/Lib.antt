@@ -6,6 +6,7 @@ pub mod Resting
 pub mod Notified
 pub mod Cuts
 pub mod Leaving
+pub mod Came
 pub mod Leading
 pub mod Registering
 pub mod Living

@@ -1,6 +1,7 @@
 -- The registration of the acceptor with a reactor that has no handler.
-use Rattle.std.proofs.Common.{ℕ, ◌≡◌, ◌≤◌, ◌<◌, ◌^◌, ◌++◌, inl, inr, ⊎_elim, List, [], ◌∷◌, refl}
-use Rattle.std.proofs.Common.{sym, ap, ◌∙◌, subst, arith, Bool, true, false, Option, Some, None}
+use Rattle.std.proofs.Common.{ℕ, ◌≡◌, ◌≤◌, ◌<◌, ◌^◌, ◌++◌, ◌⊎◌, inl, inr, ⊎_elim, List, [], ◌∷◌}
+use Rattle.std.proofs.Common.{refl, sym, ap, ◌∙◌, subst, arith, Bool, true, false, Option, Some}
+use Rattle.std.proofs.Common.{None}
 use Rattle.std.specs.Prelude.{IfSome, Result, Ok, Err}
 use Rattle.std.proofs.lemmas.Bool.{false≢true}
 use Rattle.ev_base.specs.ev_types.specs.declared.upcall.Handle.{Handle}
@@ -36,7 +37,7 @@ use Rattle.server_run.specs.Finishing.{Finishes, KeepsCounts, named}
 use Rattle.server_run.specs.Journals.{first_entry}
 use Rattle.server_run.specs.Opening.{OpenCounts, SameCounts, refused_ending}
 use Rattle.tp_reactor.specs.reactor_core.specs.Refusals.{MayRefuseFirst}
-use Rattle.server_run.specs.Served.{FaultRose, HasCauses, LeavesRun, MayLackLead}
+use Rattle.server_run.specs.Served.{FaultRose, HasCauses, LeavesRun}
 use Rattle.server_run.specs.declared.asked.Asked.{Asked}
 use Rattle.server_run.specs.declared.ending.Ending.{Ending}
 use Rattle.server_run.specs.declared.ending.Ending.TheVariants as ending
@@ -160,17 +161,12 @@ module _ {H M Q W V E : Type 0} (m : Meaning H M Q W V ServerNote E) where
     told = broken_told ending.NoMemory served.ending (m.is_broken served.parts.watch) is;
   }
 
-  may_lack : (why : RegisterRefused) → MayLackLead (refused_ending why)
-  may_lack refused.Stopped = tt
-  may_lack (refused.Full live opened) = tt
-  may_lack refused.NoMemory = tt
-  may_lack refused.NetFailed = tt
-
-  not_broken : (why : RegisterRefused) → refused_ending why ≡ ending.Broken → ⊥
-  not_broken refused.Stopped is = cc
-  not_broken (refused.Full live opened) is = cc
-  not_broken refused.NoMemory is = cc
-  not_broken refused.NetFailed is = cc
+  refused_for_one : (why : RegisterRefused) → (refused_ending why ≡ ending.NotAttached)
+      ⊎ (refused_ending why ≡ ending.NoMemory)
+  refused_for_one refused.Stopped = inr refl
+  refused_for_one (refused.Full live opened) = inr refl
+  refused_for_one refused.NoMemory = inr refl
+  refused_for_one refused.NetFailed = inl refl
 
   pub refused_leaves : (armed : Q → List Timer) (t : Terms) (asked : Asked) (why : RegisterRefused)
       (core : Core H M Q W V ServerNote E) (served : Served M Q W V)
@@ -179,7 +175,7 @@ module _ {H M Q W V E : Type 0} (m : Meaning H M Q W V ServerNote E) where
   refused_leaves armed t asked why core served is fin =
       leaves_unled m armed t asked (refused_ending why) served is 0 [] core fin
       (none_handed_over asked.volume) (inl refl)
-      (may_lack why) (λ net. refl) (not_broken why)
+      (refused_for_one why) (λ apart. refl)
 
   pub unshared_leaves : (armed : Q → List Timer) (t : Terms) (asked : Asked)
       (core : Core H M Q W V ServerNote E) (served : Served M Q W V)
@@ -187,8 +183,8 @@ module _ {H M Q W V E : Type 0} (m : Meaning H M Q W V ServerNote E) where
       → Finishes m armed t 0 (first_entry ∷ []) core served.parts → LeavesRun m armed t asked served
   unshared_leaves armed t asked core served is fin =
       leaves_unled m armed t asked ending.NoMemory served is 0 (first_entry ∷ []) core fin
-      (none_handed_over asked.volume) (inr refl) tt (λ net. absurd (let not : ending.NoMemory ≡ ending.NotAttached = net in cc))
-      (λ b. let not : ending.NoMemory ≡ ending.Broken = b in cc)
+      (none_handed_over asked.volume) (inr refl) (inr refl)
+      (λ apart. absurd (let not : ending.NoMemory ≡ ending.NotAttached = apart in cc))
 
 -- ---- counts
 

@@ -32,26 +32,24 @@ ending_of ran.VolumeFault = ending.VolumeFault
 ending_of ran.Stopped = ending.Notified
 ending_of ran.Over = ending.Over
 
--- no worker led: there was no memory for the reactor or for sharing it, or the acceptor was not
--- registered
-abbrev pub MayLackLead : Ending → Type 0
-MayLackLead ending.Broken = Unit {0}
-MayLackLead ending.NotAttached = Unit {0}
-MayLackLead ending.NoMemory = Unit {0}
-MayLackLead ending.NetFault = ⊥
-MayLackLead ending.VolumeFault = ⊥
-MayLackLead ending.Notified = ⊥
-MayLackLead ending.Over = ⊥
+-- The ending names this cause; or it tells that the watch failed, whatever else ended the run.
+abbrev pub Names : Ending → Ending → Type 0
+Names how cause = (how ≡ ending.Broken) ⊎ (how ≡ cause)
 
--- Then the journal is empty, or the reactor was stopped at once, with no handler or with the
--- acceptor alone.
-pub record HasNoLead {N : Type 0} (how : Ending) (journal : List (Entry N)) : Type 0 where
-  pub ending : MayLackLead how
-  pub journal_is : (journal ≡ []) ⊎ (WindsUp [] journal ⊎ WindsUp (first_entry ∷ []) journal)
+-- No reactor was made, for want of memory, so the journal is empty.
+pub record IsUnmade {N : Type 0} (how : Ending) (journal : List (Entry N)) : Type 0 where
+  pub named : Names how ending.NoMemory
+  pub none : journal ≡ []
 
--- Several workers brought it there. A root that had seen the registration of the acceptor alone
--- hired the others, each of which made its loop; their answer is the first in order of those with
--- which they left. Or there was no memory for the list of the workers, and none led.
+-- No worker led: the net did not take the listener in, or there was no memory. The reactor was
+-- stopped at once, with no handler or with the acceptor alone.
+pub record IsUnled {N : Type 0} (how : Ending) (journal : List (Entry N)) : Type 0 where
+  pub named : Names how ending.NotAttached ⊎ Names how ending.NoMemory
+  pub winds : WindsUp [] journal ⊎ WindsUp (first_entry ∷ []) journal
+
+-- Several workers brought the journal to this list. A root that had seen the registration of the
+-- acceptor alone hired the others, each of which made its loop. Their answer is the first in order
+-- of those with which they left. Or there was no memory for the list of the workers, and none led.
 pub record IsPooled {H M Q W V N E : Type 0} (m : Meaning H M Q W V N E) (terms : DeskTerms)
     (asked : Asked) (answer : Ran) (list : List (Entry N)) : Type 0 where
   pub root : View (Entry N) DeskTerms
@@ -70,7 +68,7 @@ pub record IsPooled {H M Q W V N E : Type 0} (m : Meaning H M Q W V N E) (terms 
 pub record HasLed {H M Q W V N E : Type 0} (m : Meaning H M Q W V N E) (t : Terms) (asked : Asked)
     (how : Ending) (journal : List (Entry N)) : Type 0 where
   pub answer : Ran
-  pub named : (how ≡ ending.Broken) ⊎ (how ≡ ending_of answer)
+  pub named : Names how (ending_of answer)
   pub list : List (Entry N)
   pub winds : WindsUp list journal
   pub terms : DeskTerms
@@ -78,19 +76,10 @@ pub record HasLed {H M Q W V N E : Type 0} (m : Meaning H M Q W V N E) (t : Term
   pub alone : asked.workers ≡ 1 → RunsTo m terms asked.limit (first_entry ∷ []) answer list
   pub pooled : 1 < asked.workers → IsPooled m terms asked answer list
 
--- no reactor was made, for want of memory, so the journal is empty
-abbrev pub MayBeUnmade : Ending → Type 0
-MayBeUnmade ending.Broken = Unit {0}
-MayBeUnmade ending.NoMemory = Unit {0}
-MayBeUnmade ending.NotAttached = ⊥
-MayBeUnmade ending.NetFault = ⊥
-MayBeUnmade ending.VolumeFault = ⊥
-MayBeUnmade ending.Notified = ⊥
-MayBeUnmade ending.Over = ⊥
-
-pub record IsUnmade {N : Type 0} (how : Ending) (journal : List (Entry N)) : Type 0 where
-  pub ending : MayBeUnmade how
-  pub none : journal ≡ []
+-- How far a run came. No reactor was made. Or there is a run as `run` says, and no worker led, or
+-- the workers led to its journal as `led` says.
+abbrev pub CameSo : {N : Type 0} → Ending → List (Entry N) → Type 0 → Type 0 → Type 0
+CameSo how journal run led = IsUnmade how journal ⊎ (run × (IsUnled how journal ⊎ led))
 
 -- What is left of a run under these terms: one journal, of at most 2^62 entries, for which the
 -- parts stand. Entries were handed over only as whole volumes of the size that was asked for, or
@@ -102,9 +91,9 @@ pub record LeavesRun {H M Q W V E : Type 0} (m : Meaning H M Q W V ServerNote E)
   pub stand : PartsStand m armed t first journal served.parts
   pub bound : length journal ≤ 2 ^ 62
   pub filled : FillsVolume asked.volume first
-  pub run : IsUnmade served.ending journal
-      ⊎ IsRun m.means t asked.until (m.facts served.parts.net) served.ending journal
-  pub led : HasNoLead served.ending journal ⊎ HasLed m t asked served.ending journal
+  pub came : CameSo served.ending journal
+      (IsRun m.means t asked.until (m.facts served.parts.net) served.ending journal)
+      (HasLed m t asked served.ending journal)
   pub broken : (before : ℕ) → served.ending ≡ ending.Broken → t.output_faults ≡ Some before
       → Rose before (m.faults served.parts.watch)
 
