@@ -144,9 +144,21 @@ module _ {T : Type 0} where
     (length r.taken, refl),
   )
 
-  pub puts_learn : (port : ℕ) (v : View T) → Learns InPool port v (λ items. PutsStand v.puts items)
-  puts_learn port v items views r at =
-      (r.taken, subst (λ (l : List T). IsLogOf l v.puts) r.is (r.knows port v at).0)
+  -- who has all shares of the puts put the whole list
+  put_all : (port : ℕ) (v : View T) (items : List T) (views : List (View T))
+      → (r : InPool items views) → get_elem? views port ≡ some v → v.puts.shares ≡ 2 ^ 32
+      → (h : ℕ → T → ℕ) → weight h v.puts ≡ weight_from h 0 r.all
+  put_all port v items views r at shares h = sym (whole put_shares (put_weight h) views port v
+      (λ k u e none. weight_none h u.puts ((r.knows k u e).0.none none))
+      (r.put_shares ∙ sym shares) at) ∙ r.put_once h
+
+  pub puts_learn : (port : ℕ) (v : View T) → Learns InPool port v (PutsStand v.puts)
+  puts_learn port v items views r at = record {
+    taken = r.taken;
+    stand = subst (λ (l : List T). IsLogOf l v.puts) r.is (r.knows port v at).0;
+    whole = λ shares h. put_all port v items views r at shares h
+        ∙ ap (λ (l : List T). weight_from h 0 l) r.is;
+  }
 
   pub takes_learn : (port : ℕ) (v : View T)
       → Learns InPool port v (λ items. TakesStand v.takes items)
@@ -298,9 +310,7 @@ module _ {T : Type 0} where
     all = r.all;
     taken = r.taken;
     is = r.is;
-    put_once = λ h. sym (whole put_shares (put_weight h) views port v
-        (λ k u e none. weight_none h u.puts ((r.knows k u e).0.none none))
-        (r.put_shares ∙ sym ps) at) ∙ r.put_once h;
+    put_once = put_all port v items views r at ps;
     taken_once = λ h. sym (whole take_shares (take_weight h) views port v
         (λ k u e none. weight_none h u.takes ((r.knows k u e).1.none none))
         (r.take_shares ∙ sym ts) at) ∙ r.taken_once h;

@@ -1,6 +1,6 @@
 -- What was put into a pool and taken out of it. Items are numbered in the order in which they were
 -- put, which is the order in which they are taken.
-use Rattle.std.specs.Prelude.{◌≡◌, ℕ, ◌+◌, ◌-◌, ◌≤◌, List, [], ◌∷◌, ◌++◌}
+use Rattle.std.specs.Prelude.{◌≡◌, ℕ, ◌+◌, ◌-◌, ◌^◌, ◌≤◌, List, [], ◌∷◌, ◌++◌}
 use mathlib.Core.Option.{some}
 use lib.ListN.{get_elem?}
 use Rattle.list_lemmas.specs.Sums.{total}
@@ -47,14 +47,6 @@ module _ {T : Type 0} where
     pub joined : AreParts all l.joined
     pub none : l.shares ≡ 0 → (l.own ≡ []) × (l.joined ≡ [])
 
-  -- The items in the queue are the last of some list, in which what this putter put stands.
-  abbrev pub PutsStand : Log T → List T → Type 0
-  PutsStand l items = (taken : List T) × IsLogOf (taken ++ items) l
-
-  -- The items that are in the queue stand after some list, in which what this taker took stands.
-  abbrev pub TakesStand : Log T → List T → Type 0
-  TakesStand l items = (taken : List T) × IsLogOf taken l
-
   -- ---- weights
 
   abbrev pub weight_of : (ℕ → T → ℕ) → Numbered T → ℕ
@@ -68,3 +60,17 @@ module _ {T : Type 0} where
   abbrev pub weight_from : (ℕ → T → ℕ) → ℕ → List T → ℕ
   weight_from h n [] = 0
   weight_from h n (x ∷ xs) = h n x + weight_from h (n + 1) xs
+
+  -- ---- what a try finds
+
+  -- The items in the queue are the last of some list, in which what this putter put stands. If it
+  -- has all shares, it put the whole list, each item once.
+  pub record PutsStand (l : Log T) (items : List T) : Type 0 where
+    pub taken : List T
+    pub stand : IsLogOf (taken ++ items) l
+    pub whole : l.shares ≡ 2 ^ 32 → (h : ℕ → T → ℕ)
+        → weight h l ≡ weight_from h 0 (taken ++ items)
+
+  -- The items that are in the queue stand after some list, in which what this taker took stands.
+  abbrev pub TakesStand : Log T → List T → Type 0
+  TakesStand l items = (taken : List T) × IsLogOf taken l
