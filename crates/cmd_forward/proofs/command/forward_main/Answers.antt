@@ -4,7 +4,7 @@ use Rattle.cmd_forward.proofs.command.forward_main.Goals as goal
 
 pub returns-in-Ok-Some-clause-dials : goal.returns-in-Ok-Some-clause-dials
 returns-in-Ok-Some-clause-dials g c = inr (
-  c.in-Ok-Some.field-0,
+  c.in-Ok-Some.options,
   sym c.in-Ok-Some.ensures.options ∙ c.in-Ok-Some.field-0-is,
   c.dial.ensures.dials,
 )
