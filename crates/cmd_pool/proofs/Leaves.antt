@@ -266,6 +266,18 @@ module _ {H M Q W V E K : Type 0} (m : Meaning H M Q W V ServerNote E) (sink : K
         → LeavesPool m sink pool_terms asked (sink output) served
     leaves-pool served given same writes = by-first ran.parts.first refl served given same writes
 
+-- a run that left a net was over a host that listened
+pub listened : {H M Q W V K E : Type 0} (m : Meaning H M Q W V ServerNote E) (sink : K → SinkFacts)
+    (t : Terms) (asked : Asked) (o : SinkFacts) (served : PoolServed M K) (net : M)
+    → served.net ≡ Some net → LeavesPool m sink t asked o served → served.end ≡ end.ListenFault
+    → ⊥
+listened {M = M} m sink t asked o served net given l is =
+    let told : RunsWhereGiven m t asked served.net end.ListenFault l.journal =
+    subst (λ (e : PoolEnd). RunsWhereGiven m t asked served.net e l.journal) is l.run in
+    let run : RunsPool m t asked net end.ListenFault l.journal =
+    subst (λ (n : Option M). RunsWhereGiven m t asked n end.ListenFault l.journal) given told in
+    run.named
+
 -- what was asked for by options is what they ask for
 pub as-asked : {H M Q W V E : Type 0} {m : Meaning H M Q W V ServerNote E} {armed : Q → List Timer}
     {ran : Served M Q W V} (a b : Asked) → a ≡ b → LeavesRun m armed pool_terms a ran

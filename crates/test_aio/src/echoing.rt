@@ -17,8 +17,8 @@ struct Row {
     held: &'static [u8],
 }
 
-/// A peer that sends two pieces and ends its side; one that takes two bytes of three; one that takes
-/// none; one that fails; one that stays; and one that is refused before its first turn.
+/// A peer that sends two pieces and ends its side; one that takes two bytes of three; one that
+/// takes none; one that fails; one that stays; and one that is refused before its first turn.
 static ROWS: [Row; 6] = [
     Row {
         script: "open 0\ndata 0 6869\ndata 0 6a\nshut 0\n",

@@ -1,5 +1,5 @@
-//! Rows of asynchronous operations over scripts of network events: called without a reactor, and as
-//! the command that is an echo service made of them.
+//! Rows of asynchronous operations: over scripts of network events, called without a reactor and as
+//! the command that is an echo service made of them, and of the command over sockets.
 #![tactic(auto)]
 
 #[cfg(test)]
@@ -10,6 +10,10 @@ mod echoing;
 mod handlers;
 #[cfg(test)]
 mod lines;
+#[cfg(test)]
+mod peers;
+#[cfg(test)]
+mod sockets;
 #[cfg(test)]
 mod turns;
 #[cfg(test)]

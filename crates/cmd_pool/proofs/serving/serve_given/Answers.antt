@@ -5,7 +5,7 @@ use Rattle.chosen_timers.proofs.ChosenTimers.TheSendSync as timers
 use Rattle.server_run.specs.declared.asked.Asked.{Asked}
 use Rattle.cmd_pool.proofs.putter.RecordPutter.TheSendSync as putters
 use Rattle.cmd_pool.proofs.Begins.{can-start-as, fine-as}
-use Rattle.cmd_pool.proofs.Leaves.{as-asked, leaves-net, leaves-pool}
+use Rattle.cmd_pool.proofs.Leaves.{as-asked, leaves-net, leaves-pool, listened}
 use Rattle.cmd_pool.proofs.serving.serve_given.Goals as goal
 
 pub returns-in_default-clause-leaves : goal.returns-in_default-clause-leaves
@@ -39,3 +39,12 @@ returns-clause-leaves g c =
     (as-asked _ _ c.asked_by-asked.ensures c.serve_observed-served.ensures.run)
     c.requires.listener.net c.serve_observed-served.ensures.causes c.leave.result
     c.leave.ensures.net c.leave.ensures.journal c.leave.ensures.writes
+
+pub returns-clause-listened : goal.returns-clause-listened
+returns-clause-listened g c =
+    listened _ g.K.Sink.facts _ _ _ c.leave.result _ c.leave.ensures.net
+    (leaves-pool _ g.K.Sink.facts c.args.options c.args.output _ c.args.given.0 _
+    c.serve_observed-served.result
+    (as-asked _ _ c.asked_by-asked.ensures c.serve_observed-served.ensures.run)
+    c.requires.listener.net c.serve_observed-served.ensures.causes c.leave.result
+    c.leave.ensures.net c.leave.ensures.journal c.leave.ensures.writes)
