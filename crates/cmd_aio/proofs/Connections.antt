@@ -26,8 +26,8 @@ use Rattle.proactor.specs.Turns.{Course, State, at_start, count_standing}
 use Rattle.proactor.specs.declared.note.AsynchNote.{AsynchNote}
 use Rattle.proactor.specs.declared.operation.Op.{Op}
 use Rattle.proactor.specs.declared.service.AioNote.{AioNote}
-use Rattle.cmd_aio.specs.Connections.{LeavesEnd, Pairs, SaysOf, SaysOfEnd, SaysOfEnds, SaysOfOffered}
-use Rattle.cmd_aio.specs.Connections.{SaysOfRefused, closings, refusals}
+use Rattle.cmd_aio.specs.Connections.{LeavesEnd, Pairs, SaysOf, SaysOfEnd, SaysOfEnds}
+use Rattle.cmd_aio.specs.Connections.{SaysOfOffered, SaysOfRefused, closings, refusals}
 use Rattle.cmd_aio.proofs.Events.{echoes_of, ended_so, gave_same, sound_course, took_same}
 
 only_left : (a b : Bool) → (a || b) ≡ true → b ≡ false → a ≡ true
@@ -50,7 +50,8 @@ module _ {E : Type 0} (tells : E → EndFacts) (keeps : Terms → E → Type 0) 
           given = given g.all;
           waiting = back.waiting;
           back = back.back;
-          all_back = λ over. back.all_back (o.over ∙ (ap (λ (e : EndFacts). e.over) g.facts ∙ over));
+          all_back = λ over.
+              back.all_back (o.over ∙ (ap (λ (e : EndFacts). e.over) g.facts ∙ over));
           took = subst (λ (e : EndFacts). HasGiven e.bytes (taken g.all)) g.facts o.took;
           took_so_many = sym (ap (λ (e : EndFacts). e.gave) g.facts) ∙ o.took_so_many;
           gave = subst (λ (e : EndFacts). IsWritten e.written (given g.all)) g.facts o.gave;

@@ -17,8 +17,8 @@ use Rattle.reactor_model.specs.reactor_journal.specs.Event.{Item}
 use Rattle.proactor.specs.Account.{finds_over, is_over}
 use Rattle.proactor.specs.Echo.{IsEcho, is_done}
 use Rattle.proactor.specs.Events.{Event, Took, Gave, ReadDone, WriteDone, Reply, Asked}
-use Rattle.proactor.specs.Events.{FoundNoMemory, completion, done_in, ends, fails, given, given_by, is_failed}
-use Rattle.proactor.specs.Events.{some_of, taken, taken_by, told, told_by, told_in}
+use Rattle.proactor.specs.Events.{FoundNoMemory, completion, done_in, ends, fails, given, given_by}
+use Rattle.proactor.specs.Events.{is_failed, some_of, taken, taken_by, told, told_by, told_in}
 use Rattle.proactor.specs.Operations.{Told}
 use Rattle.proactor.specs.Turns.{Advances, Cancels, Course, GoesOnToWrite, Serves, State, TakesRead}
 use Rattle.proactor.specs.Turns.{TakesWrite, TriesRead, TriesWrite}

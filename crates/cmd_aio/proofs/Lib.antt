@@ -2,4 +2,5 @@ pub mod Lines
 pub mod Events
 pub mod Connections
 pub mod Unstopped
+pub mod Waits
 pub mod Runs

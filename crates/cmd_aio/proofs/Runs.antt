@@ -11,11 +11,12 @@ use Rattle.ev_base.specs.Host.{LeavesHostOpen}
 use Rattle.ev_base.specs.Net.{HasNone, IsNew, NetFacts}
 use Rattle.ev_base.specs.Sink.{SinkFacts}
 use Rattle.ev_base.specs.ev_types.specs.declared.upcall.Handle.{Handle}
+use Rattle.ev_base.specs.ev_types.specs.declared.upcall.Mask.{Mask}
 use Rattle.ev_base.specs.ev_types.specs.declared.upcall.Upcall.{Upcall}
 use Rattle.ev_base.specs.ev_types.specs.declared.upcall.Upcall.TheVariants.{Input, Output, Except}
 use Rattle.ev_base.specs.ev_types.specs.declared.upcall.Upcall.TheVariants.{Timeout, Notice}
 use Rattle.timer_queue.specs.declared.timer.Timer.{Timer}
-use Rattle.reactor_model.specs.Handling.{Stopping}
+use Rattle.reactor_model.specs.Handling.{Installing, Stopping}
 use Rattle.reactor_model.specs.Volumes.{tells_nothing}
 use Rattle.reactor_model.specs.reactor_journal.specs.Follow.{Legal}
 use Rattle.reactor_model.specs.reactor_journal.specs.Past.{all_below, count, opened}
@@ -48,10 +49,12 @@ use Rattle.proactor.specs.Ends.{mask_by}
 use Rattle.proactor.specs.Services.{ServiceMay}
 use Rattle.proactor.specs.declared.service.AioNote.{AioNote}
 use Rattle.cmd_aio.specs.Finishing.{Finishes, MayEnd, TookLines, end_by, named}
-use Rattle.cmd_aio.specs.Leaving.{LeavesServed, OutputTook, RunsWhereGiven}
+use Rattle.cmd_aio.specs.Leaving.{AskedWithoutLimit, LeavesServed, OutputTook, RunsWhereGiven}
 use Rattle.cmd_aio.specs.Runs.{EndsRun, EndsSo, GoesByTurns, IsWhole}
-use Rattle.cmd_aio.specs.Starting.{IsOpened, aio_terms, first_entry, aio_refusal}
+use Rattle.cmd_aio.specs.Starting.{IsOpened, aio_refusal, aio_terms, first_entry, terms_bound}
 use Rattle.reactor_core.specs.Refusals.{MayRefuseFirst}
+use Rattle.reactor_core.specs.Removing.{alive_handles}
+use Rattle.reactor_core.specs.reactor_summary.specs.Summary.{is_busy}
 use Rattle.cmd_aio.specs.declared.ending.AioEnd.{AioEnd}
 use Rattle.cmd_aio.specs.declared.ending.AioEnd.TheVariants as end
 use Rattle.cmd_aio.specs.declared.ending.Ran.{Ran}
@@ -59,7 +62,8 @@ use Rattle.cmd_aio.specs.declared.top.AioServed.{AioServed}
 use Rattle.aio_words.specs.declared.words.AioWords.{AioWords}
 use Rattle.cmd_aio.specs.Statuses.{RunsCommand}
 use Rattle.cmd_aio.proofs.Lines.{took_nothing}
-use Rattle.cmd_aio.proofs.Unstopped.{IsNotice}
+use Rattle.cmd_aio.proofs.Unstopped.{IsNotice, IsPlain}
+use Rattle.cmd_aio.proofs.Waits.{asked_if_told, sets_none}
 
 -- ---- the beginning
 
@@ -69,13 +73,15 @@ some_is q = cc
 none_is : {A : Type 0} {a : A} {X : Type 0} → None ≡ Some a → X
 none_is q = cc
 
-pub open_terms_are : (o : SinkFacts) → LeavesHostOpen (aio_terms o)
-open_terms_are o = record { offers = refl; stories = refl; groups = refl; steady = refl }
+pub open_terms_are : (bound : Option (Option ℕ)) (o : SinkFacts)
+    → LeavesHostOpen (terms_bound bound o)
+open_terms_are bound o = record { offers = refl; stories = refl; groups = refl; steady = refl }
 
-pub begins : {E : Type 0} (o : SinkFacts) (net : NetFacts E) (keeps : Type 0)
-    (timers : List Timer) (seen : Type 0) → IsNew net → keeps → timers ≡ [] → seen
-    → CanBegin {N = AioNote} net keeps timers seen tells_nothing (aio_terms o) 1001
-begins o net keeps timers seen new keeping none saw = record {
+pub begins : {E : Type 0} (bound : Option (Option ℕ)) (o : SinkFacts) (net : NetFacts E)
+    (keeps : Type 0) (timers : List Timer) (seen : Type 0) → IsNew net → keeps → timers ≡ []
+    → seen
+    → CanBegin {N = AioNote} net keeps timers seen tells_nothing (terms_bound bound o) 1001
+begins bound o net keeps timers seen new keeping none saw = record {
   terms = refl;
   fresh = new;
   steady = λ q. none_is q;
@@ -102,9 +108,9 @@ RefusedSo end.ListenFault before now = ⊥
 
 module _ {H M Q W V E : Type 0} (m : Meaning H M Q W V AioNote E) (o : SinkFacts) where
   pub idle_at : (core : Core H M Q W V AioNote E) (h : List (Entry AioNote))
-      → Stands m (aio_terms o) core 0 h → NoneOpen h → IsIdle m core
+      → Stands m (terms_bound None o) core 0 h → NoneOpen h → IsIdle m core
   idle_at core h stands none = record {
-    terms = aio_terms o;
+    terms = terms_bound None o;
     limit = refl;
     first = 0;
     history = h;
@@ -113,18 +119,22 @@ module _ {H M Q W V E : Type 0} (m : Meaning H M Q W V AioNote E) (o : SinkFacts
   }
 
   pub opens : (old new : Core H M Q W V AioNote E) (handle : Handle)
-      → RegisterGives m (aio_terms o) 0 [] (mask_by false) None old (Ok handle) new
+      → ((bound : Option (Option ℕ))
+      → RegisterGives m (terms_bound bound o) 0 [] (mask_by false) None old (Ok handle) new)
       → IsOpened m o new
-  opens old new handle g = subst (λ (h : List (Entry AioNote)). Stands m (aio_terms o) new 0 h)
-      (first_is handle g.1) g.2
+  opens old new handle g = λ bound.
+      subst (λ (h : List (Entry AioNote)). Stands m (terms_bound bound o) new 0 h)
+      (first_is handle (g bound).1) (g bound).2
 
-  pub refused_for : (old new : Core H M Q W V AioNote E) (back : H) (refused : RegisterRefused)
-      → RegisterGives m (aio_terms o) 0 [] (mask_by false) None old (Err (back, refused)) new
-      → MayRefuseFirst refused × Stands m (aio_terms o) new 0 []
+  pub refused_for : (bound : Option (Option ℕ)) (old new : Core H M Q W V AioNote E) (back : H)
+      (refused : RegisterRefused)
+      → RegisterGives m (terms_bound bound o) 0 [] (mask_by false) None old
+      (Err (back, refused)) new
+      → MayRefuseFirst refused × Stands m (terms_bound bound o) new 0 []
       × RefusedSo (aio_refusal refused) (m.facts (net_of old)).failed_attaches
       (m.facts (net_of new)).failed_attaches
-  refused_for old new back register.Stopped g = absurd (false≢true g.0)
-  refused_for old new back (register.Full live now) g =
+  refused_for bound old new back register.Stopped g = absurd (false≢true g.0)
+  refused_for bound old new back (register.Full live now) g =
       absurd (⊎_elim (λ q. no_most q) (λ q. no_more q) g.1)
     where
       no_most : ◌≡◌ {A = ℕ} 0 1001 → ⊥
@@ -132,8 +142,8 @@ module _ {H M Q W V E : Type 0} (m : Meaning H M Q W V AioNote E) (o : SinkFacts
 
       no_more : ◌≡◌ {A = ℕ} 0 4294967295 → ⊥
       no_more q = omega (arith, q)
-  refused_for old new back register.NoMemory g = (tt, g.1.stands, tt)
-  refused_for old new back register.NetFailed g = (tt, g.2.stands, g.1)
+  refused_for bound old new back register.NoMemory g = (tt, g.1.stands, tt)
+  refused_for bound old new back register.NetFailed g = (tt, g.2.stands, g.1)
 
 pub told_refused : (how told : AioEnd) (before now : ℕ) → how ≡ told → RefusedSo told before now
     → RefusedSo how before now
@@ -181,6 +191,7 @@ module _ {H M Q W V K E : Type 0} (m : Meaning H M Q W V AioNote E) (tells : E �
           closed = told_none _ (m.facts net).retired tt new.retired;
           refused = told_none _ (m.facts net).turned_away tt new.turned_away;
         };
+        unlimited = told_none AskedWithoutLimit (m.facts net).calls tt new.calls;
       }) in
       let lines : OutputTook ran.end o [] (sink ran.output) =
       subst (λ (e : AioEnd). OutputTook e o [] (sink ran.output)) (sym how)
@@ -273,10 +284,10 @@ module _ {H M Q W V K E : Type 0} (m : Meaning H M Q W V AioNote E) (tells : E �
   ends_named true ends = tt
   ends_named false ends = ends
 
-  pub leaves : (sum h).ended ≡ false → GoesByTurns m.means (aio_terms o) h
+  pub leaves : IsPlain h → (sum h).ended ≡ false → GoesByTurns m.means (aio_terms o) h
       → EndsSo m.means (aio_terms o) until (m.facts f.net) first how h → BreaksSo how f.broken
       → LeavesServed m tells sink o until ran
-  leaves going turns why breaks =
+  leaves plain going turns why breaks =
       let st = subst (λ (b : Bool). StopAppends (sum h) b f.more) going f.stops in
       let closes : EndsRun h (h ++ f.more) = record {
         removals = st.0;
@@ -299,6 +310,10 @@ module _ {H M Q W V K E : Type 0} (m : Meaning H M Q W V AioNote E) (tells : E �
         stands = f.stands;
         keeps = f.keeps;
         says = f.says;
+        unlimited = asked_if_told m.means (aio_terms o) refl 1001 (past_of (h ++ f.more))
+            (m.facts f.net).calls f.whole.legal
+            (sets_none h f.more st.0 (is_busy (sum h)) (alive_handles (sum h)) plain st.1 st.2)
+            f.stands.calls;
       }) in
       let lines : OutputTook ran.end o (journal_lines (h ++ f.more)) (sink ran.output) =
       subst (λ (e : AioEnd). OutputTook e o (journal_lines (h ++ f.more)) (sink ran.output))
@@ -330,10 +345,10 @@ module _ {H M Q W V K E : Type 0} (m : Meaning H M Q W V AioNote E) (tells : E �
       → RefusedSo how before (m.facts (net_of core)).failed_attaches
       → (until : Option ℕ) → LeavesServed m tells sink o until ran
   leaves_refused end.NetFault before none f rose until =
-      leaves m tells sink o until 0 [] core end.NetFault ran f refl (inl refl)
+      leaves m tells sink o until 0 [] core end.NetFault ran f refl refl (inl refl)
       (λ q. q, inr (subst (Rose 0) (sym f.attaches) (rose_from before _ none rose), refl)) tt
   leaves_refused end.NoMemory before none f rose until =
-      leaves m tells sink o until 0 [] core end.NoMemory ran f refl (inl refl) (λ q. q) tt
+      leaves m tells sink o until 0 [] core end.NoMemory ran f refl refl (inl refl) (λ q. q) tt
   leaves_refused end.Done before none f rose until = absurd rose
   leaves_refused end.WriteFault before none f rose until = absurd rose
   leaves_refused end.ListenFault before none f rose until = absurd rose
@@ -363,6 +378,15 @@ notice_stops Output may = may
 notice_stops Except may = may
 notice_stops (Timeout timer) may = may
 notice_stops (Notice kind) may = tt
+
+-- and none offers a handler with a timer
+pub none_timed : (up : Upcall) (mask : Mask) (timer : Option (ℕ × ℕ))
+    → ServiceMay up (Installing mask timer) → timer ≡ None
+none_timed Input mask timer may = may.1
+none_timed Output mask timer may = absurd may
+none_timed Except mask timer may = absurd may
+none_timed (Timeout number) mask timer may = absurd may
+none_timed (Notice kind) mask timer may = absurd may
 
 module _ {H M Q W V E : Type 0} (m : Meaning H M Q W V AioNote E) (o : SinkFacts)
     (until : Option ℕ) (core : Core H M Q W V AioNote E) (waits faults first : ℕ)
@@ -437,15 +461,16 @@ module _ {H M Q W V K E : Type 0} (m : Meaning H M Q W V AioNote E) (tells : E �
     (RunsSo m.means until (Some r) (over_of core) (aio_terms o) (first_entry ∷ [])) core) where
   pub leaves_served : how ≡ end_by r
       → Finishes m tells sink (aio_terms o) g.first g.history core how ran
-      → (sum g.history).ended ≡ false → LoopEndsSo m until waits faults r core → waits ≡ 0
+      → IsPlain g.history → (sum g.history).ended ≡ false
+      → LoopEndsSo m until waits faults r core → waits ≡ 0
       → (m.volumes (volumes_of core)).faults ≡ 0 → LeavesServed m tells sink o until ran
-  leaves_served is finishes going ends none no_faults =
+  leaves_served is finishes plain going ends none no_faults =
       let f : Finishes m tells sink (aio_terms o) g.first g.history core (end_by r) ran =
       subst (λ (e : AioEnd). Finishes m tells sink (aio_terms o) g.first g.history core e ran) is
       finishes in
       let may : MayEnd r = may_end m o until core waits faults g.first g.history g.stands r going
       g.so.ends ends no_faults in
-      leaves m tells sink o until g.first g.history core (end_by r) ran f going
+      leaves m tells sink o until g.first g.history core (end_by r) ran f plain going
       (inr (g.so.steps, g.so.reaches))
       (why_so m o until core waits faults g.first g.history g.stands r (m.facts f.net) may
       g.stands.tracks.legal g.none_open g.so.ends ends none f.waits f.over)

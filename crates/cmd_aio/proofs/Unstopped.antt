@@ -1,6 +1,7 @@
--- That a reactor of the command is never stopped before its end: nobody posts to its acceptor.
-use Rattle.std.proofs.Common.{ℕ, suc, ◌≡◌, ◌+◌, ◌==◌, ◌&&◌, ⊎_elim, Bool, true, false, not, List, []}
-use Rattle.std.proofs.Common.{◌∷◌, ◌++◌, length, map, refl, sym, ap, ◌∙◌, subst, arith}
+-- That a reactor of the command is never stopped before its end: nobody posts to its acceptor. And
+-- it sets no timer.
+use Rattle.std.proofs.Common.{ℕ, suc, ◌≡◌, ◌+◌, ◌==◌, ◌&&◌, ⊎_elim, Bool, true, false, not, List}
+use Rattle.std.proofs.Common.{[], ◌∷◌, ◌++◌, length, map, refl, sym, ap, ◌∙◌, subst, arith}
 use Rattle.std.proofs.Common.{Option, Some, None}
 use Rattle.std.specs.Prelude.{option_map, if◌then◌else◌}
 use Rattle.std.specs.List.{list_any}
@@ -15,7 +16,7 @@ use Rattle.ev_base.specs.ev_types.specs.declared.upcall.Upcall.{Upcall}
 use Rattle.ev_base.specs.ev_types.specs.declared.upcall.Upcall.TheVariants.{Notice}
 use Rattle.ev_base.specs.Terms.{Terms}
 use Rattle.ev_base.specs.declared.net.Report.{Report}
-use Rattle.reactor_model.specs.Handling.{Handling, Stopping}
+use Rattle.reactor_model.specs.Handling.{Handling, Installing, Stopping}
 use Rattle.reactor_model.specs.Turns.{MayAct}
 use Rattle.reactor_model.specs.declared.handler.Act.{Act}
 use Rattle.reactor_model.specs.declared.handler.Act.TheVariants.{Install, MaskMine, CancelMine}
@@ -23,11 +24,13 @@ use Rattle.reactor_model.specs.declared.handler.Act.TheVariants.{Stop}
 use Rattle.reactor_model.specs.reactor_journal.specs.Event.{Event, Timer, Origin}
 use Rattle.reactor_model.specs.reactor_journal.specs.Follow.{Legal}
 use Rattle.reactor_model.specs.reactor_journal.specs.Past.{count, event_at, event_made, is_ended}
-use Rattle.reactor_model.specs.reactor_journal.specs.Past.{only_if_alive, past_of, timeout_of, timer_of}
-use Rattle.reactor_model.specs.reactor_journal.specs.Past.{upcall_of, was_opened, was_removed}
+use Rattle.reactor_model.specs.reactor_journal.specs.Past.{only_if_alive, past_of, timeout_of}
+use Rattle.reactor_model.specs.reactor_journal.specs.Past.{timer_of, upcall_of, was_opened}
+use Rattle.reactor_model.specs.reactor_journal.specs.Past.{was_removed}
 use Rattle.reactor_model.specs.reactor_journal.specs.declared.entry.Entry.{Entry}
 use Rattle.reactor_model.specs.reactor_journal.specs.declared.entry.Entry.TheVariants as entry
-use Rattle.reactor_model.specs.reactor_journal.proofs.Turning.{Legal-front, count-append, count-past}
+use Rattle.reactor_model.specs.reactor_journal.proofs.Turning.{Legal-front, count-append}
+use Rattle.reactor_model.specs.reactor_journal.proofs.Turning.{count-past}
 use Rattle.reactor_core.specs.Acting.{ActAppends, InstallAppends, cancel_mine, mask_mine}
 use Rattle.reactor_core.specs.Polling.{due_of, ready_of}
 use Rattle.reactor_core.specs.Registering.{registered}
@@ -40,10 +43,11 @@ use Rattle.core_loop.proofs.Keeping.{sum}
 use Rattle.proactor.specs.declared.service.AioNote.{AioNote}
 use Rattle.cmd_aio.specs.Starting.{first_entry}
 
--- ---- entries that neither post nor end
+-- ---- entries that neither post, nor end, nor set a timer
 
 abbrev pub is_odd : {N : Type 0} → Entry N → Bool
 is_odd (entry.Posted handle kind from seq) = true
+is_odd (entry.Scheduled timer handle first every) = true
 is_odd entry.Ended = true
 is_odd _ = false
 
@@ -54,11 +58,11 @@ plain_both : {N : Type 0} (xs ys : List (Entry N)) → IsPlain xs → IsPlain ys
 plain_both xs ys first second = count-append is_odd xs ys
     ∙ (ap (λ (n : ℕ). n + count is_odd ys) first ∙ ap (λ (n : ℕ). 0 + n) second)
 
-none_left : (b : Bool) (n : ℕ) → (if b then suc n else n) ≡ 0 → (b ≡ false) × (n ≡ 0)
+pub none_left : (b : Bool) (n : ℕ) → (if b then suc n else n) ≡ 0 → (b ≡ false) × (n ≡ 0)
 none_left true n q = absurd (omega (arith, q))
 none_left false n q = (refl, q)
 
-plain_last : {N : Type 0} (e : Entry N) (past : List (Entry N)) → IsPlain (e ∷ past)
+pub plain_last : {N : Type 0} (e : Entry N) (past : List (Entry N)) → IsPlain (e ∷ past)
     → (is_odd e ≡ false) × IsPlain past
 plain_last e past q = none_left (is_odd e) (count is_odd past) q
 
@@ -66,6 +70,7 @@ none_ended : {N : Type 0} (past : List (Entry N)) → IsPlain past → list_any 
 none_ended [] q = refl
 none_ended (entry.Ended ∷ past) q = absurd (omega (arith, q))
 none_ended (entry.Posted handle kind from seq ∷ past) q = absurd (omega (arith, q))
+none_ended (entry.Scheduled timer handle first every ∷ past) q = absurd (omega (arith, q))
 none_ended (_ ∷ past) q = none_ended past q
 
 pub unended : {N : Type 0} (most : ℕ) (h : List (Entry N)) → Legal h most → IsPlain h
@@ -152,16 +157,16 @@ plain_closing true handle es c = subst IsPlain (sym c.1) refl
 plain_closing false handle es c = subst IsPlain (sym c) refl
 
 plain_install : {N : Type 0} (most : ℕ) (s : Summary) (mask : Mask) (timer : Option (ℕ × ℕ))
-    (before after : ℕ) (es : List (Entry N)) → InstallAppends most s mask timer before after es
-    → IsPlain es
-plain_install {N} most s mask timer before after es a =
-    ⊎_elim (λ r. subst IsPlain (sym r.is) (by timer r.handle))
+    (before after : ℕ) (es : List (Entry N)) → timer ≡ None
+    → InstallAppends most s mask timer before after es → IsPlain es
+plain_install {N} most s mask timer before after es untimed a =
+    ⊎_elim (λ r. subst IsPlain (sym r.is) (by timer r.handle untimed))
     (λ r. subst IsPlain (sym r.is) refl) a
   where
-    by : (timer : Option (ℕ × ℕ)) (handle : Handle)
+    by : (timer : Option (ℕ × ℕ)) (handle : Handle) → timer ≡ None
         → IsPlain (registered {N = N} s handle mask timer)
-    by None handle = refl
-    by (Some t) handle = refl
+    by None handle untimed = refl
+    by (Some t) handle untimed = absurd cc
 
 plain_mask : (N : Type 0) (b : Bool) (handle : Handle) (mask : Mask)
     → IsPlain (mask_mine {N = N} b handle mask)
@@ -175,18 +180,24 @@ plain_cancel N false timer = refl
 plain_act : {H N E : Type 0} (means : Handling H E N) (t : Terms) (up : Upcall)
     (origin : Origin N) (s : Summary) (handle : Handle) (act : Option (Act H N E))
     (before after : ℕ) (es : List (Entry N)) → (means.may t up Stopping → ⊥)
+    → ((mask : Mask) (timer : Option (ℕ × ℕ)) → means.may t up (Installing mask timer)
+    → timer ≡ None)
     → MayAct means t up origin act → ActAppends t.most s handle act before after es → IsPlain es
-plain_act means t up origin s handle None before after es never may a = subst IsPlain (sym a) refl
-plain_act means t up origin s handle (Some (Install h mask timer)) before after es never may a =
-    plain_install t.most s mask timer before after es a
-plain_act means t up origin s handle (Some (MaskMine mask)) before after es never may a =
+plain_act means t up origin s handle None before after es never untimed may a =
+    subst IsPlain (sym a) refl
+plain_act means t up origin s handle (Some (Install h mask timer)) before after es never untimed may
+    a = plain_install t.most s mask timer before after es (untimed mask timer may.0) a
+plain_act means t up origin s handle (Some (MaskMine mask)) before after es never untimed may a =
     subst IsPlain (sym a) (plain_mask _ (is_alive s handle.0) handle mask)
-plain_act means t up origin s handle (Some (CancelMine timer)) before after es never may a =
+plain_act means t up origin s handle (Some (CancelMine timer)) before after es never untimed may a =
     subst IsPlain (sym a) (plain_cancel _ _ timer)
-plain_act means t up origin s handle (Some Stop) before after es never may a = absurd (never may)
+plain_act means t up origin s handle (Some Stop) before after es never untimed may a =
+    absurd (never may)
 
 module _ {H E : Type 0} (means : Handling H E AioNote) (t : Terms)
-    (notice : (up : Upcall) → means.may t up Stopping → IsNotice up) where
+    (notice : (up : Upcall) → means.may t up Stopping → IsNotice up)
+    (untimed : (up : Upcall) (mask : Mask) (timer : Option (ℕ × ℕ))
+    → means.may t up (Installing mask timer) → timer ≡ None) where
   plain_turn : (h entries : List (Entry AioNote)) → Legal (h ++ entries) t.most → IsPlain h
       → IsTurn means t h entries → IsPlain entries
   plain_turn h entries legal plain u =
@@ -205,7 +216,7 @@ module _ {H E : Type 0} (means : Handling H E AioNote) (t : Terms)
       subst IsPlain (sym u.is) (plain_both u.closing u.acted
       (plain_closing _ u.done.handle u.closing u.is_closing)
       (plain_act means t u.done.upcall _ _ u.done.handle u.done.turn.act u.before u.after u.acted
-      (λ may. never (notice u.done.upcall may)) u.fits.act u.is_acted))
+      (λ may. never (notice u.done.upcall may)) (untimed u.done.upcall) u.fits.act u.is_acted))
 
   pub unstopped : (steps : List (List (Entry AioNote))) (h : List (Entry AioNote))
       → Reaches means t (first_entry ∷ []) steps h → Legal h t.most → IsPlain h

@@ -1,11 +1,13 @@
 -- What a run of the command leaves.
-use Rattle.std.specs.Prelude.{◌≡◌, ◌≤◌, ◌⊎◌, ℕ, List, [], length, drop, Option, Some, None}
+use Rattle.std.specs.Prelude.{◌≡◌, ◌≤◌, ◌⊎◌, ℕ, List, [], ◌∷◌, length, drop, Option, Some, None}
 use Rattle.ev_base.specs.Counts.{Rose}
 use Rattle.ev_base.specs.End.{EndFacts}
+use Rattle.ev_base.specs.Net.{Call, Waits}
 use Rattle.ev_base.specs.Sink.{SinkFacts}
 use Rattle.sink_buffer.specs.Written.{TookAll, TookFront}
 use Rattle.reactor_model.specs.reactor_journal.specs.Past.{past_of}
 use Rattle.reactor_model.specs.reactor_journal.specs.declared.entry.Entry.{Entry}
+use Rattle.reactor_core.specs.Ends.{WhereTold}
 use Rattle.reactor_core.specs.Stands.{Meaning, NetStands}
 use Rattle.aio_lines.specs.Lines.{journal_lines}
 use Rattle.proactor.specs.declared.service.AioNote.{AioNote}
@@ -21,9 +23,16 @@ pub record IsUnmade (how : AioEnd) (journal : List (Entry AioNote)) : Type 0 whe
   pub ending : how ≡ end.NoMemory
   pub none : journal ≡ []
 
+-- each wait of these calls was asked without a limit
+abbrev pub AskedWithoutLimit : List Call → Type 0
+AskedWithoutLimit [] = Unit {0}
+AskedWithoutLimit (Waits most answer reports ∷ calls) = (most ≡ None) × AskedWithoutLimit calls
+AskedWithoutLimit (call ∷ calls) = AskedWithoutLimit calls
+
 -- What a run over a net comes to. The net stands for the journal: what each handler left that was
 -- closed or refused stands there as the journal says, so of each connection which operations were
--- asked and how they completed. And the last notes say what the ends tell.
+-- asked and how they completed. And the last notes say what the ends tell. If the net tells its
+-- calls, no wait has a limit: the run waits until something is reported.
 pub record RunsOver {H M Q W V E : Type 0} (m : Meaning H M Q W V AioNote E) (tells : E → EndFacts)
     (o : SinkFacts) (until : Option ℕ) (net : M) (first : ℕ) (how : AioEnd)
     (journal : List (Entry AioNote)) : Type 0 where
@@ -32,6 +41,7 @@ pub record RunsOver {H M Q W V E : Type 0} (m : Meaning H M Q W V AioNote E) (te
   pub stands : NetStands m.means (aio_terms o) (past_of journal) [] (m.facts net)
   pub keeps : m.keeps (aio_terms o) net
   pub says : SaysOfEnds tells journal (m.facts net)
+  pub unlimited : WhereTold AskedWithoutLimit (m.facts net).calls
 
 -- without a net the host did not listen, or had no memory to
 abbrev pub MayLackNet : AioEnd → Type 0
@@ -56,8 +66,8 @@ OutputTook end.NetFault o lines p = TookAll o lines p
 OutputTook end.NoMemory o lines p = TookAll o lines p
 OutputTook end.ListenFault o lines p = TookAll o lines p
 
--- What is left of a run, whose output told the facts `o` at the start: one journal, of which the end
--- is held, and the lines of the connections that it closed or refused, in order.
+-- What is left of a run, whose output told the facts `o` at the start: one journal, of which the
+-- end is held, and the lines of the connections that it closed or refused, in order.
 pub record LeavesRun {H M Q W V K E : Type 0} (m : Meaning H M Q W V AioNote E)
     (tells : E → EndFacts) (sink : K → SinkFacts) (o : SinkFacts) (until : Option ℕ)
     (ran : Ran M K) : Type 0 where

@@ -7,8 +7,8 @@ use Rattle.ev_base.specs.Net.{NetFacts}
 use Rattle.ev_base.specs.Terms.{Terms}
 use Rattle.reactor_model.specs.Handling.{Handling}
 use Rattle.reactor_model.specs.reactor_journal.specs.Follow.{Legal}
-use Rattle.reactor_model.specs.reactor_journal.specs.Past.{all_below, count, ended, is_closed, opened}
-use Rattle.reactor_model.specs.reactor_journal.specs.Past.{past_of, was_closed}
+use Rattle.reactor_model.specs.reactor_journal.specs.Past.{all_below, count, ended, is_closed}
+use Rattle.reactor_model.specs.reactor_journal.specs.Past.{opened, past_of, was_closed}
 use Rattle.reactor_model.specs.reactor_journal.specs.declared.entry.Entry.{Entry}
 use Rattle.reactor_model.specs.reactor_journal.specs.declared.entry.Entry.TheVariants.{Ended}
 use Rattle.reactor_core.specs.Ends.{WhereTold}

@@ -3,17 +3,19 @@ ghost use Rattle.std.specs.Prelude.{◌≡◌, ◌≤◌, IfErr, IfOk, true};
 ghost use Rattle.ev_base.specs.End.{IsFresh};
 ghost use Rattle.ev_base.specs.Host.{GivesListener};
 ghost use Rattle.ev_base.specs.Sink.{SinkFacts};
-ghost use Rattle.reactor_core.specs.Views.{net_of};
+ghost use Rattle.proactor.specs.declared.service.AioNote.{AioNote};
+ghost use Rattle.reactor_model.specs.Volumes.{tells_nothing};
+ghost use Rattle.reactor_core.specs.Views.{net_of, volume_of};
 ghost use Rattle.cmd_aio.specs.Leaving.{LeavesServed};
-ghost use Rattle.cmd_aio.specs.Starting.{IsOpened, MayRegister, aio_terms, aio_refusal};
+ghost use Rattle.cmd_aio.specs.Starting.{IsOpened, KeepsTerms, MayRegister, aio_refusal};
 ghost use Rattle.reactor_core.specs.Refusals.{MayRefuseFirst};
 
 use crate::ending::{AioEnd, Ran, finish, unmade};
 use aio_lines::ConnectionLines;
 use ev_base::{Mask, Net, PeerEnd, Sink, Why};
-use proactor::{AioHandler, AsynchAcceptor};
+use proactor::{AioHandler, AioNote, AsynchAcceptor};
 use reactor_core::{Core, Means, RegisterRefused};
-use reactor_model::{DropVolumes, EventHandler};
+use reactor_model::{DropVolumes, EventHandler, Volumes};
 use std::alloc::Global;
 use timer_queue::SortedTimers;
 
@@ -23,11 +25,9 @@ pub type AioCore<E, M, K> = Core<AioHandler<E>, M, SortedTimers, ConnectionLines
 /// How many handlers may be live: the acceptor and 1,000 connections.
 const MOST: u64 = 1_001;
 
-/// How many entries of its journal a reactor keeps at least before it lets them go.
-const VOLUME: u64 = 512;
-
-/// A reactor over a new net, with the acceptor of a new listener. If there is none, what is left
-/// is told, and the listener is closed.
+/// A reactor over a new net, with the acceptor of a new listener. It lets its journal go in volumes
+/// of as many entries as their keeper says. If there is no reactor, what is left is told, and the
+/// listener is closed.
 pub(crate) fn open<E: PeerEnd + Drop, M: Net<End = E>, K: Sink>(
     alloc: Global,
     net: M,
@@ -35,17 +35,19 @@ pub(crate) fn open<E: PeerEnd + Drop, M: Net<End = E>, K: Sink>(
     output: K,
 ) -> Result<AioCore<E, M, K>, Ran<M, K>>
     requires listener { GivesListener M.facts E.tells (net, listener) }
-    requires net_keeps { M.keeps (aio_terms (K.facts output)) net }
-    requires listener_keeps { E.keeps (aio_terms (K.facts output)) listener }
+    requires net_keeps { KeepsTerms M.keeps (K.facts output) net }
+    requires listener_keeps { KeepsTerms E.keeps (K.facts output) listener }
     ensures opened { IfOk result (λ core. IsOpened ⟦<AioCore<E, M, K> as Means>⟧.m (K.facts output)
         core) }
+    ensures volume { IfOk result (λ core. volume_of core ≡ (tells_nothing {N = AioNote}).size) }
     ensures waits { IfOk result (λ core. (M.facts (net_of core)).failed_waits ≡ 0) }
     ensures unopened { IfErr result (λ ran. (until : _) → LeavesServed
         ⟦<AioCore<E, M, K> as Means>⟧.m E.tells K.facts (K.facts output) until ran) }
 {
     let timers = SortedTimers::new(alloc);
     let lines = ConnectionLines::new(output);
-    match Core::new(alloc, MOST, VOLUME, net, timers, lines, DropVolumes) {
+    let volume = Volumes::<AioNote>::volume_size(&DropVolumes);
+    match Core::new(alloc, MOST, volume, net, timers, lines, DropVolumes) {
         Ok(core) => register(core, AsynchAcceptor::new(alloc, listener)),
         Err((net, _, lines, ..)) => Err(unmade(
             alloc,
@@ -67,6 +69,7 @@ fn register<E: PeerEnd + Drop, M: Net<End = E>, K: Sink>(
     ensures opened { IfOk result (λ new. (o : SinkFacts)
         → MayRegister ⟦<AioCore<E, M, K> as Means>⟧.m o core acceptor
         → IsOpened ⟦<AioCore<E, M, K> as Means>⟧.m o new) }
+    ensures volume { IfOk result (λ new. volume_of new ≡ volume_of core) }
     ensures waits { IfOk result (λ new. (M.facts (net_of new)).failed_waits ≡ 0) }
     ensures unopened { IfErr result (λ ran. (o : SinkFacts)
         → MayRegister ⟦<AioCore<E, M, K> as Means>⟧.m o core acceptor

@@ -4,7 +4,7 @@ ghost use Rattle.ev_base.specs.Host.{GivesListener};
 ghost use Rattle.ev_base.specs.Sink.{SinkFacts};
 ghost use Rattle.reactor_core.specs.Views.{net_of};
 ghost use Rattle.cmd_aio.specs.Leaving.{LeavesRun, LeavesServed, ListensSo};
-ghost use Rattle.cmd_aio.specs.Starting.{IsOpened, aio_terms};
+ghost use Rattle.cmd_aio.specs.Starting.{IsOpened, KeepsTerms};
 
 use crate::AioCore;
 use crate::ending::{AioEnd, Ran, finish, unmade};
@@ -49,8 +49,8 @@ fn serve_net<R: Wait, E: PeerEnd + Drop, M: Net<End = E>, K: Sink>(
     output: K,
 ) -> Ran<M, K>
     requires listener { GivesListener M.facts E.tells (net, listener) }
-    requires net_keeps { M.keeps (aio_terms (K.facts output)) net }
-    requires listener_keeps { E.keeps (aio_terms (K.facts output)) listener }
+    requires net_keeps { KeepsTerms M.keeps (K.facts output) net }
+    requires listener_keeps { KeepsTerms E.keeps (K.facts output) listener }
     ensures { LeavesServed ⟦<AioCore<E, M, K> as Means>⟧.m E.tells K.facts (K.facts output)
         until result }
 {

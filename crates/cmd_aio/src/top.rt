@@ -38,20 +38,20 @@ pub struct AioServed<M, K> {
 }
 
 /// Runs `logd aio` (POSA2, Proactor): the host listens on the port, and each connection that comes
-/// gets back what it sends. A read is asked for; when it has completed, a write of its bytes is; and
-/// when that has completed, the next read. A connection is closed at the end of its input, or if an
-/// operation failed.
+/// gets back what it sends. A read is asked for; when it has completed, a write of its bytes is;
+/// and when that has completed, the next read. A connection is closed at the end of its input, or
+/// if an operation failed.
 ///
 /// `words` are those after the program's name: `aio --port P [--until N]`. At most 1,000
 /// connections are live at once; one more is refused. When a connection is closed or refused the
 /// line `{conn} read {R} wrote {W} cancelled {C}` is written: its number from 0, in the order in
 /// which they came, how many bytes were read and written, and how many operations were cancelled.
-/// Without `--until` the run goes on until the net has nothing to report any more, and with it until
-/// so many connections were closed or refused. Connections that are open then are closed, by rising
-/// number.
+/// Without `--until` the run goes on until the net has nothing to report any more, and with it
+/// until so many connections were closed or refused. Connections that are open then are closed, by
+/// rising number. Each wait lasts until something is reported: it has no limit.
 ///
-/// With the statuses 1 and 7 nothing is written. With 4 the lines end at the failed write; with 0, 5
-/// and 6 each stands whole.
+/// With the statuses 1 and 7 nothing is written. With 4 the lines end at the failed write; with 0,
+/// 5 and 6 each stands whole.
 pub fn aio_main<R: Wait, H: Host, K: Sink>(
     rt: &R,
     alloc: Global,
