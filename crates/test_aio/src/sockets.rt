@@ -1,5 +1,5 @@
-//! The command over sockets, beside peers on a thread of their own.
-use crate::peers::{Course, crowd, free_port, has_descriptors, take_all};
+//! The command over sockets, beside many peers on a thread of their own.
+use crate::peers::{crowd, free_port, has_descriptors};
 use cmd_aio::{AioServed, aio_main};
 use demux_mio::{MioHost, MioNet};
 use ev_base::MemSink;
@@ -10,38 +10,6 @@ use std::sync::Wait;
 use std::test::Fail;
 use std::time::Clock;
 use std::{str, thread};
-
-/// Peers that are connected at once and take their courses one after another, and the lines of
-/// their connections.
-struct Row {
-    courses: &'static [Course],
-    written: &'static [u8],
-}
-
-static ROWS: [Row; 5] = [
-    Row {
-        courses: &[Course::Leave],
-        written: b"0 read 0 wrote 0 cancelled 0\n",
-    },
-    Row {
-        courses: &[Course::Send(10_000)],
-        written: b"0 read 10000 wrote 10000 cancelled 0\n",
-    },
-    Row {
-        courses: &[Course::HalfClose],
-        written: b"0 read 5 wrote 5 cancelled 0\n",
-    },
-    Row {
-        courses: &[Course::Reset],
-        written: b"0 read 5 wrote 5 cancelled 0\n",
-    },
-    Row {
-        courses: &[Course::Reset, Course::Send(100_000), Course::HalfClose],
-        written: b"0 read 5 wrote 5 cancelled 0\n\
-            1 read 100000 wrote 100000 cancelled 0\n\
-            2 read 5 wrote 5 cancelled 0\n",
-    },
-];
 
 /// The words of a run on a port, which ends when so many connections were closed or refused.
 fn words_of(alloc: Global, port: u16, until: usize) -> Result<Vec<String>, Fail> {
@@ -63,25 +31,6 @@ fn run<R: Net + Clock + Wait + Copy>(
 ) -> AioServed<MioNet<R>, MemSink> {
     let mut host = MioHost::new(rt);
     aio_main(&rt, alloc, words, &mut host, output)
-}
-
-#[test]
-fn peers_get_back_what_they_send(rt: HostRuntime) -> Result<(), Fail> {
-    let alloc = rt.alloc();
-    for row in &ROWS {
-        let port = free_port(&rt)?;
-        let words = words_of(alloc, port, row.courses.len())?;
-        let output = MemSink::new(alloc, 1_000, None)?;
-        let (served, well) = thread::join(
-            &rt,
-            || run(rt, alloc, &words, output),
-            || take_all(&rt, alloc, port, row.courses),
-        );
-        assert!(rt; well?);
-        assert!(rt; served.status == 0);
-        assert!(rt; served.output.bytes() == row.written);
-    }
-    Ok(())
 }
 
 /// The lines of a text, sorted.
