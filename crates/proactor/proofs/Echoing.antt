@@ -25,7 +25,16 @@ use Rattle.proactor.specs.declared.standing.Reading.{Reading}
 use Rattle.proactor.specs.declared.standing.Writing.{Writing}
 use Rattle.proactor.specs.Account.{finds_over, is_over}
 use Rattle.proactor.specs.Echo.{IsEcho, WritesBack, back_of, first_read, next_of}
-use Rattle.proactor.specs.Events.{Asked, Event, FoundNoMemory, Gave, ReadDone, Reply, Took, WriteDone}
+use Rattle.proactor.specs.Events.{
+  Asked,
+  Event,
+  FoundNoMemory,
+  Gave,
+  ReadDone,
+  Reply,
+  Took,
+  WriteDone,
+}
 use Rattle.proactor.specs.Events.{completion, given, given_by, reads_in, some_of, starves, taken}
 use Rattle.proactor.specs.Events.{taken_by, told, told_by, told_in, up_in, writes_in}
 use Rattle.proactor.specs.Operations.{Told, listed_op}

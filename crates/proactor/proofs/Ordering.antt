@@ -27,9 +27,22 @@ use Rattle.proactor.specs.declared.standing.Writing.{Writing}
 use Rattle.proactor.specs.Events.{Event, Gave, ReadDone, Reply, Took, WriteDone, asked_by}
 use Rattle.proactor.specs.Events.{asked_reads, asked_writes, done_reads, done_writes, ends, given}
 use Rattle.proactor.specs.Events.{given_by, reads_in, some_of, starves, up_in, writes_in, wrote_by}
-use Rattle.proactor.specs.Account.{Accounts, CompletesAll, GaveInOrder, IsWritten, Operates, bytes_of}
+use Rattle.proactor.specs.Account.{
+  Accounts,
+  CompletesAll,
+  GaveInOrder,
+  IsWritten,
+  Operates,
+  bytes_of,
+}
 use Rattle.proactor.specs.Account.{completed_ids, completed_reads, completed_writes, first_bytes}
-use Rattle.proactor.specs.Account.{read_completed_by, read_ids, write_completed_by, write_ids, written}
+use Rattle.proactor.specs.Account.{
+  read_completed_by,
+  read_ids,
+  write_completed_by,
+  write_ids,
+  written,
+}
 use Rattle.proactor.specs.Standing.{Stands, queued}
 use Rattle.proactor.specs.Turns.{Advances, Cancels, Course, GoesOnToWrite, OnlyLast, Serves, State}
 use Rattle.proactor.specs.Turns.{TakesRead, TakesWrite, TriesBoth, TriesRead, TriesWrite, Turns}

@@ -24,7 +24,17 @@ use Rattle.proactor.specs.declared.sums.Sums.{Sums}
 use Rattle.proactor.specs.declared.operation.Next.{Next}
 use Rattle.proactor.specs.Operations.{FollowsOn, Told}
 use Rattle.proactor.specs.Events.{Event, ReadDone, WriteDone, Took, Gave, completion, up_in}
-use Rattle.proactor.specs.Events.{Asked, some_there, done_in, ends, is_failed, is_starved, lost_in, moves, some_of}
+use Rattle.proactor.specs.Events.{
+  Asked,
+  some_there,
+  done_in,
+  ends,
+  is_failed,
+  is_starved,
+  lost_in,
+  moves,
+  some_of,
+}
 use Rattle.proactor.specs.Events.{starves, told, told_by, told_in, taken, given, count_done}
 use Rattle.proactor.specs.Standing.{Stands, FinishesRead, FinishesReadOf, FinishesWrite, TakesUp}
 use Rattle.proactor.specs.Standing.{queued, GivesPiece, GivesPieceOf, Wants}

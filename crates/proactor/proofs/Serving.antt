@@ -20,7 +20,12 @@ use Rattle.reactor_model.specs.reactor_journal.specs.Event.{Item, Origin}
 use Rattle.reactor_model.specs.Handling.{EndsInClose, NoClose}
 use Rattle.reactor_model.specs.Turns.{MayAct, TakesTurn}
 use Rattle.reactor_model.specs.declared.handler.Act.{Act}
-use Rattle.reactor_model.specs.declared.handler.Act.TheVariants.{CancelMine, Install, MaskMine, Stop}
+use Rattle.reactor_model.specs.declared.handler.Act.TheVariants.{
+  CancelMine,
+  Install,
+  MaskMine,
+  Stop,
+}
 use Rattle.reactor_model.specs.declared.handler.Turn.{Turn}
 use Rattle.proactor.specs.declared.acceptor.AsynchAcceptor.{AsynchAcceptor}
 use Rattle.proactor.specs.declared.asynch_end.AsynchEnd.{AsynchEnd}

@@ -36,9 +36,26 @@ use Rattle.proactor.specs.Events.{taken_by, told, told_by}
 use Rattle.proactor.specs.Queues.{none_stand}
 use Rattle.proactor.specs.Standing.{Stands, begins_with}
 use Rattle.proactor.specs.Sums.{no_sums, note_of}
-use Rattle.proactor.specs.Turns.{State, Cancels, Course, NotesSo, Serves, Turns, answer_to, at_start}
+use Rattle.proactor.specs.Turns.{
+  State,
+  Cancels,
+  Course,
+  NotesSo,
+  Serves,
+  Turns,
+  answer_to,
+  at_start,
+}
 use Rattle.proactor.specs.Turns.{OnlyLast, answer_by}
-use Rattle.proactor.specs.Parts.{CountsMore, DoesPart, IsSummed, end_of, handler_of, number_of, standing_of}
+use Rattle.proactor.specs.Parts.{
+  CountsMore,
+  DoesPart,
+  IsSummed,
+  end_of,
+  handler_of,
+  number_of,
+  standing_of,
+}
 use Rattle.proactor.specs.Parts.{state_of, sums_of}
 use Rattle.proactor.specs.Closing.{CancelsSo}
 use Rattle.proactor.specs.Ends.{AsynchFits, AsynchGone, HadTurns, MakesTurn, asynch_ends, change_by}
@@ -354,7 +371,8 @@ fits_attached {C = C} tells keeps follows t old new had number standing sums han
     record {
       first = h.first;
       all = h.all;
-      turns = subst (λ (conn : ℕ). HadTurns conn h.first had h.all (state_of tells new)) (sym number)
+      turns = subst (λ (conn : ℕ). HadTurns conn h.first had h.all (state_of tells new))
+          (sym number)
           (subst (λ (s : State). HadTurns (number_of old) h.first had h.all s) (sym same) h.turns);
       accounts = subst (λ (s : State). Accounts h.first h.all s) (sym same) h.accounts;
       sums = subst (IsSummed h.all no_sums) (sym sums) h.sums;

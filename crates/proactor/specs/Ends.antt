@@ -1,6 +1,20 @@
 -- What ends over completion handlers mean by their turns: which turns they have had, and what they
 -- leave.
-use Rattle.std.specs.Prelude.{◌≡◌, ◌||◌, ℕ, Bool, true, false, not, List, [], ◌++◌, Option, Some, None}
+use Rattle.std.specs.Prelude.{
+  ◌≡◌,
+  ◌||◌,
+  ℕ,
+  Bool,
+  true,
+  false,
+  not,
+  List,
+  [],
+  ◌++◌,
+  Option,
+  Some,
+  None,
+}
 use Rattle.ev_base.specs.ev_types.specs.declared.upcall.Answer.{Answer}
 use Rattle.ev_base.specs.ev_types.specs.declared.upcall.Answer.TheVariants.{Close}
 use Rattle.ev_base.specs.ev_types.specs.declared.upcall.Mask.{Mask}

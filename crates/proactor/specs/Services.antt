@@ -11,7 +11,12 @@ use Rattle.ev_base.specs.declared.end.PeerEnd.{Ghosts}
 use Rattle.reactor_model.specs.reactor_journal.specs.Event.{Item, Origin}
 use Rattle.reactor_model.specs.Handling.{EndsInClose, Handling, Deed, Installing, Masking, Stopping}
 use Rattle.reactor_model.specs.declared.handler.Act.{Act}
-use Rattle.reactor_model.specs.declared.handler.Act.TheVariants.{Install, MaskMine, CancelMine, Stop}
+use Rattle.reactor_model.specs.declared.handler.Act.TheVariants.{
+  Install,
+  MaskMine,
+  CancelMine,
+  Stop,
+}
 use Rattle.reactor_model.specs.declared.handler.Turn.{Turn}
 use Rattle.proactor.specs.declared.asynch_end.AsynchEnd.{AsynchEnd}
 use Rattle.proactor.specs.declared.echo.EchoCompletions.{EchoCompletions}

@@ -1,5 +1,18 @@
 //! The event handler that carries out the operations of a connection.
-ghost use Rattle.std.specs.Prelude.{◌≡◌, ◌≤◌, ◌||◌, Contains, List, [], IfSome, Option, None, false, length, not};
+ghost use Rattle.std.specs.Prelude.{
+  ◌≡◌,
+  ◌≤◌,
+  ◌||◌,
+  Contains,
+  List,
+  [],
+  IfSome,
+  Option,
+  None,
+  false,
+  length,
+  not,
+};
 ghost use Rattle.ev_base.specs.ev_types.specs.declared.upcall.Why.TheVariants.{Own};
 ghost use Rattle.ev_base.specs.Terms.{Terms};
 ghost use Rattle.ev_base.specs.End.{IsFresh};
@@ -20,7 +33,7 @@ ghost use Rattle.proactor.specs.Ends.{mask_by, masking};
 
 use crate::closing::cancel_all;
 use crate::peer::Peer;
-use crate::standing::Standing;
+use crate::standing::{Standing, Writing};
 use crate::sums::Sums;
 use crate::{AsynchNote, Completed, CompletionHandler, Next, Op, Outcome};
 use cdr_record::Bytes;
@@ -206,13 +219,14 @@ impl<E: PeerEnd, C: CompletionHandler + Drop> AsynchEnd<E, C> {
         self.tell(id, outcome)
     }
 
-    /// The first write completes.
+    /// The first write completes. The next read is made into the memory of its bytes.
     fn complete_write(&mut self, outcome: Outcome) -> Step
         requires { none_stand (standing_of self.old).writes ≡ false }
         ensures { DoesPart E.tells E.keeps C.follows (completes_write outcome) self.old self.new
             result }
     {
-        let id = self.standing.finish_write();
+        let Writing { id, bytes } = self.standing.finish_write();
+        self.spare = bytes.into_vec();
         self.tell(id, outcome)
     }
 

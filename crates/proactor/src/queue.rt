@@ -1,5 +1,16 @@
 //! Operations of one direction, one after another.
-ghost use Rattle.std.specs.Prelude.{◌≡◌, ◌≤◌, ◌++◌, ◌∷◌, [], OnOk, OnErr, MatchOption, length, Some};
+ghost use Rattle.std.specs.Prelude.{
+  ◌≡◌,
+  ◌≤◌,
+  ◌++◌,
+  ◌∷◌,
+  [],
+  OnOk,
+  OnErr,
+  MatchOption,
+  length,
+  Some,
+};
 ghost use Rattle.proactor.specs.Queues.{first_of, none_stand};
 
 use ev_base::NoMemory;

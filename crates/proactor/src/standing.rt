@@ -80,7 +80,8 @@ impl Standing {
 
     /// The bytes of the first write that were not taken yet.
     pub(crate) fn piece(&self) -> Option<&[u8]>
-        ensures { MatchOption result (self.now.writes ≡ []) (λ piece. GivesPiece self.now piece.now) }
+        ensures { MatchOption result (self.now.writes ≡ [])
+            (λ piece. GivesPiece self.now piece.now) }
     {
         let write = self.writes.first()?;
         Some(&write.bytes.as_slice()[self.sent..])
@@ -115,14 +116,14 @@ impl Standing {
         }
     }
 
-    /// Takes the first write out, and gives its number.
-    pub(crate) fn finish_write(&mut self) -> u64
+    /// Takes the first write out, and gives it.
+    pub(crate) fn finish_write(&mut self) -> Writing
         requires { none_stand self.old.writes ≡ false }
-        ensures { FinishesWrite self.old result self.new }
+        ensures { FinishesWrite self.old result.id self.new }
     {
         self.sent = 0;
         match self.writes.pop() {
-            Some(write) => write.id,
+            Some(write) => write,
             None => unreachable!("a write stands"),
         }
     }
