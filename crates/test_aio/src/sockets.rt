@@ -1,15 +1,48 @@
-//! The command over sockets, beside many peers on a thread of their own.
-use crate::peers::{crowd, free_port, has_descriptors};
+//! The command over sockets, beside peers on a thread of their own.
+use crate::peers::{Course, crowd, free_port, has_descriptors, take_all};
 use cmd_aio::{AioServed, aio_main};
 use demux_mio::{MioHost, MioNet};
 use ev_base::MemSink;
 use std::alloc::Global;
 use std::fs::Files;
-use std::net::Net;
+use std::net::{Net, TcpListener, TcpStream};
 use std::sync::Wait;
 use std::test::Fail;
+use std::thread::Threads;
 use std::time::Clock;
 use std::{str, thread};
+
+/// Peers that are connected at once and take their courses one after another, and the lines of
+/// their connections.
+struct Row {
+    courses: &'static [Course],
+    written: &'static [u8],
+}
+
+static ROWS: [Row; 5] = [
+    Row {
+        courses: &[Course::Leave],
+        written: b"0 read 0 wrote 0 cancelled 0\n",
+    },
+    Row {
+        courses: &[Course::Send(10_000)],
+        written: b"0 read 10000 wrote 10000 cancelled 0\n",
+    },
+    Row {
+        courses: &[Course::HalfClose],
+        written: b"0 read 5 wrote 5 cancelled 0\n",
+    },
+    Row {
+        courses: &[Course::Reset],
+        written: b"0 read 5 wrote 5 cancelled 0\n",
+    },
+    Row {
+        courses: &[Course::Reset, Course::Send(100_000), Course::HalfClose],
+        written: b"0 read 5 wrote 5 cancelled 0\n\
+            1 read 100000 wrote 100000 cancelled 0\n\
+            2 read 5 wrote 5 cancelled 0\n",
+    },
+];
 
 /// The words of a run on a port, which ends when so many connections were closed or refused.
 fn words_of(alloc: Global, port: u16, until: usize) -> Result<Vec<String>, Fail> {
@@ -31,6 +64,38 @@ fn run<R: Net + Clock + Wait + Copy>(
 ) -> AioServed<MioNet<R>, MemSink> {
     let mut host = MioHost::new(rt);
     aio_main(&rt, alloc, words, &mut host, output)
+}
+
+/// Runs the command beside the peers of a row. Tells whether all came to what it has to.
+fn is_served<R>(rt: R, alloc: Global, row: &Row) -> Result<bool, Fail>
+where
+    R: Net<Listener = TcpListener, Stream = TcpStream>
+        + Clock
+        + Wait
+        + Threads
+        + Copy
+        + Send
+        + Sync,
+{
+    let port = free_port(&rt)?;
+    let words = words_of(alloc, port, row.courses.len())?;
+    let output = MemSink::new(alloc, 1_000, None)?;
+    let courses = row.courses;
+    let (served, well) = thread::join(
+        &rt,
+        || run(rt, alloc, &words, output),
+        || take_all(&rt, alloc, port, courses),
+    );
+    Ok(well? && served.status == 0 && served.output.bytes() == row.written)
+}
+
+#[test]
+fn peers_get_back_what_they_send(rt: HostRuntime) -> Result<(), Fail> {
+    let alloc = rt.alloc();
+    for row in &ROWS {
+        assert!(rt; is_served(rt, alloc, row)?);
+    }
+    Ok(())
 }
 
 /// The lines of a text, sorted.
