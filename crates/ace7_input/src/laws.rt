@@ -2,8 +2,8 @@
 
 ghost use Rattle.ace7_input.specs.Laws as L;
 
-/// A record of version 2, whether its order octet is one of version 1 or says so, is given as it was
-/// meant.
+/// A record of version 2, whether its order octet is one of version 1 or says so, is given as it
+/// was meant.
 pub fn record_is_widened()
     ensures { L.RecordIsWidened }
 {}

@@ -5,7 +5,8 @@
 -- that padding and slack may hold anything.
 --
 --     version 1   version 2
---     0           0            order octet: 0 and 1 are version 1, 2 and 3 version 2; an odd one is little-endian
+--     0           0            order octet: 0 and 1 are version 1, 2 and 3 version 2;
+--                              an odd one is little-endian
 --     1 to 3      1 to 3       padding
 --     4 to 7      4 to 7       the payload's length
 --     8 to 11     8 to 11      type, signed

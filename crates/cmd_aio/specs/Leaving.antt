@@ -33,7 +33,7 @@ AskedWithoutLimit (call ∷ calls) = AskedWithoutLimit calls
 -- closed or refused stands there as the journal says, so of each connection which operations were
 -- asked and how they completed. And the last notes say what the ends tell. If the net tells its
 -- calls, no wait has a limit: the run waits until something is reported.
-pub record RunsOver {H M Q W V E : Type 0} (m : Meaning H M Q W V AioNote E) (tells : E → EndFacts)
+pub record RunsAio {H M Q W V E : Type 0} (m : Meaning H M Q W V AioNote E) (tells : E → EndFacts)
     (o : SinkFacts) (until : Option ℕ) (net : M) (first : ℕ) (how : AioEnd)
     (journal : List (Entry AioNote)) : Type 0 where
   pub run : IsUnmade how journal
@@ -54,7 +54,7 @@ MayLackNet end.NetFault = ⊥
 abbrev pub RunsWhereGiven : {H M Q W V E : Type 0} → Meaning H M Q W V AioNote E → (E → EndFacts)
     → SinkFacts → Option ℕ → Option M → ℕ → AioEnd → List (Entry AioNote) → Type 0
 RunsWhereGiven m tells o until (Some net) first how journal =
-    RunsOver m tells o until net first how journal
+    RunsAio m tells o until net first how journal
 RunsWhereGiven m tells o until None first how journal = MayLackNet how × (journal ≡ [])
 
 -- What was written: a front of the lines if a write failed, and else all of them. Without a net

@@ -25,8 +25,8 @@ pub record IsUngenerated {K V : Type 0} (output : K) (volumes : V) (left : Gener
     pub volumes_are : left.volumes ≡ volumes
 
 -- What a run over the generated script leaves, if the volumes told v before it: one journal, of
--- which the last entries are held. The run came to it, and it ended as its run did; and with a fault
--- of the volumes their count of faults rose.
+-- which the last entries are held. The run came to it, and it ended as its run did; and with a
+-- fault of the volumes their count of faults rose.
 pub record RunsGenerated {K V : Type 0} (G : Ghosts ScriptEnd) (facts : V → VolumesFacts ServerNote)
     (n seed : ℕ) (v : VolumesFacts ServerNote)
     (left : Generated K V) (ended : GenerateEnd) : Type 0 where

@@ -73,7 +73,8 @@ pub(crate) fn read_options(matches: &ArgMatches, form: Form) -> Option<Options>
 
 /// The form of the output, if no two are asked for.
 pub(crate) fn read_form(matches: &ArgMatches) -> Option<Form>
-    ensures { result ≡ form_of (has_flag (text_in matches.now (codes "grouped"))) (has_flag (text_in matches.now (codes "journal"))) }
+    ensures { result ≡ form_of (has_flag (text_in matches.now (codes "grouped")))
+        (has_flag (text_in matches.now (codes "journal"))) }
 {
     match (has_flag(matches, "grouped"), has_flag(matches, "journal")) {
         (false, false) => Some(Form::Plain),

@@ -15,7 +15,8 @@ pub(crate) fn parse_replay(
     alloc: Global,
     words: &[String],
 ) -> Result<Option<ArgMatches<'_>>, NoMemory>
-    ensures { IfOk result (Parses (parser_of (codes "replay") replay_line) (map string_bytes words.entry.now)) }
+    ensures { IfOk result (Parses (parser_of (codes "replay") replay_line)
+        (map string_bytes words.entry.now)) }
 {
     parse_words(replay(alloc)?, words)
 }
@@ -25,7 +26,8 @@ pub(crate) fn parse_serve(
     alloc: Global,
     words: &[String],
 ) -> Result<Option<ArgMatches<'_>>, NoMemory>
-    ensures { IfOk result (Parses (parser_of (codes "serve") serve_line) (map string_bytes words.entry.now)) }
+    ensures { IfOk result (Parses (parser_of (codes "serve") serve_line)
+        (map string_bytes words.entry.now)) }
 {
     parse_words(serve(alloc)?, words)
 }

@@ -21,7 +21,9 @@ use Rattle.log_handler.specs.log_lines.specs.declared.end_kind.EndKind.{EndKind}
 use Rattle.log_handler.specs.log_lines.specs.declared.end_kind.EndKind.TheVariants as kind
 use Rattle.reactor_model.specs.reactor_journal.specs.Event.{Item, Origin}
 use Rattle.reactor_model.specs.reactor_journal.specs.declared.entry.Entry.{Entry}
-use Rattle.reactor_model.specs.reactor_journal.specs.declared.entry.Entry.TheVariants.{Closed as ClosedEntry}
+use Rattle.reactor_model.specs.reactor_journal.specs.declared.entry.Entry.TheVariants.{
+  Closed as ClosedEntry,
+}
 use Rattle.reactor_model.specs.Volumes.{VolumesFacts}
 use Rattle.log_handler.specs.declared.note.ServerNote.{ServerNote}
 use Rattle.log_handler.specs.declared.note.ServerNote.TheVariants as note

@@ -22,8 +22,8 @@ pub(crate) struct MadeLines {
 }
 
 impl MadeLines {
-    /// These lines, for the records of these entries. If there is no memory for their places none is
-    /// found.
+    /// These lines, for the records of these entries. If there is no memory for their places none
+    /// is found.
     pub(crate) fn of(alloc: Global, made: Vec<Lines>, entries: &[Entry<ServerNote>]) -> MadeLines {
         let places = match Places::of(alloc, made.as_slice(), entries) {
             Ok(places) => places,

@@ -51,7 +51,7 @@ use Rattle.laws_journal_length.proofs.Short.{short}
 use Rattle.server_run.specs.tp_reactor.specs.declared.working.Ran.TheVariants as ran
 use Rattle.server_run.specs.Journals.{IsRun, EndsAtNetOver, EndsSo, HasNotices, WindsUp, BeginsSo}
 use Rattle.server_run.specs.Journals.{first_entry}
-use Rattle.server_run.specs.Served.{CameSo, FaultRose, HasLed, IsUnled, LeavesRun, Names}
+use Rattle.server_run.specs.Served.{CameSo, FaultRose, HasLed, IsUnled, LeavesRun, IsBrokenOr}
 use Rattle.server_run.specs.Served.{ending_of}
 use Rattle.server_run.specs.declared.asked.Asked.{Asked}
 use Rattle.server_run.specs.declared.ending.Ending.{Ending}
@@ -113,7 +113,7 @@ answer-over ran.NoMemory is = absurd (false≢true (ap is-over is))
 answer-over ran.VolumeFault is = absurd (false≢true (ap is-over is))
 answer-over ran.Stopped is = absurd (false≢true (ap is-over is))
 
-led-over : (how : Ending) (answer : Ran) → Names how (ending_of answer) → how ≡ ending.Over
+led-over : (how : Ending) (answer : Ran) → IsBrokenOr how (ending_of answer) → how ≡ ending.Over
     → answer ≡ ran.Over
 unfolding is-over
 led-over how answer named over = ⊎_elim

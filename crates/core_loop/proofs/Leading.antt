@@ -12,7 +12,9 @@ use Rattle.reactor_model.specs.Handling.{Handling}
 use Rattle.reactor_model.specs.reactor_journal.specs.declared.entry.Entry.{Entry}
 use Rattle.reactor_model.specs.reactor_journal.specs.declared.entry.Entry.TheVariants.{Started}
 use Rattle.reactor_model.specs.reactor_journal.specs.declared.entry.Entry.TheVariants.{Ended}
-use Rattle.reactor_model.specs.reactor_journal.specs.declared.entry.Entry.TheVariants.{Polled as WasPolled}
+use Rattle.reactor_model.specs.reactor_journal.specs.declared.entry.Entry.TheVariants.{
+  Polled as WasPolled,
+}
 use Rattle.reactor_model.specs.reactor_journal.specs.declared.entry.Entry.TheVariants.{Due}
 use Rattle.ev_base.specs.declared.net.Report.{Report}
 use Rattle.reactor_model.specs.reactor_journal.specs.Past.{past_of, count}

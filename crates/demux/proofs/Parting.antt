@@ -122,7 +122,8 @@ module _ {X : Type 0} where
         × (parted i xs ≡ filter (λ x. not (p x)) xs ++ filter p xs)
     parted_all xs i h =
         let whole = take_all i xs h in
-        let left : left_of i xs ≡ filter (λ x. not (p x)) xs = ap (filter (λ x. not (p x))) whole in (
+        let left : left_of i xs ≡ filter (λ x. not (p x)) xs = ap (filter (λ x. not (p x))) whole
+        in (
           left,
           ap (λ ys. ys ++ (given_of i xs ++ drop i xs)) left
               ∙ ap (λ ys. filter (λ x. not (p x)) xs ++ ys)

@@ -14,8 +14,8 @@ use std::net::{IpAddr, Ipv4Addr, Net as Sockets, SocketAddr};
 use std::sync::Arc;
 use std::time::{Clock, Instant};
 
-/// A dialler of connections to one address, 127.0.0.1 unless `set_address` says another. It keeps the
-/// runtime, of which sockets and the clock are asked.
+/// A dialler of connections to one address, 127.0.0.1 unless `set_address` says another. It keeps
+/// the runtime, of which sockets and the clock are asked.
 #[derive(Drop)]
 pub struct MioDialer<R> {
     rt: R,

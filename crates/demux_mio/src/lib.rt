@@ -21,8 +21,8 @@
 //!   reported again 100 ms later. So neither is it lost nor does it spin. Want of memory for the
 //!   new end goes the same way, which no test shows.
 //! - That the end of standard input is found if a host has it as a control, and that bytes which
-//!   come there do not stop a server. It is watched with the sockets, and read once for each report.
-//!   That a wait answers Over exactly from then on is proved.
+//!   come there do not stop a server. It is watched with the sockets, and read once for each
+//!   report. That a wait answers Over exactly from then on is proved.
 //! - That a waker ends a wait. It costs a call of the system only while the net is in a wait; else
 //!   the next wait returns at once.
 //! - That the connection of a retired end is closed: at once, or, if the host has a closer,

@@ -15,10 +15,11 @@ const AWAKE: u64 = u64::MAX;
 /// is to go on. No contract speaks of it. That no change is slept through:
 ///
 /// - The thread says at which count it sleeps, and the system lets it sleep only at that count.
-/// - A `wake` after a change finds either a thread that is awake and has not looked at the count for
-///   the last time, or one that sleeps at an earlier count, and wakes that one.
-/// - A `wake` that comes late, for a change that the thread has seen before it fell asleep, finds the
-///   count at which the thread sleeps, and leaves it as it is: the next change still finds it asleep.
+/// - A `wake` after a change finds either a thread that is awake and has not looked at the count
+///   for the last time, or one that sleeps at an earlier count, and wakes that one.
+/// - A `wake` that comes late, for a change that the thread has seen before it fell asleep, finds
+///   the count at which the thread sleeps, and leaves it as it is: the next change still finds it
+///   asleep.
 #[derive(Drop)]
 pub struct Doorbell {
     count: AtomicU64,

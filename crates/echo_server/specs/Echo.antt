@@ -42,7 +42,8 @@ none_wait bytes = length bytes == 0
 abbrev pub some_wait : List ℕ → Bool
 some_wait bytes = not (none_wait bytes)
 
--- ---- one turn: from where it stood, with its answer and how many bytes it read and wrote back, to where it stands
+-- ---- one turn: from where it stood, with its answer and how many bytes it read and wrote back,
+-- to where it stands
 
 pub record DoesNothing (before : State) (answer : Answer) (read written : ℕ) (after : State) : Type
     0 where

@@ -241,7 +241,12 @@ impl Machine {
         ensures { AreEarlier self.old → OnOk result (self.new
             ≡ record self.old {
               waiting = self.old.waiting
-                  ++ record { event = self.old.entries; handle = handle; upcall = upcall; due = due }
+                  ++ record {
+                    event = self.old.entries;
+                    handle = handle;
+                    upcall = upcall;
+                    due = due;
+                  }
                   ∷ [];
             }) }
     {

@@ -41,7 +41,9 @@ impl fmt::Display for CheckRefused {
 impl Error for CheckRefused {}
 
 impl From<NoMemory> for CheckRefused {
-    ghost use Rattle.journal_check.specs.declared.reading.CheckRefused.TheVariants.{NoMemory as WithoutMemory};
+    ghost use Rattle.journal_check.specs.declared.reading.CheckRefused.TheVariants.{
+      NoMemory as WithoutMemory,
+    };
 
     ghost from_gives = { λ _ r. r ≡ WithoutMemory };
 

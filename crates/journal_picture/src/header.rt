@@ -14,7 +14,8 @@ fn put_begin<T: TextOut>(out: &mut T, width: u64, height: u64)
 {
     put_counted(
         out,
-        b"<svg xmlns='http://www.w3.org/2000/svg' font-family='sans-serif' font-size='11' viewBox='0 0 ",
+        b"<svg xmlns='http://www.w3.org/2000/svg' font-family='sans-serif' \
+          font-size='11' viewBox='0 0 ",
         width,
     );
     put_counted(out, b" ", height);

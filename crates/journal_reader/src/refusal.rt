@@ -1,6 +1,8 @@
 //! Why the text of a journal was refused.
 ghost use Rattle.std.specs.Prelude.{◌≡◌};
-ghost use Rattle.journal_reader.specs.declared.refusal.JournalRefused.TheVariants.{NoMemory as RefusedForMemory};
+ghost use Rattle.journal_reader.specs.declared.refusal.JournalRefused.TheVariants.{
+  NoMemory as RefusedForMemory,
+};
 
 use std::error::Error;
 use std::fmt;

@@ -44,7 +44,8 @@ fn put_said<T: TextOut>(out: &mut T, note: &ServerNote)
 
 /// Puts a word, a handle and a mask.
 fn put_masked<T: TextOut>(out: &mut T, word: &[u8], handle: Handle, mask: Mask)
-    ensures { Puts T.stands out.old (word.now ++ decimal handle.0 ++ codes " " ++ mask_text mask) out.new }
+    ensures { Puts T.stands out.old
+        (word.now ++ decimal handle.0 ++ codes " " ++ mask_text mask) out.new }
 {
     put_counted(out, word, handle.0);
     out.put(b" ");

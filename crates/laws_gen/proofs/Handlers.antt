@@ -8,9 +8,15 @@ use Rattle.laws_script_complete.specs.ev_types.specs.declared.upcall.Answer.{Ans
 use Rattle.laws_script_complete.specs.ev_types.specs.declared.upcall.Handle.{Handle}
 use Rattle.laws_script_complete.specs.reactor_journal.specs.Event.{Item}
 use Rattle.laws_script_complete.specs.reactor_journal.specs.declared.entry.Entry.{Entry}
-use Rattle.laws_script_complete.specs.reactor_journal.specs.declared.entry.Entry.TheVariants.{Returned}
-use Rattle.laws_script_complete.specs.reactor_journal.specs.declared.entry.Entry.TheVariants.{Refused}
-use Rattle.laws_script_complete.specs.reactor_journal.specs.declared.entry.Entry.TheVariants.{Closed}
+use Rattle.laws_script_complete.specs.reactor_journal.specs.declared.entry.Entry.TheVariants.{
+  Returned,
+}
+use Rattle.laws_script_complete.specs.reactor_journal.specs.declared.entry.Entry.TheVariants.{
+  Refused,
+}
+use Rattle.laws_script_complete.specs.reactor_journal.specs.declared.entry.Entry.TheVariants.{
+  Closed,
+}
 use Rattle.laws_script_complete.specs.reactor_journal.specs.Past.{had}
 use Rattle.laws_script_complete.specs.reactor_journal.specs.Past.{items_made}
 use Rattle.laws_script_complete.specs.reactor_journal.specs.Past.{was_opened}

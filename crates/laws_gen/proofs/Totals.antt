@@ -18,8 +18,12 @@ use Rattle.laws_script_complete.specs.cdr_record.specs.Decoding.{decode}
 use Rattle.laws_script_complete.specs.reactor_journal.specs.Event.{Item}
 use Rattle.laws_script_complete.specs.reactor_journal.specs.Event.{Origin}
 use Rattle.laws_script_complete.specs.reactor_journal.specs.declared.entry.Entry.{Entry}
-use Rattle.laws_script_complete.specs.reactor_journal.specs.declared.entry.Entry.TheVariants.{Returned}
-use Rattle.laws_script_complete.specs.reactor_journal.specs.declared.entry.Entry.TheVariants.{Closed}
+use Rattle.laws_script_complete.specs.reactor_journal.specs.declared.entry.Entry.TheVariants.{
+  Returned,
+}
+use Rattle.laws_script_complete.specs.reactor_journal.specs.declared.entry.Entry.TheVariants.{
+  Closed,
+}
 use Rattle.laws_script_complete.specs.reactor_journal.specs.declared.entry.Entry.TheVariants.{Ended}
 use Rattle.laws_script_complete.specs.reactor_journal.specs.Past.{had}
 use Rattle.laws_script_complete.specs.reactor_journal.specs.Past.{origin_of}

@@ -132,7 +132,8 @@ at_most_one true = omega arith
 at_most_one false = omega arith
 
 -- the sum
-sum : (steps reads opens groups bytes quiet opened_ refused polled ready started returned closed again accepted_ wound run journal : ℕ)
+sum : (steps reads opens groups bytes quiet opened_ refused polled ready started returned closed
+    again accepted_ wound run journal : ℕ)
     → opened_ + refused ≤ accepted_ + 1 → accepted_ ≤ opens → opens ≤ steps → again ≤ opens + reads
     → 4096 * (opens + reads) ≤ 4096 * steps + bytes → groups ≤ steps + quiet
     → started ≤ ready + again → ready ≤ steps → polled ≤ steps + groups + started + 1

@@ -19,13 +19,19 @@ use Rattle.laws_script_calls.specs.ev_base.specs.Terms.{Terms}
 use Rattle.laws_script_calls.specs.reactor_journal.specs.Event.{Item}
 use Rattle.laws_script_calls.specs.reactor_journal.specs.declared.entry.Entry.{Entry}
 use Rattle.laws_script_calls.specs.reactor_journal.specs.declared.entry.Entry.TheVariants.{Opened}
-use Rattle.laws_script_calls.specs.reactor_journal.specs.declared.entry.Entry.TheVariants.{Scheduled}
-use Rattle.laws_script_calls.specs.reactor_journal.specs.declared.entry.Entry.TheVariants.{Cancelled}
+use Rattle.laws_script_calls.specs.reactor_journal.specs.declared.entry.Entry.TheVariants.{
+  Scheduled,
+}
+use Rattle.laws_script_calls.specs.reactor_journal.specs.declared.entry.Entry.TheVariants.{
+  Cancelled,
+}
 use Rattle.laws_script_calls.specs.reactor_journal.specs.declared.entry.Entry.TheVariants.{Posted}
 use Rattle.laws_script_calls.specs.reactor_journal.specs.declared.entry.Entry.TheVariants.{Stale}
 use Rattle.laws_script_calls.specs.reactor_journal.specs.declared.entry.Entry.TheVariants.{Returned}
 use Rattle.laws_script_calls.specs.reactor_journal.specs.declared.entry.Entry.TheVariants.{Masked}
-use Rattle.laws_script_calls.specs.reactor_journal.specs.declared.entry.Entry.TheVariants.{Suspended}
+use Rattle.laws_script_calls.specs.reactor_journal.specs.declared.entry.Entry.TheVariants.{
+  Suspended,
+}
 use Rattle.laws_script_calls.specs.reactor_journal.specs.declared.entry.Entry.TheVariants.{Resumed}
 use Rattle.laws_script_calls.specs.reactor_journal.specs.declared.entry.Entry.TheVariants.{Refused}
 use Rattle.laws_script_calls.specs.reactor_journal.specs.declared.entry.Entry.TheVariants.{Closed}

@@ -6,7 +6,9 @@ use Rattle.std.proofs.lemmas.Bool.{false≢true, or_parts, both_ways, cases_eq}
 use Rattle.laws_script_calls.specs.ev_types.specs.declared.upcall.Answer.TheVariants.{Again}
 use Rattle.laws_script_calls.specs.ev_types.specs.declared.upcall.Kind.{Kind}
 use Rattle.laws_script_calls.specs.ev_types.specs.declared.upcall.Kind.TheVariants.{Read, Write}
-use Rattle.laws_script_calls.specs.ev_types.specs.declared.upcall.Kind.TheVariants.{Except as ExceptKind}
+use Rattle.laws_script_calls.specs.ev_types.specs.declared.upcall.Kind.TheVariants.{
+  Except as ExceptKind,
+}
 use Rattle.laws_script_calls.specs.ev_types.specs.declared.upcall.Upcall.{Upcall}
 use Rattle.laws_script_calls.specs.ev_types.specs.declared.upcall.Upcall.TheVariants.{Input, Output}
 use Rattle.laws_script_calls.specs.ev_types.specs.declared.upcall.Upcall.TheVariants.{Except}

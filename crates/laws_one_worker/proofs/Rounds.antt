@@ -44,7 +44,9 @@ use Rattle.laws_script_calls.specs.reactor_core.specs.Upcalls.{HasNoPick, JobFit
 use Rattle.laws_script_calls.specs.reactor_core.specs.Views.{net_of, job_event}
 use Rattle.laws_script_calls.specs.reactor_core.specs.declared.job.Done.{Done}
 use Rattle.laws_script_calls.specs.reactor_core.specs.declared.job.Job.{Job}
-use Rattle.laws_script_calls.specs.reactor_core.specs.declared.polling.Polled.{Polled as PolledAnswer}
+use Rattle.laws_script_calls.specs.reactor_core.specs.declared.polling.Polled.{
+  Polled as PolledAnswer,
+}
 use Rattle.tp_reactor.specs.reactor_desk.specs.Desks.{DeskStands, core_of}
 use Rattle.tp_reactor.specs.reactor_desk.specs.Leading.{Leaves, MayHaveWaited, WaitedFor}
 use Rattle.tp_reactor.specs.reactor_desk.specs.Leading.{Dispatches, Idles, IsOver, IsNotOver}

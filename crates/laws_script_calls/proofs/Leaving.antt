@@ -2,7 +2,9 @@
 use Rattle.std.proofs.Common.{◌≡◌, ◌<◌, inl, inr, ℕ, Bool, true, false, List, [], ◌∷◌, Option, Some}
 use Rattle.std.proofs.Common.{None, sym, subst}
 use Rattle.laws_script_runs.specs.ev_types.specs.declared.upcall.Why.{Why}
-use Rattle.laws_script_runs.specs.ev_types.specs.declared.upcall.Why.TheVariants.{Refused as ByRefusal}
+use Rattle.laws_script_runs.specs.ev_types.specs.declared.upcall.Why.TheVariants.{
+  Refused as ByRefusal,
+}
 use Rattle.laws_script_runs.specs.ev_base.specs.Story.{Telling, Offering}
 use Rattle.laws_script_runs.specs.ev_base.specs.End.{EndFacts}
 use Rattle.laws_script_runs.specs.ev_base.specs.Terms.{Terms}

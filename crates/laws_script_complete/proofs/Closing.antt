@@ -7,7 +7,9 @@ use Rattle.std.proofs.lemmas.Bool.{eq-eqb}
 use Rattle.laws_script_runs.specs.ev_types.specs.declared.upcall.Handle.{Handle}
 use Rattle.laws_script_runs.specs.ev_types.specs.declared.upcall.Why.{Why}
 use Rattle.laws_script_runs.specs.ev_types.specs.declared.upcall.Why.TheVariants.{Own}
-use Rattle.laws_script_runs.specs.ev_types.specs.declared.upcall.Why.TheVariants.{Removed as ByRemoval}
+use Rattle.laws_script_runs.specs.ev_types.specs.declared.upcall.Why.TheVariants.{
+  Removed as ByRemoval,
+}
 use Rattle.laws_script_runs.specs.ev_base.specs.Terms.{Terms}
 use Rattle.laws_script_runs.specs.reactor_journal.specs.Event.{Origin}
 use Rattle.laws_script_runs.specs.reactor_journal.specs.declared.entry.Entry.{Entry}

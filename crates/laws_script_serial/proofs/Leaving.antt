@@ -4,8 +4,12 @@ use Rattle.std.proofs.Common.{Option, Some, None, refl, sym, subst, ap}
 use Rattle.std.proofs.lemmas.Bool.{both_ways}
 use Rattle.laws_script_runs.specs.ev_types.specs.declared.upcall.Why.{Why}
 use Rattle.laws_script_runs.specs.ev_types.specs.declared.upcall.Why.TheVariants.{Own}
-use Rattle.laws_script_runs.specs.ev_types.specs.declared.upcall.Why.TheVariants.{Removed as ByRemoval}
-use Rattle.laws_script_runs.specs.ev_types.specs.declared.upcall.Why.TheVariants.{Refused as ByRefusal}
+use Rattle.laws_script_runs.specs.ev_types.specs.declared.upcall.Why.TheVariants.{
+  Removed as ByRemoval,
+}
+use Rattle.laws_script_runs.specs.ev_types.specs.declared.upcall.Why.TheVariants.{
+  Refused as ByRefusal,
+}
 use Rattle.laws_script_runs.specs.log_lines.specs.declared.end_kind.EndKind.{EndKind}
 use Rattle.laws_script_runs.specs.log_lines.specs.declared.end_kind.EndKind.TheVariants as end
 use Rattle.laws_script_runs.specs.reactor_journal.specs.Event.{Item, Origin}

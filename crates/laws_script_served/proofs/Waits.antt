@@ -13,8 +13,12 @@ use Rattle.ev_base.specs.declared.net.Waited.{Waited}
 use Rattle.ev_base.specs.declared.net.Waited.TheVariants as waited_by
 use Rattle.laws_script_calls.specs.reactor_journal.specs.declared.entry.Entry.{Entry}
 use Rattle.laws_script_calls.specs.reactor_journal.specs.declared.entry.Entry.TheVariants.{Opened}
-use Rattle.laws_script_calls.specs.reactor_journal.specs.declared.entry.Entry.TheVariants.{Scheduled}
-use Rattle.laws_script_calls.specs.reactor_journal.specs.declared.entry.Entry.TheVariants.{Cancelled}
+use Rattle.laws_script_calls.specs.reactor_journal.specs.declared.entry.Entry.TheVariants.{
+  Scheduled,
+}
+use Rattle.laws_script_calls.specs.reactor_journal.specs.declared.entry.Entry.TheVariants.{
+  Cancelled,
+}
 use Rattle.laws_script_calls.specs.reactor_journal.specs.declared.entry.Entry.TheVariants.{Polled}
 use Rattle.laws_script_calls.specs.reactor_journal.specs.declared.entry.Entry.TheVariants.{Due}
 use Rattle.laws_script_calls.specs.reactor_journal.specs.declared.entry.Entry.TheVariants.{Ready}
@@ -23,7 +27,9 @@ use Rattle.laws_script_calls.specs.reactor_journal.specs.declared.entry.Entry.Th
 use Rattle.laws_script_calls.specs.reactor_journal.specs.declared.entry.Entry.TheVariants.{Started}
 use Rattle.laws_script_calls.specs.reactor_journal.specs.declared.entry.Entry.TheVariants.{Returned}
 use Rattle.laws_script_calls.specs.reactor_journal.specs.declared.entry.Entry.TheVariants.{Masked}
-use Rattle.laws_script_calls.specs.reactor_journal.specs.declared.entry.Entry.TheVariants.{Suspended}
+use Rattle.laws_script_calls.specs.reactor_journal.specs.declared.entry.Entry.TheVariants.{
+  Suspended,
+}
 use Rattle.laws_script_calls.specs.reactor_journal.specs.declared.entry.Entry.TheVariants.{Resumed}
 use Rattle.laws_script_calls.specs.reactor_journal.specs.declared.entry.Entry.TheVariants.{Refused}
 use Rattle.laws_script_calls.specs.reactor_journal.specs.declared.entry.Entry.TheVariants.{Removed}

@@ -10,16 +10,28 @@ use Rattle.laws_script_complete.specs.ev_types.specs.declared.upcall.Handle.{Han
 use Rattle.laws_script_complete.specs.ev_types.specs.declared.upcall.Mask.{Mask}
 use Rattle.laws_script_complete.specs.ev_types.specs.declared.upcall.Why.{Why}
 use Rattle.laws_script_complete.specs.ev_types.specs.declared.upcall.Why.TheVariants.{Own}
-use Rattle.laws_script_complete.specs.ev_types.specs.declared.upcall.Why.TheVariants.{Removed as ByRemoval}
-use Rattle.laws_script_complete.specs.ev_types.specs.declared.upcall.Why.TheVariants.{Refused as ByRefusal}
+use Rattle.laws_script_complete.specs.ev_types.specs.declared.upcall.Why.TheVariants.{
+  Removed as ByRemoval,
+}
+use Rattle.laws_script_complete.specs.ev_types.specs.declared.upcall.Why.TheVariants.{
+  Refused as ByRefusal,
+}
 use Rattle.laws_script_complete.specs.ev_base.specs.Terms.{Terms}
 use Rattle.laws_script_complete.specs.reactor_journal.specs.Event.{Item}
 use Rattle.laws_script_complete.specs.reactor_journal.specs.Event.{Origin}
 use Rattle.laws_script_complete.specs.reactor_journal.specs.declared.entry.Entry.{Entry}
-use Rattle.laws_script_complete.specs.reactor_journal.specs.declared.entry.Entry.TheVariants.{Opened}
-use Rattle.laws_script_complete.specs.reactor_journal.specs.declared.entry.Entry.TheVariants.{Returned}
-use Rattle.laws_script_complete.specs.reactor_journal.specs.declared.entry.Entry.TheVariants.{Refused}
-use Rattle.laws_script_complete.specs.reactor_journal.specs.declared.entry.Entry.TheVariants.{Closed}
+use Rattle.laws_script_complete.specs.reactor_journal.specs.declared.entry.Entry.TheVariants.{
+  Opened,
+}
+use Rattle.laws_script_complete.specs.reactor_journal.specs.declared.entry.Entry.TheVariants.{
+  Returned,
+}
+use Rattle.laws_script_complete.specs.reactor_journal.specs.declared.entry.Entry.TheVariants.{
+  Refused,
+}
+use Rattle.laws_script_complete.specs.reactor_journal.specs.declared.entry.Entry.TheVariants.{
+  Closed,
+}
 use Rattle.laws_script_complete.specs.reactor_journal.specs.Past.{past_of}
 use Rattle.laws_script_complete.specs.reactor_journal.specs.Past.{had}
 use Rattle.laws_script_complete.specs.reactor_journal.specs.Past.{origin_of}

@@ -16,7 +16,9 @@ use Rattle.laws_script_complete.specs.ev_base.specs.declared.source.Got.TheVaria
     as got
 use Rattle.laws_script_complete.specs.reactor_journal.specs.Event.{Item}
 use Rattle.laws_script_complete.specs.reactor_journal.specs.declared.entry.Entry.{Entry}
-use Rattle.laws_script_complete.specs.reactor_journal.specs.declared.entry.Entry.TheVariants.{Returned}
+use Rattle.laws_script_complete.specs.reactor_journal.specs.declared.entry.Entry.TheVariants.{
+  Returned,
+}
 use Rattle.laws_script_complete.specs.reactor_journal.specs.Past.{was_opened}
 use Rattle.laws_script_complete.specs.reactor_journal.specs.Past.{was_closed}
 use Rattle.laws_script_complete.specs.reactor_journal.specs.Past.{started_at}

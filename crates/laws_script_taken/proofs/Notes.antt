@@ -12,7 +12,9 @@ use Rattle.std.proofs.lemmas.List.Sums.{sum_by-cons, sum_by-append}
 use Rattle.laws_script_complete.specs.ev_types.specs.declared.upcall.Answer.{Answer}
 use Rattle.laws_script_complete.specs.reactor_journal.specs.Event.{Item}
 use Rattle.laws_script_complete.specs.reactor_journal.specs.declared.entry.Entry.{Entry}
-use Rattle.laws_script_complete.specs.reactor_journal.specs.declared.entry.Entry.TheVariants.{Returned}
+use Rattle.laws_script_complete.specs.reactor_journal.specs.declared.entry.Entry.TheVariants.{
+  Returned,
+}
 use Rattle.laws_script_complete.specs.reactor_journal.specs.Past.{had}
 use Rattle.laws_script_complete.specs.reactor_journal.specs.Past.{items_made}
 use Rattle.laws_script_complete.specs.reactor_journal.specs.Past.{was_opened}

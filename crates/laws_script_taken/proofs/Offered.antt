@@ -6,9 +6,15 @@ use Rattle.std.proofs.lemmas.Bool.{false≢true}
 use Rattle.laws_script_complete.specs.ev_types.specs.declared.upcall.Answer.{Answer}
 use Rattle.laws_script_complete.specs.ev_base.specs.Terms.{Terms}
 use Rattle.laws_script_complete.specs.reactor_journal.specs.declared.entry.Entry.{Entry}
-use Rattle.laws_script_complete.specs.reactor_journal.specs.declared.entry.Entry.TheVariants.{Returned}
-use Rattle.laws_script_complete.specs.reactor_journal.specs.declared.entry.Entry.TheVariants.{Removed}
-use Rattle.laws_script_complete.specs.reactor_journal.specs.declared.entry.Entry.TheVariants.{Closed}
+use Rattle.laws_script_complete.specs.reactor_journal.specs.declared.entry.Entry.TheVariants.{
+  Returned,
+}
+use Rattle.laws_script_complete.specs.reactor_journal.specs.declared.entry.Entry.TheVariants.{
+  Removed,
+}
+use Rattle.laws_script_complete.specs.reactor_journal.specs.declared.entry.Entry.TheVariants.{
+  Closed,
+}
 use Rattle.laws_script_complete.specs.reactor_journal.specs.declared.entry.Entry.TheVariants.{Ended}
 use Rattle.laws_script_complete.specs.reactor_model.specs.Handling.{Handling}
 use Rattle.laws_script_complete.specs.laws_by_turns.specs.ByTurns.{DispatchedByTurns}

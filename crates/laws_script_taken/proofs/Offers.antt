@@ -9,14 +9,24 @@ use Rattle.laws_script_complete.specs.ev_types.specs.declared.upcall.Answer.{Ans
 use Rattle.laws_script_complete.specs.ev_types.specs.declared.upcall.Handle.{Handle}
 use Rattle.laws_script_complete.specs.ev_types.specs.declared.upcall.Mask.{Mask}
 use Rattle.laws_script_complete.specs.ev_types.specs.declared.upcall.Why.{Why}
-use Rattle.laws_script_complete.specs.ev_types.specs.declared.upcall.Why.TheVariants.{Refused as ByRefusal}
+use Rattle.laws_script_complete.specs.ev_types.specs.declared.upcall.Why.TheVariants.{
+  Refused as ByRefusal,
+}
 use Rattle.laws_script_complete.specs.reactor_journal.specs.Event.{Item}
 use Rattle.laws_script_complete.specs.reactor_journal.specs.Event.{Origin}
 use Rattle.laws_script_complete.specs.reactor_journal.specs.declared.entry.Entry.{Entry}
-use Rattle.laws_script_complete.specs.reactor_journal.specs.declared.entry.Entry.TheVariants.{Opened}
-use Rattle.laws_script_complete.specs.reactor_journal.specs.declared.entry.Entry.TheVariants.{Returned}
-use Rattle.laws_script_complete.specs.reactor_journal.specs.declared.entry.Entry.TheVariants.{Refused}
-use Rattle.laws_script_complete.specs.reactor_journal.specs.declared.entry.Entry.TheVariants.{Closed}
+use Rattle.laws_script_complete.specs.reactor_journal.specs.declared.entry.Entry.TheVariants.{
+  Opened,
+}
+use Rattle.laws_script_complete.specs.reactor_journal.specs.declared.entry.Entry.TheVariants.{
+  Returned,
+}
+use Rattle.laws_script_complete.specs.reactor_journal.specs.declared.entry.Entry.TheVariants.{
+  Refused,
+}
+use Rattle.laws_script_complete.specs.reactor_journal.specs.declared.entry.Entry.TheVariants.{
+  Closed,
+}
 use Rattle.laws_script_complete.specs.reactor_journal.specs.Past.{had}
 use Rattle.laws_script_complete.specs.reactor_journal.specs.Past.{origin_of}
 use Rattle.laws_script_complete.specs.reactor_journal.specs.Past.{reason_of}

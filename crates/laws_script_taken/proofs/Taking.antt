@@ -18,7 +18,9 @@ use Rattle.laws_script_complete.specs.cdr_record.specs.Decoding.{Malformed}
 use Rattle.laws_script_complete.specs.cdr_record.specs.Decoding.{decode}
 use Rattle.laws_script_complete.specs.reactor_journal.specs.Event.{Item}
 use Rattle.laws_script_complete.specs.reactor_journal.specs.declared.entry.Entry.{Entry}
-use Rattle.laws_script_complete.specs.reactor_journal.specs.declared.entry.Entry.TheVariants.{Returned}
+use Rattle.laws_script_complete.specs.reactor_journal.specs.declared.entry.Entry.TheVariants.{
+  Returned,
+}
 use Rattle.laws_script_complete.specs.reactor_journal.specs.Past.{past_of}
 use Rattle.laws_script_complete.specs.reactor_journal.specs.Past.{had, ended}
 use Rattle.laws_script_complete.specs.reactor_journal.specs.Past.{started_at}

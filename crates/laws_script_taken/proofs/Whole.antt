@@ -8,10 +8,18 @@ use Rattle.laws_script_complete.specs.ev_types.specs.declared.upcall.Answer.{Ans
 use Rattle.laws_script_complete.specs.ev_types.specs.declared.upcall.Handle.{Handle}
 use Rattle.laws_script_complete.specs.ev_base.specs.Terms.{Terms}
 use Rattle.laws_script_complete.specs.reactor_journal.specs.declared.entry.Entry.{Entry}
-use Rattle.laws_script_complete.specs.reactor_journal.specs.declared.entry.Entry.TheVariants.{Opened}
-use Rattle.laws_script_complete.specs.reactor_journal.specs.declared.entry.Entry.TheVariants.{Returned}
-use Rattle.laws_script_complete.specs.reactor_journal.specs.declared.entry.Entry.TheVariants.{Refused}
-use Rattle.laws_script_complete.specs.reactor_journal.specs.declared.entry.Entry.TheVariants.{Closed}
+use Rattle.laws_script_complete.specs.reactor_journal.specs.declared.entry.Entry.TheVariants.{
+  Opened,
+}
+use Rattle.laws_script_complete.specs.reactor_journal.specs.declared.entry.Entry.TheVariants.{
+  Returned,
+}
+use Rattle.laws_script_complete.specs.reactor_journal.specs.declared.entry.Entry.TheVariants.{
+  Refused,
+}
+use Rattle.laws_script_complete.specs.reactor_journal.specs.declared.entry.Entry.TheVariants.{
+  Closed,
+}
 use Rattle.laws_script_complete.specs.reactor_journal.specs.declared.entry.Entry.TheVariants.{Ended}
 use Rattle.laws_script_complete.specs.reactor_journal.specs.Past.{past_of}
 use Rattle.laws_script_complete.specs.reactor_journal.specs.Past.{reason_of}
@@ -39,7 +47,9 @@ use Rattle.laws_script_complete.specs.acceptor.specs.Servers.{ServerMay}
 use Rattle.laws_script_complete.specs.acceptor.specs.Servers.{read_alone}
 use Rattle.laws_script_complete.specs.acceptor.specs.Servers.{is_accepted as says_accepted}
 use Rattle.laws_script_complete.specs.ev_types.specs.declared.upcall.Why.TheVariants.{Own}
-use Rattle.laws_script_complete.specs.ev_types.specs.declared.upcall.Why.TheVariants.{Removed as ByRemoval}
+use Rattle.laws_script_complete.specs.ev_types.specs.declared.upcall.Why.TheVariants.{
+  Removed as ByRemoval,
+}
 use Rattle.laws_script_complete.specs.log_handler.specs.declared.note.ServerNote.{ServerNote}
 use Rattle.laws_script_complete.specs.log_handler.specs.declared.note.ServerNote.TheVariants
     as note

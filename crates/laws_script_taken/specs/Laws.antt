@@ -4,8 +4,12 @@ use Rattle.std.specs.List.{list_any, list_all}
 use Rattle.laws_script_complete.specs.ev_types.specs.declared.upcall.Answer.{Answer}
 use Rattle.laws_script_complete.specs.ev_base.specs.Terms.{Terms}
 use Rattle.laws_script_complete.specs.reactor_journal.specs.declared.entry.Entry.{Entry}
-use Rattle.laws_script_complete.specs.reactor_journal.specs.declared.entry.Entry.TheVariants.{Opened}
-use Rattle.laws_script_complete.specs.reactor_journal.specs.declared.entry.Entry.TheVariants.{Returned}
+use Rattle.laws_script_complete.specs.reactor_journal.specs.declared.entry.Entry.TheVariants.{
+  Opened,
+}
+use Rattle.laws_script_complete.specs.reactor_journal.specs.declared.entry.Entry.TheVariants.{
+  Returned,
+}
 use Rattle.laws_script_complete.specs.reactor_journal.specs.declared.entry.Entry.TheVariants.{Ended}
 use Rattle.laws_script_complete.specs.reactor_journal.specs.Past.{past_of}
 use Rattle.laws_script_complete.specs.reactor_model.specs.Handling.{Handling}

@@ -14,9 +14,15 @@ use Rattle.laws_script_complete.specs.log_lines.specs.declared.end_kind.EndKind.
 use Rattle.laws_script_complete.specs.log_lines.specs.declared.end_kind.EndKind.TheVariants
     as end
 use Rattle.laws_script_complete.specs.reactor_journal.specs.declared.entry.Entry.{Entry}
-use Rattle.laws_script_complete.specs.reactor_journal.specs.declared.entry.Entry.TheVariants.{Returned}
-use Rattle.laws_script_complete.specs.reactor_journal.specs.declared.entry.Entry.TheVariants.{Refused}
-use Rattle.laws_script_complete.specs.reactor_journal.specs.declared.entry.Entry.TheVariants.{Closed}
+use Rattle.laws_script_complete.specs.reactor_journal.specs.declared.entry.Entry.TheVariants.{
+  Returned,
+}
+use Rattle.laws_script_complete.specs.reactor_journal.specs.declared.entry.Entry.TheVariants.{
+  Refused,
+}
+use Rattle.laws_script_complete.specs.reactor_journal.specs.declared.entry.Entry.TheVariants.{
+  Closed,
+}
 use Rattle.laws_script_complete.specs.reactor_journal.specs.Past.{past_of}
 use Rattle.laws_script_complete.specs.reactor_journal.specs.Past.{ended}
 use Rattle.laws_script_complete.specs.reactor_journal.specs.Past.{started_at}

@@ -10,7 +10,9 @@ use Rattle.reactor_summary.specs.ev_types.specs.declared.upcall.Answer.TheVarian
 use Rattle.reactor_summary.specs.ev_types.specs.declared.upcall.Answer.TheVariants.{Close}
 use Rattle.reactor_summary.specs.ev_types.specs.declared.upcall.Why.{Why}
 use Rattle.reactor_summary.specs.ev_types.specs.declared.upcall.Why.TheVariants.{Own}
-use Rattle.reactor_summary.specs.ev_types.specs.declared.upcall.Why.TheVariants.{Removed as RemovedBy}
+use Rattle.reactor_summary.specs.ev_types.specs.declared.upcall.Why.TheVariants.{
+  Removed as RemovedBy,
+}
 use Rattle.reactor_summary.specs.reactor_journal.specs.Event.{Event, Item}
 use Rattle.reactor_summary.specs.reactor_journal.specs.declared.entry.Entry.{Entry}
 use Rattle.reactor_summary.specs.reactor_journal.specs.declared.entry.Entry.TheVariants.{Returned}

@@ -17,7 +17,9 @@ use Rattle.cmd_line.specs.declared.options.Form.{Form}
 use Rattle.cmd_line.specs.declared.options.Form.TheVariants.{Journal}
 use Rattle.cmd_line.specs.declared.options.Options.{Options}
 use Rattle.cmd_gen.specs.cmd_replay.specs.acceptor.specs.Servers.{servers}
-use Rattle.cmd_gen.specs.cmd_replay.specs.acceptor.specs.declared.server.ServerHandler.{ServerHandler}
+use Rattle.cmd_gen.specs.cmd_replay.specs.acceptor.specs.declared.server.ServerHandler.{
+  ServerHandler,
+}
 use Rattle.cmd_gen.specs.cmd_replay.specs.Outputs.{WritesText, text_in}
 use Rattle.cmd_gen.specs.cmd_replay.specs.Replaying.{Replays, ReplaysWhole, ServesText}
 use Rattle.cmd_gen.specs.cmd_replay.specs.Replays.{EndsReplay, RunsScript, asked_by, terms_in}

@@ -39,8 +39,8 @@ impl Shared {
         })
     }
 
-    /// Puts an item, and tells whether it did: if the queue is full the item is dropped. The writers
-    /// are told by `ring`.
+    /// Puts an item, and tells whether it did: if the queue is full the item is dropped. The
+    /// writers are told by `ring`.
     pub fn put<R: Wait>(&self, rt: &R, putter: &mut Putter<Item>, item: Item) -> bool
         requires { putter_pool putter.old ≡ pool_id self.now.pool }
         ensures pool { putter_pool putter.new ≡ putter_pool putter.old }

@@ -11,7 +11,9 @@ use Rattle.reactor_summary.specs.ev_types.specs.declared.upcall.Mask.{Mask}
 use Rattle.reactor_summary.specs.ev_types.specs.declared.upcall.Kind.{Kind}
 use Rattle.reactor_summary.specs.ev_types.specs.declared.upcall.Handle.{Handle}
 use Rattle.reactor_summary.specs.ev_types.specs.declared.upcall.Answer.TheVariants.{Close}
-use Rattle.reactor_summary.specs.ev_types.specs.declared.upcall.Why.TheVariants.{Refused as ByRefusal}
+use Rattle.reactor_summary.specs.ev_types.specs.declared.upcall.Why.TheVariants.{
+  Refused as ByRefusal,
+}
 use Rattle.ev_base.specs.Terms.{Terms}
 use Rattle.ev_base.specs.Net.{NetFacts, Call, Waits, Attaches, SetsMask, Retires, TurnsAway}
 use Rattle.ev_base.specs.Net.{with_one, without, changed_mask, without_mask, AnswersWait, FailsCall}

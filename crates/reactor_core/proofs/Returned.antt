@@ -7,7 +7,9 @@ use Rattle.reactor_summary.specs.ev_types.specs.declared.upcall.Answer.TheVarian
 use Rattle.reactor_summary.specs.ev_types.specs.declared.upcall.Answer.TheVariants.{Close}
 use Rattle.reactor_summary.specs.ev_types.specs.declared.upcall.Why.{Why}
 use Rattle.reactor_summary.specs.ev_types.specs.declared.upcall.Why.TheVariants.{Own}
-use Rattle.reactor_summary.specs.ev_types.specs.declared.upcall.Why.TheVariants.{Removed as ByRemoval}
+use Rattle.reactor_summary.specs.ev_types.specs.declared.upcall.Why.TheVariants.{
+  Removed as ByRemoval,
+}
 use Rattle.ev_base.specs.Terms.{Terms}
 use Rattle.reactor_model.specs.reactor_journal.specs.Event.{Item}
 use Rattle.reactor_model.specs.reactor_journal.specs.declared.entry.Entry.{Entry}

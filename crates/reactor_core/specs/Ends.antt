@@ -1,7 +1,9 @@
 -- What a net's ends have to do with the journal (POSA2, Reactor: Synchronous Event Demultiplexer).
 use Rattle.std.specs.Prelude.{ℕ, ◌≡◌, Bool, false, List, [], ◌∷◌, map, reverse, Option, Some, None}
 use Rattle.reactor_summary.specs.ev_types.specs.declared.upcall.Mask.{Mask}
-use Rattle.reactor_summary.specs.ev_types.specs.declared.upcall.Why.TheVariants.{Refused as ByRefusal}
+use Rattle.reactor_summary.specs.ev_types.specs.declared.upcall.Why.TheVariants.{
+  Refused as ByRefusal,
+}
 use Rattle.ev_base.specs.Terms.{Terms}
 use Rattle.reactor_model.specs.reactor_journal.specs.declared.entry.Entry.{Entry}
 use Rattle.reactor_model.specs.reactor_journal.specs.declared.entry.Entry.TheVariants.{Closed}

@@ -4,7 +4,9 @@ use Rattle.reactor_summary.specs.ev_types.specs.declared.upcall.Answer.{Answer}
 use Rattle.reactor_summary.specs.ev_types.specs.declared.upcall.Handle.{Handle}
 use Rattle.reactor_summary.specs.ev_types.specs.declared.upcall.Why.{Why}
 use Rattle.reactor_summary.specs.ev_types.specs.declared.upcall.Why.TheVariants.{Own}
-use Rattle.reactor_summary.specs.ev_types.specs.declared.upcall.Why.TheVariants.{Removed as ByRemoval}
+use Rattle.reactor_summary.specs.ev_types.specs.declared.upcall.Why.TheVariants.{
+  Removed as ByRemoval,
+}
 use Rattle.reactor_model.specs.reactor_journal.specs.declared.entry.Entry.{Entry}
 use Rattle.reactor_model.specs.reactor_journal.specs.declared.entry.Entry.TheVariants.{Returned}
 use Rattle.reactor_model.specs.reactor_journal.specs.declared.entry.Entry.TheVariants.{Closed}

@@ -214,7 +214,8 @@ tells_wait n most a answer is (AtMoment x e) told =
     (subst (λ y. AnswersWait (script_net_facts n) most y a.next.moment
     (script_net_facts (after_wait most n))) e told))
 tells_wait n most a answer is (AtEnd x e none) told =
-    subst (λ y. NetWaits (script_net_facts n) most y (script_net_facts (after_wait most n))) (sym e) (
+    subst (λ y. NetWaits (script_net_facts n) most y (script_net_facts (after_wait most n)))
+    (sym e) (
       subst (λ y. AnswersWait (script_net_facts n) most y a.next.moment
           (script_net_facts (after_wait most n))) e told,
       ap (λ (y : Answered). y.reports) (sym is)

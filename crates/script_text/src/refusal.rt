@@ -1,6 +1,8 @@
 //! Why a text was refused.
 ghost use Rattle.std.specs.Prelude.{◌≡◌};
-ghost use Rattle.script_text.specs.declared.refusal.ScriptRefused.TheVariants.{NoMemory as RefusedForMemory};
+ghost use Rattle.script_text.specs.declared.refusal.ScriptRefused.TheVariants.{
+  NoMemory as RefusedForMemory,
+};
 
 use std::error::Error;
 use std::fmt;

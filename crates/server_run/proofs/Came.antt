@@ -7,7 +7,7 @@ use Rattle.log_handler.specs.reactor_journal.specs.declared.entry.Entry.{Entry}
 use Rattle.log_handler.specs.reactor_journal.specs.declared.entry.Entry.TheVariants.{Ended}
 use Rattle.log_handler.specs.reactor_model.specs.Handling.{Handling}
 use Rattle.server_run.specs.Journals.{IsRun}
-use Rattle.server_run.specs.Served.{CameSo, IsUnled, IsUnmade, Names}
+use Rattle.server_run.specs.Served.{CameSo, IsUnled, IsUnmade, IsBrokenOr}
 use Rattle.server_run.specs.declared.ending.Ending.{Ending}
 use Rattle.server_run.specs.declared.ending.Ending.TheVariants as ending
 
@@ -22,7 +22,7 @@ came_as how journal runs leads (inr came) =
 
 -- an ending that names a cause is no other
 names_no_other : (how cause other : Ending) → (ending.Broken ≡ other → ⊥) → (cause ≡ other → ⊥)
-    → Names how cause → how ≡ other → ⊥
+    → IsBrokenOr how cause → how ≡ other → ⊥
 names_no_other how cause other whole uncaused (inl broken) is = whole (sym broken ∙ is)
 names_no_other how cause other whole uncaused (inr caused) is = uncaused (sym caused ∙ is)
 

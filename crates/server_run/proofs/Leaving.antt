@@ -26,7 +26,7 @@ use Rattle.tp_reactor.specs.reactor_state.specs.Tables.{armed_of}
 use Rattle.tp_reactor.specs.reactor_desk.specs.Desks.{FillsVolume}
 use Rattle.server_run.specs.Finishing.{Finishes, named}
 use Rattle.server_run.specs.Journals.{BeginsSo, EndsSo, WindsUp, first_entry}
-use Rattle.server_run.specs.Served.{HasLed, IsUnled, LeavesRun, Names}
+use Rattle.server_run.specs.Served.{HasLed, IsUnled, LeavesRun, IsBrokenOr}
 use Rattle.server_run.specs.declared.asked.Asked.{Asked}
 use Rattle.server_run.specs.declared.ending.Ending.{Ending}
 use Rattle.server_run.specs.declared.ending.Ending.TheVariants as ending
@@ -42,7 +42,7 @@ broken_told how now true is q = is
 broken_told how now false is q = absurd (false≢true q)
 
 -- an ending that is told names what ended the run
-pub names : (how now : Ending) (b : Bool) → now ≡ named how b → Names now how
+pub names : (how now : Ending) (b : Bool) → now ≡ named how b → IsBrokenOr now how
 names how now true is = inl is
 names how now false is = inr is
 
@@ -149,9 +149,10 @@ module _ {H M Q W V E : Type 0} (m : Meaning H M Q W V ServerNote E) (armed : Q 
   taken_at_first None h = tt
   taken_at_first (Some taken) h = (taken, sym (append-nil taken), h)
 
-  for_cause : (cause : Ending) → how ≡ cause → Names served.ending cause
+  for_cause : (cause : Ending) → how ≡ cause → IsBrokenOr served.ending cause
   for_cause cause same =
-      subst (Names served.ending) same (names how served.ending (m.is_broken served.parts.watch) is)
+      subst (IsBrokenOr served.ending) same
+      (names how served.ending (m.is_broken served.parts.watch) is)
 
   pub leaves_unmade : (most : ℕ) (net : M) (timers : Q) (watch : W) (volumes : V) → Breaks m
       → how ≡ ending.NoMemory → CanBegin (m.facts net) (m.keeps t net) (armed timers)

@@ -13,7 +13,9 @@ use Rattle.tp_reactor.specs.declared.working.Ran.{Ran}
 -- a run by so many workers is one by as many
 pub as_many : {H M Q W V N E : Type 0} {kept : Keeping (Desk H M Q W V N E) (Entry N) DeskTerms}
     {m : Meaning H M Q W V N E} {most : Option ℕ} {until : Option (ℕ × Handle)} {answer : Ran}
-    {old new : Worker H M Q W V N E kept} (n k : ℕ) → n ≡ k → RunsWorkers m k most until old answer new
+    {old new : Worker H M Q W V N E kept} (n k : ℕ) → n ≡ k
+    → RunsWorkers m k most until old answer new
     → RunsWorkers m n most until old answer new
-as_many {m = m} {most = most} {until = until} {answer = answer} {old = old} {new = new} n k is runs =
+as_many {m = m} {most = most} {until = until} {answer = answer} {old = old} {new = new} n k is
+    runs =
     subst (λ (i : ℕ). RunsWorkers m i most until old answer new) (sym is) runs

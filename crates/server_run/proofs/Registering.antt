@@ -30,7 +30,9 @@ use Rattle.tp_reactor.specs.reactor_core.specs.Offering.{RegisterGives}
 use Rattle.tp_reactor.specs.reactor_core.specs.Stands.{Meaning, Stands}
 use Rattle.tp_reactor.specs.reactor_core.specs.Views.{net_of, volumes_of}
 use Rattle.tp_reactor.specs.reactor_core.specs.declared.reactor.Core.{Core}
-use Rattle.tp_reactor.specs.reactor_core.specs.declared.registering.RegisterRefused.{RegisterRefused}
+use Rattle.tp_reactor.specs.reactor_core.specs.declared.registering.RegisterRefused.{
+  RegisterRefused,
+}
 use Rattle.tp_reactor.specs.reactor_core.specs.declared.registering.RegisterRefused.TheVariants
     as refused
 use Rattle.server_run.specs.Finishing.{Finishes, KeepsCounts, named}

@@ -6,7 +6,9 @@ use Rattle.log_handler.specs.declared.note.ServerNote.{ServerNote}
 use Rattle.tp_reactor.specs.reactor_core.specs.Stands.{Meaning, Stands}
 use Rattle.tp_reactor.specs.reactor_core.specs.Views.{net_of, volumes_of}
 use Rattle.tp_reactor.specs.reactor_core.specs.declared.reactor.Core.{Core}
-use Rattle.tp_reactor.specs.reactor_core.specs.declared.registering.RegisterRefused.{RegisterRefused}
+use Rattle.tp_reactor.specs.reactor_core.specs.declared.registering.RegisterRefused.{
+  RegisterRefused,
+}
 use Rattle.tp_reactor.specs.reactor_core.specs.declared.registering.RegisterRefused.TheVariants
     as refused
 use Rattle.server_run.specs.Journals.{first_entry}

@@ -32,19 +32,19 @@ ending_of ran.VolumeFault = ending.VolumeFault
 ending_of ran.Stopped = ending.Notified
 ending_of ran.Over = ending.Over
 
--- The ending names this cause; or it tells that the watch failed, whatever else ended the run.
-abbrev pub Names : Ending → Ending → Type 0
-Names how cause = (how ≡ ending.Broken) ⊎ (how ≡ cause)
+-- The ending names this cause, or tells that the watch failed, whatever else ended the run.
+abbrev pub IsBrokenOr : Ending → Ending → Type 0
+IsBrokenOr how cause = (how ≡ ending.Broken) ⊎ (how ≡ cause)
 
 -- No reactor was made, for want of memory, so the journal is empty.
 pub record IsUnmade {N : Type 0} (how : Ending) (journal : List (Entry N)) : Type 0 where
-  pub named : Names how ending.NoMemory
+  pub named : IsBrokenOr how ending.NoMemory
   pub none : journal ≡ []
 
 -- No worker led: the net did not take the listener in, or there was no memory. The reactor was
 -- stopped at once, with no handler or with the acceptor alone.
 pub record IsUnled {N : Type 0} (how : Ending) (journal : List (Entry N)) : Type 0 where
-  pub named : Names how ending.NotAttached ⊎ Names how ending.NoMemory
+  pub named : IsBrokenOr how ending.NotAttached ⊎ IsBrokenOr how ending.NoMemory
   pub winds : WindsUp [] journal ⊎ WindsUp (first_entry ∷ []) journal
 
 -- Several workers brought the journal to this list. A root that had seen the registration of the
@@ -68,7 +68,7 @@ pub record IsPooled {H M Q W V N E : Type 0} (m : Meaning H M Q W V N E) (terms 
 pub record HasLed {H M Q W V N E : Type 0} (m : Meaning H M Q W V N E) (t : Terms) (asked : Asked)
     (how : Ending) (journal : List (Entry N)) : Type 0 where
   pub answer : Ran
-  pub named : Names how (ending_of answer)
+  pub named : IsBrokenOr how (ending_of answer)
   pub list : List (Entry N)
   pub winds : WindsUp list journal
   pub terms : DeskTerms

@@ -53,7 +53,8 @@ fn is_pattern(pattern: &[u8], at: usize, piece: &[u8]) -> bool {
     piece.iter().all(|byte| wanted.next() == Some(byte))
 }
 
-/// Accepts one connection, reads a few bytes, and lets it go with the others unread: so it is reset.
+/// Accepts one connection, reads a few bytes, and lets it go with the others unread: so it is
+/// reset.
 pub fn reset(listener: &TcpListener) -> io::Result<()> {
     let (mut peer, _) = listener.accept()?;
     let mut buffer = [0; 100];

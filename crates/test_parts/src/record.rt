@@ -20,8 +20,8 @@ const LITTLE_WRITTEN: &[u8] =
 // With the closing NUL of a C string in the message.
 const WITH_NUL: &[u8] = b"\0\0\0\0\0\0\0\x17\0\0\0\x04\0\0\0\x07\0\0\0\x01\0\0\0\x02\0\0\0\x03hi\0";
 // With eight bytes of slack.
-const WITH_SLACK: &[u8] =
-    b"\0\0\0\0\0\0\0\x1e\0\0\0\x04\0\0\0\x07\0\0\0\x01\0\0\0\x02\0\0\0\x02hi\xff\xff\xff\xff\xff\xff\xff\xff";
+const WITH_SLACK: &[u8] = b"\0\0\0\0\0\0\0\x1e\0\0\0\x04\0\0\0\x07\0\0\0\x01\0\0\0\x02\0\0\0\x02hi\
+      \xff\xff\xff\xff\xff\xff\xff\xff";
 // A type without a name, a process id below 0 and bytes that print as escapes.
 const ESCAPES: &[u8] =
     b"\0\0\0\0\0\0\0\x17\0\0\0\x03\xff\xff\xff\xff\0\0\0\x01\0\0\0\x02\0\0\0\x03\x09\x5c\xe9";
@@ -32,8 +32,8 @@ const WIDE: &[u8] =
 const WIDE_LITTLE: &[u8] =
     b"\x03\0\0\0\x1a\0\0\0\x04\0\0\0\x07\0\0\0\x01\0\0\0\x01\0\0\0\x02\0\0\0\x02\0\0\0hi";
 // The base record, a bad one (version 2, and 22 is below its 24), and the base record again.
-const BAD_BETWEEN: &[u8] =
-    b"\0\0\0\0\0\0\0\x16\0\0\0\x04\0\0\0\x07\0\0\0\x01\0\0\0\x02\0\0\0\x02hi\x02\0\0\0\0\0\0\x16\0\0\0\0\0\0\0\x16\0\0\0\x04\0\0\0\x07\0\0\0\x01\0\0\0\x02\0\0\0\x02hi";
+const BAD_BETWEEN: &[u8] = b"\0\0\0\0\0\0\0\x16\0\0\0\x04\0\0\0\x07\0\0\0\x01\0\0\0\x02\0\0\0\x02hi\
+      \x02\0\0\0\0\0\0\x16\0\0\0\0\0\0\0\x16\0\0\0\x04\0\0\0\x07\0\0\0\x01\0\0\0\x02\0\0\0\x02hi";
 
 // The fields of a record that is wanted.
 struct Want {

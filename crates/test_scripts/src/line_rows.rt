@@ -237,8 +237,8 @@ fn three_entries(alloc: Global) -> Result<CountingSink, Fail> {
 
 #[test]
 fn an_entry_of_a_journal_is_written_at_once(rt: HostRuntime) -> Result<(), Fail> {
-    let text =
-        b"most 1\nopened 1 r--\nreturned 0 again piece 3 30 2 4:7:1:2:6869 4:7:1:2:6869\nclosed 1 end 3 idle\n";
+    let text = b"most 1\nopened 1 r--\nreturned 0 again piece 3 30 2 4:7:1:2:6869 4:7:1:2:6869\n\
+          closed 1 end 3 idle\n";
     let output = three_entries(rt.alloc())?;
     let is_so = is_taken(&output, 3, text);
     drop(output);

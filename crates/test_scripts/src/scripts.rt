@@ -5,7 +5,8 @@ use script_text::{ScriptRefused, parse_script};
 /// A script with each kind of line: connection 0 comes and brings two pieces at moments 0 and 5; a
 /// moment passes; it is shut, and the listener fails; connection 1 comes, brings a byte and fails.
 const EACH_LINE: &str =
-    "open 0\ndata 0 00fF\nat 5\ndata 0 68\nquiet\nshut 0\nat 5\nfail listener\nopen 1\ndata 1 Aa\nat 4294967295\nfail 1\n";
+    "open 0\ndata 0 00fF\nat 5\ndata 0 68\nquiet\nshut 0\nat 5\nfail listener\nopen 1\n\
+      data 1 Aa\nat 4294967295\nfail 1\n";
 
 /// Texts, each with the number of its first bad line, or 0 if it is a script.
 static TEXTS: [(&str, u64); 64] = [

@@ -20,19 +20,23 @@ static LINES: [(&str, &str); 26] = [
     ),
     (
         "replay",
-        "Some(Replay(Options { workers: 1, most: 1000, idle: None, until: None, form: Plain, timers: List }))",
+        "Some(Replay(Options { workers: 1, most: 1000, idle: None, until: None,\
+          \x20form: Plain, timers: List }))",
     ),
     (
         "replay --workers=2",
-        "Some(Replay(Options { workers: 2, most: 1000, idle: None, until: None, form: Plain, timers: List }))",
+        "Some(Replay(Options { workers: 2, most: 1000, idle: None, until: None,\
+          \x20form: Plain, timers: List }))",
     ),
     (
         "replay --journal --most 5 --timers wheel",
-        "Some(Replay(Options { workers: 1, most: 5, idle: None, until: None, form: Journal, timers: Wheel }))",
+        "Some(Replay(Options { workers: 1, most: 5, idle: None, until: None, fo\
+          rm: Journal, timers: Wheel }))",
     ),
     (
         "replay --timers=heap --grouped --until 3 --idle 100 --workers 64",
-        "Some(Replay(Options { workers: 64, most: 1000, idle: Some(100), until: Some(3), form: Grouped, timers: Heap }))",
+        "Some(Replay(Options { workers: 64, most: 1000, idle: Some(100), until:\
+          \x20Some(3), form: Grouped, timers: Heap }))",
     ),
     ("replay --workers 0", "None"),
     ("replay --workers 01", "None"),
@@ -45,11 +49,13 @@ static LINES: [(&str, &str); 26] = [
     ("replay --help", "None"),
     (
         "serve --port 7000",
-        "Some(Serve { port: 7000, options: Options { workers: 1, most: 1000, idle: None, until: None, form: Plain, timers: List } })",
+        "Some(Serve { port: 7000, options: Options { workers: 1, most: 1000, id\
+          le: None, until: None, form: Plain, timers: List } })",
     ),
     (
         "serve --until 1 --port=65535 --most 4096",
-        "Some(Serve { port: 65535, options: Options { workers: 1, most: 4096, idle: None, until: Some(1), form: Plain, timers: List } })",
+        "Some(Serve { port: 65535, options: Options { workers: 1, most: 4096, i\
+          dle: None, until: Some(1), form: Plain, timers: List } })",
     ),
     ("serve", "None"),
     ("serve --port 65536", "None"),

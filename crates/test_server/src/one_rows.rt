@@ -69,7 +69,8 @@ static INPUTS: &[(&[&[u8]], &[u8])] = &[
     ),
     (
         &[
-            b"\0\0\0\0\0\0\0\x1e\0\0\0\x04\0\0\0\x07\0\0\0\x01\0\0\0\x02\0\0\0\x02hi\xff\xff\xff\xff\xff\xff\xff\xff",
+            b"\0\0\0\0\0\0\0\x1e\0\0\0\x04\0\0\0\x07\0\0\0\x01\0\0\0\x02\0\0\0\x02hi\
+              \xff\xff\xff\xff\xff\xff\xff\xff",
         ],
         LINES,
     ),
@@ -275,8 +276,9 @@ fn the_longest_message_fits(rt: HostRuntime) -> Result<(), Fail> {
 }
 
 /// The journal of a run on one record, which is the only handler.
-const ENTRIES: &str =
-    "most 1\nopened 0 r--\npolled 0\nready 0 read\nstarted 2\nreturned 2 again piece 0 30 1 4:7:1:2:6869\nstarted 4\nreturned 4 close piece 0 0 0\nclosed 0 end 0 end\npolled 0\nended\n";
+const ENTRIES: &str = "most 1\nopened 0 r--\npolled 0\nready 0 read\nstarted 2\n\
+      returned 2 again piece 0 30 1 4:7:1:2:6869\nstarted 4\nreturned 4 close piece 0 0 0\n\
+      closed 0 end 0 end\npolled 0\nended\n";
 
 /// Whether the text of a journal is this.
 fn is_told(journal: &[Entry<ServerNote>], output: MemSink, text: &str) -> bool {

@@ -13,7 +13,8 @@ use std::time::Clock;
 
 /// A connection that sends a record in two pieces and ends.
 const RECORD: &str =
-    "open 0\ndata 0 000000000000001600000004\ndata 0 000000070000000100000002000000026869\nshut 0\n";
+    "open 0\ndata 0 000000000000001600000004\ndata 0 000000070000000100000002000000026869\n\
+      shut 0\n";
 
 /// One that ends, and one that comes later.
 const TWO: &str = "open 0\nshut 0\nat 5\nopen 1\n";

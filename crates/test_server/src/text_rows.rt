@@ -11,11 +11,15 @@ use std::time::Clock;
 /// The journal of an acceptor and one connection that sends a record and ends, up to its first
 /// read.
 const OPENED: &[u8] =
-    b"opened 0 r--\npolled 0\nready 0 read\nstarted 2\nreturned 2 again accepted 0\nopened 1 r--\nstarted 4\nreturned 4 keep none\npolled 0\nready 1 read\nready 1 read\nstarted 9\n";
+    b"opened 0 r--\npolled 0\nready 0 read\nstarted 2\nreturned 2 again accepted 0\n\
+      opened 1 r--\nstarted 4\nreturned 4 keep none\npolled 0\nready 1 read\nready 1 read\n\
+      started 9\n";
 
 /// The rest of it.
 const CLOSED: &[u8] =
-    b"returned 9 again piece 0 30 1 4:7:1:2:6869\nstarted 10\nreturned 10 keep piece 0 0 0\nstarted 12\nreturned 12 close piece 0 0 0\nclosed 1 end 0 end\npolled 0\nended\nremoved 0\nclosed 0 shut\n";
+    b"returned 9 again piece 0 30 1 4:7:1:2:6869\nstarted 10\nreturned 10 keep piece 0 0 0\n\
+      started 12\nreturned 12 close piece 0 0 0\nclosed 1 end 0 end\npolled 0\nended\nremoved 0\n\
+      closed 0 shut\n";
 
 /// A run of a command: its input in pieces, what it writes, its status and the number beside it.
 type Row<'a> = (&'a [&'a [u8]], &'a [u8], u8, u64);

@@ -11,7 +11,8 @@ use std::thread::Threads;
 
 /// A connection that sends a record in two pieces and ends.
 const RECORD: &str =
-    "open 0\ndata 0 000000000000001600000004\ndata 0 000000070000000100000002000000026869\nshut 0\n";
+    "open 0\ndata 0 000000000000001600000004\ndata 0 000000070000000100000002000000026869\n\
+      shut 0\n";
 
 /// What is written for it.
 const LINES: &[u8] = b"0 1,2 7 LM_DEBUG: hi\n0 closed: end\n";

@@ -14,23 +14,42 @@ use std::test::Fail;
 static JOURNALS: &[(u64, &str)] = &[
     (
         1,
-        "most 1\nopened 0 r--\npolled 0\nready 0 read\nstarted 2\nreturned 2 again piece 0 30 1 4:7:1:2:6869\nstarted 4\nreturned 4 close piece 0 0 0\nclosed 0 end 0 end\npolled 0\nended\n",
+        "most 1\nopened 0 r--\npolled 0\nready 0 read\nstarted 2\n\
+          returned 2 again piece 0 30 1 4:7:1:2:6869\nstarted 4\nreturned 4 close piece 0 0 0\n\
+          closed 0 end 0 end\npolled 0\nended\n",
     ),
     (
         1001,
-        "most 1001\nopened 0 r--\npolled 0\nready 0 read\nstarted 2\nreturned 2 again accepted 0\nopened 1 r--\nstarted 4\nreturned 4 keep none\npolled 0\nready 1 read\nready 1 read\nstarted 9\nreturned 9 again piece 0 30 1 4:7:1:2:6869\nstarted 10\nreturned 10 keep piece 0 0 0\nstarted 12\nreturned 12 close piece 0 0 0\nclosed 1 end 0 end\npolled 0\nended\nremoved 0\nclosed 0 shut\n",
+        "most 1001\nopened 0 r--\npolled 0\nready 0 read\nstarted 2\n\
+          returned 2 again accepted 0\nopened 1 r--\nstarted 4\nreturned 4 keep none\npolled 0\n\
+          ready 1 read\nready 1 read\nstarted 9\nreturned 9 again piece 0 30 1 4:7:1:2:6869\n\
+          started 10\nreturned 10 keep piece 0 0 0\nstarted 12\nreturned 12 close piece 0 0 0\n\
+          closed 1 end 0 end\npolled 0\nended\nremoved 0\nclosed 0 shut\n",
     ),
     (
         2,
-        "most 2\nopened 0 r--\npolled 0\nready 0 read\nready 0 read\nstarted 2\nreturned 2 again accepted 0\nopened 1 r--\nstarted 3\nreturned 3 keep none\nstarted 5\nreturned 5 again accepted 1\nrefused 2 no end 1 refused\nstarted 10\nreturned 10 keep none\npolled 0\nready 1 read\nstarted 15\nreturned 15 close piece 0 0 0\nclosed 1 end 0 end\npolled 0\nended\nremoved 0\nclosed 0 shut\n",
+        "most 2\nopened 0 r--\npolled 0\nready 0 read\nready 0 read\nstarted 2\n\
+          returned 2 again accepted 0\nopened 1 r--\nstarted 3\nreturned 3 keep none\nstarted 5\n\
+          returned 5 again accepted 1\nrefused 2 no end 1 refused\nstarted 10\n\
+          returned 10 keep none\npolled 0\nready 1 read\nstarted 15\n\
+          returned 15 close piece 0 0 0\nclosed 1 end 0 end\npolled 0\nended\nremoved 0\n\
+          closed 0 shut\n",
     ),
     (
         1001,
-        "most 1001\nopened 0 r--\npolled 0\nready 0 read\nstarted 2\nreturned 2 again accepted 0\nopened 1 r--\nstarted 4\nreturned 4 keep none\npolled 0\nready 1 read\nstarted 9\nreturned 9 close piece 0 0 0\nclosed 1 end 0 end\nposted 0 except 0 0\nstarted 13\nreturned 13 keep none\nended\nremoved 0\nclosed 0 shut\n",
+        "most 1001\nopened 0 r--\npolled 0\nready 0 read\nstarted 2\n\
+          returned 2 again accepted 0\nopened 1 r--\nstarted 4\nreturned 4 keep none\npolled 0\n\
+          ready 1 read\nstarted 9\nreturned 9 close piece 0 0 0\nclosed 1 end 0 end\n\
+          posted 0 except 0 0\nstarted 13\nreturned 13 keep none\nended\nremoved 0\n\
+          closed 0 shut\n",
     ),
     (
         1001,
-        "most 1001\nopened 0 r--\npolled 0\nready 0 read\nstarted 2\nreturned 2 again accepted 0\nopened 1 r--\nscheduled 0 1 100 100\nstarted 4\nreturned 4 keep none\npolled 100\ndue 0\nready 1 read\nstarted 10\nreturned 10 close piece 0 0 0\nclosed 1 end 0 idle\npolled 100\nended\nremoved 0\nclosed 0 shut\n",
+        "most 1001\nopened 0 r--\npolled 0\nready 0 read\nstarted 2\n\
+          returned 2 again accepted 0\nopened 1 r--\nscheduled 0 1 100 100\nstarted 4\n\
+          returned 4 keep none\npolled 100\ndue 0\nready 1 read\nstarted 10\n\
+          returned 10 close piece 0 0 0\nclosed 1 end 0 idle\npolled 100\nended\nremoved 0\n\
+          closed 0 shut\n",
     ),
 ];
 
@@ -150,7 +169,8 @@ static PIECES: &[(&str, u64)] = &[
     ("most 1\nreturned 0 keep piece 0 30 1 +4:7:1:2:\n", 2),
     ("most 1\nreturned 0 keep piece 0 30 1 --4:7:1:2:\n", 2),
     (
-        "most 1\nreturned 0 keep piece 0 30 1 2147483647:-2147483648:9223372036854775807:2147483647:\n",
+        "most 1\nreturned 0 keep piece 0 30 1 2147483647:-2147483648:922337203685477580\
+          7:2147483647:\n",
         0,
     ),
     (

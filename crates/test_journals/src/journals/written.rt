@@ -178,8 +178,9 @@ static ONE_CONNECTION: &[Step] = &[
 ];
 
 /// Its text.
-const WRITTEN: &[u8] =
-    b"most 1\nopened 0 r--\npolled 0\nready 0 read\nstarted 2\nreturned 2 again piece 0 30 1 4:7:1:2:6869\nstarted 4\nreturned 4 close piece 0 0 0\nclosed 0 end 0 end\npolled 0\nended\n";
+const WRITTEN: &[u8] = b"most 1\nopened 0 r--\npolled 0\nready 0 read\nstarted 2\n\
+      returned 2 again piece 0 30 1 4:7:1:2:6869\nstarted 4\nreturned 4 close piece 0 0 0\n\
+      closed 0 end 0 end\npolled 0\nended\n";
 
 #[test]
 fn the_journal_of_one_connection(rt: HostRuntime) -> Result<(), Fail> {

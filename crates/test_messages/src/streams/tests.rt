@@ -233,8 +233,8 @@ fn a_record_becomes_its_line(rt: HostRuntime) -> Result<(), Fail> {
     let alloc = rt.alloc();
     let separating = separating(alloc, 1)?;
     let formatting = formatting(alloc, 2)?;
-    let bytes =
-        b"\x00\x00\x00\x00\x00\x00\x00\x16\x00\x00\x00\x04\x00\x00\x00\x07\x00\x00\x00\x01\x00\x00\x00\x02\x00\x00\x00\x02hi";
+    let bytes = b"\x00\x00\x00\x00\x00\x00\x00\x16\x00\x00\x00\x04\x00\x00\x00\x07\x00\
+          \x00\x00\x01\x00\x00\x00\x02\x00\x00\x00\x02hi";
     let record = message_of(alloc, bytes, 3)?;
     let mut stream = Stream::new(alloc);
     push_one(&rt, &mut stream, separating);

@@ -49,25 +49,42 @@ static JOURNALS: &[Row] = &[
         "open 0\ndata 0 000000000000001600000004000000070000000100000002000000026869\nshut 0\n",
         PLAIN,
         RunEnd::Over,
-        "most 1001\nopened 0 r--\npolled 0\nready 0 read\nstarted 2\nreturned 2 again accepted 0\nopened 1 r--\nstarted 4\nreturned 4 keep none\npolled 0\nready 1 read\nready 1 read\nstarted 9\nreturned 9 again piece 0 30 1 4:7:1:2:6869\nstarted 10\nreturned 10 keep piece 0 0 0\nstarted 12\nreturned 12 close piece 0 0 0\nclosed 1 end 0 end\npolled 0\nended\nremoved 0\nclosed 0 shut\n",
+        "most 1001\nopened 0 r--\npolled 0\nready 0 read\nstarted 2\n\
+          returned 2 again accepted 0\nopened 1 r--\nstarted 4\nreturned 4 keep none\npolled 0\n\
+          ready 1 read\nready 1 read\nstarted 9\nreturned 9 again piece 0 30 1 4:7:1:2:6869\n\
+          started 10\nreturned 10 keep piece 0 0 0\nstarted 12\nreturned 12 close piece 0 0 0\n\
+          closed 1 end 0 end\npolled 0\nended\nremoved 0\nclosed 0 shut\n",
     ),
     (
         "open 0\nopen 1\nshut 0\n",
         ALONE,
         RunEnd::Over,
-        "most 2\nopened 0 r--\npolled 0\nready 0 read\nready 0 read\nstarted 2\nreturned 2 again accepted 0\nopened 1 r--\nstarted 3\nreturned 3 keep none\nstarted 5\nreturned 5 again accepted 1\nrefused 2 no end 1 refused\nstarted 10\nreturned 10 keep none\npolled 0\nready 1 read\nstarted 15\nreturned 15 close piece 0 0 0\nclosed 1 end 0 end\npolled 0\nended\nremoved 0\nclosed 0 shut\n",
+        "most 2\nopened 0 r--\npolled 0\nready 0 read\nready 0 read\nstarted 2\n\
+          returned 2 again accepted 0\nopened 1 r--\nstarted 3\nreturned 3 keep none\nstarted 5\n\
+          returned 5 again accepted 1\nrefused 2 no end 1 refused\nstarted 10\n\
+          returned 10 keep none\npolled 0\nready 1 read\nstarted 15\n\
+          returned 15 close piece 0 0 0\nclosed 1 end 0 end\npolled 0\nended\nremoved 0\n\
+          closed 0 shut\n",
     ),
     (
         "open 0\nshut 0\nat 5\nopen 1\n",
         UNTIL_ONE,
         RunEnd::Stopped,
-        "most 1001\nopened 0 r--\npolled 0\nready 0 read\nstarted 2\nreturned 2 again accepted 0\nopened 1 r--\nstarted 4\nreturned 4 keep none\npolled 0\nready 1 read\nstarted 9\nreturned 9 close piece 0 0 0\nclosed 1 end 0 end\nposted 0 except 0 0\nstarted 13\nreturned 13 keep none\nended\nremoved 0\nclosed 0 shut\n",
+        "most 1001\nopened 0 r--\npolled 0\nready 0 read\nstarted 2\n\
+          returned 2 again accepted 0\nopened 1 r--\nstarted 4\nreturned 4 keep none\npolled 0\n\
+          ready 1 read\nstarted 9\nreturned 9 close piece 0 0 0\nclosed 1 end 0 end\n\
+          posted 0 except 0 0\nstarted 13\nreturned 13 keep none\nended\nremoved 0\n\
+          closed 0 shut\n",
     ),
     (
         "open 0\nat 100\ndata 0 000000000000001600000004000000070000000100000002000000026869\n",
         IDLE,
         RunEnd::Over,
-        "most 1001\nopened 0 r--\npolled 0\nready 0 read\nstarted 2\nreturned 2 again accepted 0\nopened 1 r--\nscheduled 0 1 100 100\nstarted 4\nreturned 4 keep none\npolled 100\ndue 0\nready 1 read\nstarted 10\nreturned 10 close piece 0 0 0\nclosed 1 end 0 idle\npolled 100\nended\nremoved 0\nclosed 0 shut\n",
+        "most 1001\nopened 0 r--\npolled 0\nready 0 read\nstarted 2\n\
+          returned 2 again accepted 0\nopened 1 r--\nscheduled 0 1 100 100\nstarted 4\n\
+          returned 4 keep none\npolled 100\ndue 0\nready 1 read\nstarted 10\n\
+          returned 10 close piece 0 0 0\nclosed 1 end 0 idle\npolled 100\nended\nremoved 0\n\
+          closed 0 shut\n",
     ),
 ];
 
@@ -78,7 +95,8 @@ static JOURNALS: &[Row] = &[
 /// nothing comes of nothing.
 static LINES: &[Row] = &[
     (
-        "open 0\ndata 0 000000000000001600000004\ndata 0 000000070000000100000002000000026869\nshut 0\n",
+        "open 0\ndata 0 000000000000001600000004\ndata 0 000000070000000100000002000000026869\n\
+          shut 0\n",
         PLAIN,
         RunEnd::Over,
         "0 1,2 7 LM_DEBUG: hi\n0 closed: end\n",
@@ -90,7 +108,8 @@ static LINES: &[Row] = &[
         "0 closed: idle\n",
     ),
     (
-        "open 0\nat 60\ndata 0 000000000000001600000004000000070000000100000002000000026869\nat 350\nquiet\n",
+        "open 0\nat 60\ndata 0 000000000000001600000004000000070000000100000002000000026869\n\
+          at 350\nquiet\n",
         IDLE,
         RunEnd::Over,
         "0 1,2 7 LM_DEBUG: hi\n0 closed: idle\n",
@@ -108,7 +127,8 @@ static LINES: &[Row] = &[
         "0 closed: end\n",
     ),
     (
-        "open 0\nfail listener\ndata 0 000000000000001600000004000000070000000100000002000000026869\nfail 0",
+        "open 0\nfail listener\n\
+          data 0 000000000000001600000004000000070000000100000002000000026869\nfail 0",
         PLAIN,
         RunEnd::Over,
         "0 1,2 7 LM_DEBUG: hi\n0 closed: failed\n",

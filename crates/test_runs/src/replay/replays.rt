@@ -15,19 +15,22 @@ static ROWS: [Row; 15] = [
     ("replay --workers=2", "", ReplayEnd::Done, ""),
     (
         "replay",
-        "open 0\ndata 0 000000000000001600000004\ndata 0 000000070000000100000002000000026869\nshut 0\n",
+        "open 0\ndata 0 000000000000001600000004\ndata 0 000000070000000100000002000000026869\n\
+          shut 0\n",
         ReplayEnd::Done,
         "0 1,2 7 LM_DEBUG: hi\n0 closed: end\n",
     ),
     (
         "replay --timers heap --workers 2",
-        "open 0\ndata 0 000000000000001600000004\ndata 0 000000070000000100000002000000026869\nshut 0\n",
+        "open 0\ndata 0 000000000000001600000004\ndata 0 000000070000000100000002000000026869\n\
+          shut 0\n",
         ReplayEnd::Done,
         "0 1,2 7 LM_DEBUG: hi\n0 closed: end\n",
     ),
     (
         "replay --idle 100 --timers wheel",
-        "open 0\nat 60\ndata 0 000000000000001600000004000000070000000100000002000000026869\nat 350\nquiet\n",
+        "open 0\nat 60\ndata 0 000000000000001600000004000000070000000100000002000000026869\n\
+          at 350\nquiet\n",
         ReplayEnd::Done,
         "0 1,2 7 LM_DEBUG: hi\n0 closed: idle\n",
     ),
@@ -59,11 +62,16 @@ static ROWS: [Row; 15] = [
         "replay --journal",
         "open 0\ndata 0 000000000000001600000004000000070000000100000002000000026869\nshut 0\n",
         ReplayEnd::Done,
-        "most 1001\nopened 0 r--\npolled 0\nready 0 read\nstarted 2\nreturned 2 again accepted 0\nopened 1 r--\nstarted 4\nreturned 4 keep none\npolled 0\nready 1 read\nready 1 read\nstarted 9\nreturned 9 again piece 0 30 1 4:7:1:2:6869\nstarted 10\nreturned 10 keep piece 0 0 0\nstarted 12\nreturned 12 close piece 0 0 0\nclosed 1 end 0 end\npolled 0\nended\nremoved 0\nclosed 0 shut\n",
+        "most 1001\nopened 0 r--\npolled 0\nready 0 read\nstarted 2\n\
+          returned 2 again accepted 0\nopened 1 r--\nstarted 4\nreturned 4 keep none\npolled 0\n\
+          ready 1 read\nready 1 read\nstarted 9\nreturned 9 again piece 0 30 1 4:7:1:2:6869\n\
+          started 10\nreturned 10 keep piece 0 0 0\nstarted 12\nreturned 12 close piece 0 0 0\n\
+          closed 1 end 0 end\npolled 0\nended\nremoved 0\nclosed 0 shut\n",
     ),
     (
         "replay",
-        "open 0\nfail listener\ndata 0 000000000000001600000004000000070000000100000002000000026869\nfail 0\n",
+        "open 0\nfail listener\n\
+          data 0 000000000000001600000004000000070000000100000002000000026869\nfail 0\n",
         ReplayEnd::Done,
         "0 1,2 7 LM_DEBUG: hi\n0 closed: failed\n",
     ),

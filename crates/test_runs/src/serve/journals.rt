@@ -59,7 +59,8 @@ type Row = (&'static str, Asked, Ending, &'static str);
 /// nothing comes of nothing.
 static LINES: &[Row] = &[
     (
-        "open 0\ndata 0 000000000000001600000004\ndata 0 000000070000000100000002000000026869\nshut 0\n",
+        "open 0\ndata 0 000000000000001600000004\ndata 0 000000070000000100000002000000026869\n\
+          shut 0\n",
         PLAIN,
         Ending::Over,
         "0 1,2 7 LM_DEBUG: hi\n0 closed: end\n",
@@ -71,7 +72,8 @@ static LINES: &[Row] = &[
         "0 closed: idle\n",
     ),
     (
-        "open 0\nat 60\ndata 0 000000000000001600000004000000070000000100000002000000026869\nat 350\nquiet\n",
+        "open 0\nat 60\ndata 0 000000000000001600000004000000070000000100000002000000026869\n\
+          at 350\nquiet\n",
         IDLE,
         Ending::Over,
         "0 1,2 7 LM_DEBUG: hi\n0 closed: idle\n",
@@ -89,7 +91,8 @@ static LINES: &[Row] = &[
         "0 closed: end\n",
     ),
     (
-        "open 0\nfail listener\ndata 0 000000000000001600000004000000070000000100000002000000026869\nfail 0",
+        "open 0\nfail listener\n\
+          data 0 000000000000001600000004000000070000000100000002000000026869\nfail 0",
         PLAIN,
         Ending::Over,
         "0 1,2 7 LM_DEBUG: hi\n0 closed: failed\n",

@@ -11,11 +11,13 @@ use std::test::Fail;
 
 /// The first rounds of one connection and seed 0.
 const BEGINNING: &[u8] =
-    b"open 0\nat 0\ndata 0 0000000000\ndata 0 00001500000001000003e800000000000000000000000100\nat 1\ndata 0 010101011c\n";
+    b"open 0\nat 0\ndata 0 0000000000\ndata 0 00001500000001000003e800000000000000000000000100\n\
+      at 1\ndata 0 010101011c\n";
 
 /// Its last lines.
-const ENDING: &[u8] =
-    b"at 124\ndata 0 007c7c7c00\ndata 0 00003100000008000003e80000007c000000000000001d75767778797a6162636465666768696a6b6c6d6e6f7071727374757600\nshut 0\n";
+const ENDING: &[u8] = b"at 124\ndata 0 007c7c7c00\n\
+      data 0 00003100000008000003e80000007c000000000000001d75767778797a61626\
+      36465666768696a6b6c6d6e6f7071727374757600\nshut 0\n";
 
 fn generated(alloc: Global, n: u64, seed: u64) -> Result<Bytes, Fail>
     requires some { 1 ≤ n }

@@ -2,7 +2,9 @@ use Rattle.std.proofs.Common.{◌≡◌, ◌∙◌, ◌<◌, ◌^◌, rules, ari
 use Rattle.std.proofs.lemmas.Fmt.{parse-decimal}
 use Rattle.cmd_line.proofs.Spelled.{spelled, unspelled}
 use Rattle.cmd_line.proofs.number.number_in.Goals as goal
-use Rattle.cmd_line.proofs.number.number_in.Goals.{else-eq-via-then-eq+then-least-number+else-number-most}
+use Rattle.cmd_line.proofs.number.number_in.Goals.{
+  else-eq-via-then-eq+then-least-number+else-number-most,
+}
 use Rattle.cmd_line.proofs.number.number_in.Goals.{else-eq-via-then-eq+else-least-number}
 use Rattle.cmd_line.proofs.number.number_in.Goals.{else-eq-via-else-eq}
 

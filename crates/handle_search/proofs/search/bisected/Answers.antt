@@ -2,7 +2,9 @@ use Rattle.std.proofs.Common.{arith, ap, ◌∙◌}
 use Rattle.std.proofs.lemmas.List.{get_or_default}
 use Rattle.handle_search.proofs.Rising.{is_absent}
 use Rattle.handle_search.proofs.search.bisected.Goals as goal
-use Rattle.handle_search.proofs.search.bisected.Goals.{else-place-items-via-then-place-items+else-handle}
+use Rattle.handle_search.proofs.search.bisected.Goals.{
+  else-place-items-via-then-place-items+else-handle,
+}
 use Rattle.handle_search.proofs.search.bisected.Goals.{else-place-items-via-else-place-items}
 
 pub returns-else-place-items : goal.returns-else-place-items

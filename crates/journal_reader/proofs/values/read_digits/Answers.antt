@@ -16,7 +16,8 @@ loop-byte-preserved c =
     search rules in
     (rw (is, add-one) next, omega (arith, c.in_ok-number.ensures))
 
-pub returns-then-not-is_ascii_digit-clause-beyond : goal.returns-then-not-is_ascii_digit-clause-beyond
+pub returns-then-not-is_ascii_digit-clause-beyond
+    : goal.returns-then-not-is_ascii_digit-clause-beyond
 returns-then-not-is_ascii_digit-clause-beyond c = λ none all.
     let digit = no_digit c.args.word.now c.loop-byte.byte-index c.loop-byte.number (omega arith)
     c.loop-byte.invariant.0 all in

@@ -2,7 +2,9 @@ use Rattle.std.proofs.Common.{◌≡◌, ◌<◌, length, get_or, arith}
 use Rattle.std.proofs.lemmas.Bool.Decides.{nat_tests}
 use Rattle.journal_reader.proofs.Numbers.{no_digits, leading_zero, read_is}
 use Rattle.journal_reader.proofs.values.read_number.Goals as goal
-use Rattle.journal_reader.proofs.values.read_number.Goals.{else-word-eq48-via-then-word-eq48+else-word-gt1}
+use Rattle.journal_reader.proofs.values.read_number.Goals.{
+  else-word-eq48-via-then-word-eq48+else-word-gt1,
+}
 use Rattle.journal_reader.proofs.values.read_number.Goals.{else-word-eq48-via-else-word-eq48}
 
 pub returns-then-is_empty : goal.returns-then-is_empty

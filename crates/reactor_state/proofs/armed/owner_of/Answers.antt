@@ -3,7 +3,9 @@ use Rattle.std.proofs.lemmas.List.{get_or_default}
 use Rattle.reactor_state.specs.Tables.{timer_of}
 use Rattle.reactor_state.proofs.Rising.{not_there}
 use Rattle.reactor_state.proofs.armed.owner_of.Goals as goal
-use Rattle.reactor_state.proofs.armed.owner_of.Goals.{else-place-owners-via-then-place-owners+else-owners-place}
+use Rattle.reactor_state.proofs.armed.owner_of.Goals.{
+  else-place-owners-via-then-place-owners+else-owners-place,
+}
 use Rattle.reactor_state.proofs.armed.owner_of.Goals.{else-place-owners-via-else-place-owners}
 
 pub returns-else-place-owners : goal.returns-else-place-owners

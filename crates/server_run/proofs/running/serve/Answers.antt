@@ -31,7 +31,19 @@ share-requires g c κs within =
                           search rules,
                           (
                             search rules,
-                            (search rules, (search rules, (fine, (terms, (stands, c.in-Ok.ensures.size))))),
+                            (
+                              search rules,
+                              (
+                                search rules,
+                                (
+                                  fine,
+                                  (
+                                    terms,
+                                    (stands, c.in-Ok.ensures.size),
+                                  ),
+                                ),
+                              ),
+                            ),
                           ),
                         ),
                       ),

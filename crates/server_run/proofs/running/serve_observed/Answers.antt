@@ -8,9 +8,66 @@ share_observed-requires g c κs within =
     let start = c.requires.1.1.1.1.1.1.1.1.1.1.1.1.1.1.1.1.1.1.0 in
     let workers = c.requires.1.1.1.1.1.1.1.1.1.1.1.1.1.1.1.1.1.1.1 in
     let stands = c.in-Ok.ensures.opens g.terms start in
-    let terms = start.terms in
-    (search rules, (search rules, (search rules, (search rules, (search rules, (search rules, (search rules, (search rules, (search rules, (search rules, (search rules, (search rules, (search rules, (search rules, (search rules, (search rules, (fine, (terms, (stands, (c.in-Ok.ensures.size, workers))))))))))))))))))))
+    let terms = start.terms in (
+      search rules,
+      (
+        search rules,
+        (
+          search rules,
+          (
+            search rules,
+            (
+              search rules,
+              (
+                search rules,
+                (
+                  search rules,
+                  (
+                    search rules,
+                    (
+                      search rules,
+                      (
+                        search rules,
+                        (
+                          search rules,
+                          (
+                            search rules,
+                            (
+                              search rules,
+                              (
+                                search rules,
+                                (
+                                  search rules,
+                                  (
+                                    search rules,
+                                    (
+                                      fine,
+                                      (
+                                        terms,
+                                        (
+                                          stands,
+                                          (c.in-Ok.ensures.size, workers),
+                                        ),
+                                      ),
+                                    ),
+                                  ),
+                                ),
+                              ),
+                            ),
+                          ),
+                        ),
+                      ),
+                    ),
+                  ),
+                ),
+              ),
+            ),
+          ),
+        ),
+      ),
+    )
 
 pub returns-in-Ok-clause-causes : goal.returns-in-Ok-clause-causes
-returns-in-Ok-clause-causes g c = causes_of _ _ _ c.in-Ok.core c.share_observed.result c.in-Ok.ensures.counts
+returns-in-Ok-clause-causes g c =
+    causes_of _ _ _ c.in-Ok.core c.share_observed.result c.in-Ok.ensures.counts
     c.share_observed.ensures.causes

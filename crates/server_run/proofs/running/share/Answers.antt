@@ -9,8 +9,64 @@ share_observed-requires g c κs within =
     let terms = c.requires.1.1.1.1.1.1.1.1.1.1.1.1.1.1.1.0 in
     let stands = c.requires.1.1.1.1.1.1.1.1.1.1.1.1.1.1.1.1.0 in
     let size = c.requires.1.1.1.1.1.1.1.1.1.1.1.1.1.1.1.1.1 in
-    let some_workers = fine.workers in
-    (search rules, (search rules, (search rules, (search rules, (search rules, (search rules, (search rules, (search rules, (search rules, (search rules, (search rules, (search rules, (search rules, (search rules, (search rules, (search rules, (fine, (terms, (stands, (size, omega (arith, some_workers, c.in-Ok.ensures)))))))))))))))))))))
+    let some_workers = fine.workers in (
+      search rules,
+      (
+        search rules,
+        (
+          search rules,
+          (
+            search rules,
+            (
+              search rules,
+              (
+                search rules,
+                (
+                  search rules,
+                  (
+                    search rules,
+                    (
+                      search rules,
+                      (
+                        search rules,
+                        (
+                          search rules,
+                          (
+                            search rules,
+                            (
+                              search rules,
+                              (
+                                search rules,
+                                (
+                                  search rules,
+                                  (
+                                    search rules,
+                                    (
+                                      fine,
+                                      (
+                                        terms,
+                                        (
+                                          stands,
+                                          (size, omega (arith, some_workers, c.in-Ok.ensures)),
+                                        ),
+                                      ),
+                                    ),
+                                  ),
+                                ),
+                              ),
+                            ),
+                          ),
+                        ),
+                      ),
+                    ),
+                  ),
+                ),
+              ),
+            ),
+          ),
+        ),
+      ),
+    )
 
 pub finish-requires : goal.finish-requires
 finish-requires g c =

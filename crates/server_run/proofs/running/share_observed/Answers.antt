@@ -46,7 +46,8 @@ run_workers_observed-ran-requires-clause-may g c κs within =
     }
 
 pub finish-requires : goal.finish-requires
-finish-requires g c = closed_at_rest _ g.terms c.close.result (known_by c.run_workers_observed-ran.new.root)
+finish-requires g c =
+    closed_at_rest _ g.terms c.close.result (known_by c.run_workers_observed-ran.new.root)
     (poster_view (poster_of c.run_workers_observed-ran.new.root)) c.close.ensures
     c.run_workers_observed-ran.ensures.worker.idle.1
 
@@ -58,7 +59,8 @@ returns-in-Ok-clause-run g c =
     let runs = as_many _ _ many c.run_workers_observed-ran.ensures.runs in
     let d = was_led _ g.terms c.args.asked c.run_workers_observed-ran.result (known_by c.in-Ok.root)
     (known_by c.run_workers_observed-ran.new.root) (poster_view (poster_of c.in-Ok.root))
-    (poster_view (poster_of c.run_workers_observed-ran.new.root)) c.close.result _ c.notice-until.result
+    (poster_view (poster_of c.run_workers_observed-ran.new.root)) c.close.result _
+    c.notice-until.result
     c.in-Ok.ensures.root c.in-Ok.ensures.poster c.notice-until.ensures fine.workers
     runs.one runs.several
     runs.alone c.run_workers_observed-ran.ensures.worker.kin
@@ -68,7 +70,8 @@ returns-in-Ok-clause-run g c =
     runs.posts c.close.ensures in
     leaves_led _ g.terms c.args.asked c.run_workers_observed-ran.result (known_by c.in-Ok.root)
     (known_by c.run_workers_observed-ran.new.root) (poster_view (poster_of c.in-Ok.root))
-    (poster_view (poster_of c.run_workers_observed-ran.new.root)) c.close.result _ c.notice-until.result
+    (poster_view (poster_of c.run_workers_observed-ran.new.root)) c.close.result _
+    c.notice-until.result
     d
     g.Q.TimerQueue.timers c.finish.result
     (c.finish.ensures.named ∙ ap (λ how.
@@ -85,7 +88,8 @@ returns-in-Ok-clause-causes g c =
     let runs = as_many _ _ many c.run_workers_observed-ran.ensures.runs in
     let d = was_led _ g.terms c.args.asked c.run_workers_observed-ran.result (known_by c.in-Ok.root)
     (known_by c.run_workers_observed-ran.new.root) (poster_view (poster_of c.in-Ok.root))
-    (poster_view (poster_of c.run_workers_observed-ran.new.root)) c.close.result _ c.notice-until.result
+    (poster_view (poster_of c.run_workers_observed-ran.new.root)) c.close.result _
+    c.notice-until.result
     c.in-Ok.ensures.root c.in-Ok.ensures.poster c.notice-until.ensures fine.workers
     runs.one runs.several
     runs.alone c.run_workers_observed-ran.ensures.worker.kin
@@ -95,7 +99,8 @@ returns-in-Ok-clause-causes g c =
     runs.posts c.close.ensures in
     causes_led _ g.terms c.args.asked c.run_workers_observed-ran.result (known_by c.in-Ok.root)
     (known_by c.run_workers_observed-ran.new.root) (poster_view (poster_of c.in-Ok.root))
-    (poster_view (poster_of c.run_workers_observed-ran.new.root)) c.close.result _ c.notice-until.result
+    (poster_view (poster_of c.run_workers_observed-ran.new.root)) c.close.result _
+    c.notice-until.result
     d
     c.args.core refl c.finish.result c.finish.ensures.counts
     (c.finish.ensures.named ∙ ap (λ how.

@@ -3,7 +3,9 @@ use Rattle.std.proofs.lemmas.List.{get_or_default}
 use Rattle.timer_index.specs.declared.index.Numbered.{Numbered}
 use Rattle.timer_index.proofs.Entries.{not_numbered, one_entry}
 use Rattle.timer_index.proofs.index.entry_of.Goals as goal
-use Rattle.timer_index.proofs.index.entry_of.Goals.{else-place-index-via-then-place-index+else-index-place}
+use Rattle.timer_index.proofs.index.entry_of.Goals.{
+  else-place-index-via-then-place-index+else-index-place,
+}
 use Rattle.timer_index.proofs.index.entry_of.Goals.{else-place-index-via-else-place-index}
 
 pub returns-then-index-place : goal.returns-then-index-place

@@ -5,7 +5,8 @@ use Rattle.timer_queue.proofs.row.place_for.Goals as goal
 
 pub returns-then-comes_before-clause-place : goal.returns-then-comes_before-clause-place
 returns-then-comes_before-clause-place c =
-    rising_insert c.args.t.now c.args.timers.now c.count_before.result c.count_before.ensures.within (
+    rising_insert c.args.t.now c.args.timers.now c.count_before.result
+    c.count_before.ensures.within (
       λ k d l m. ap not (c.count_before.ensures.front k d l m),
       λ k d l m. ap not (c.count_before.ensures.back k d l m),
     )

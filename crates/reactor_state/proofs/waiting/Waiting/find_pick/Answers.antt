@@ -5,11 +5,17 @@ use Rattle.reactor_state.specs.Tables.{Queues, queues, queue_of, is_free}
 use Rattle.reactor_state.proofs.Picked.{free_in, picked, placed_in, if_some, none_in}
 use Rattle.reactor_state.proofs.waiting.Waiting.find_pick.Goals.{then-not-is_empty+in_default}
 use Rattle.reactor_state.proofs.waiting.Waiting.find_pick.Goals.{else-not-is_empty}
-use Rattle.reactor_state.proofs.waiting.Waiting.find_pick.Goals.{then-not-is_empty-2+in_default-first_free}
+use Rattle.reactor_state.proofs.waiting.Waiting.find_pick.Goals.{
+  then-not-is_empty-2+in_default-first_free,
+}
 use Rattle.reactor_state.proofs.waiting.Waiting.find_pick.Goals.{else-not-is_empty-2}
-use Rattle.reactor_state.proofs.waiting.Waiting.find_pick.Goals.{then-not-is_empty-3+in_default-first_free-2}
+use Rattle.reactor_state.proofs.waiting.Waiting.find_pick.Goals.{
+  then-not-is_empty-3+in_default-first_free-2,
+}
 use Rattle.reactor_state.proofs.waiting.Waiting.find_pick.Goals.{else-not-is_empty-3}
-use Rattle.reactor_state.proofs.waiting.Waiting.find_pick.Goals.{then-not-is_empty-4+in_default-first_free-3}
+use Rattle.reactor_state.proofs.waiting.Waiting.find_pick.Goals.{
+  then-not-is_empty-4+in_default-first_free-3,
+}
 use Rattle.reactor_state.proofs.waiting.Waiting.find_pick.Goals.{else-not-is_empty-4}
 use Rattle.reactor_state.proofs.waiting.Waiting.find_pick.Goals as goal
 
