@@ -29,58 +29,8 @@ serve_observed-served-requires g c κs within =
     let ready = fine-as asked c.args.options is c.requires.ranges in
     let start = can-start-as c.args.options asked is _ _ _ _ c.requires.listener.net
     c.requires.net_keeps c.in-Ok.ensures.timers tt c.requires.listener_keeps in
-    let workers = ap (λ (a : Asked). a.workers) is ∙ c.in-Ok-open.ensures in (
-      search rules,
-      (
-        search rules,
-        (
-          search rules,
-          (
-            search rules,
-            (
-              search rules,
-              (
-                search rules,
-                (
-                  search rules,
-                  (
-                    search rules,
-                    (
-                      search (bounds.send-E, sendable) depth 20,
-                      (
-                        search (bounds.send-M, sendable) depth 20,
-                        (
-                          search (timers.the_send, sendable) depth 20,
-                          (
-                            search sendable depth 20,
-                            (
-                              search sendable depth 20,
-                              (
-                                param_send _ _ (arg_send _ no _ (putters.the_send _ bounds.send-R)),
-                                (
-                                  search (bounds.sync-R, sendable) depth 20,
-                                  (
-                                    search (bounds.sync-W, sendable) depth 20,
-                                    (
-                                      ready,
-                                      (c.requires.listener, (start, workers)),
-                                    ),
-                                  ),
-                                ),
-                              ),
-                            ),
-                          ),
-                        ),
-                      ),
-                    ),
-                  ),
-                ),
-              ),
-            ),
-          ),
-        ),
-      ),
-    )
+    let workers = ap (λ (a : Asked). a.workers) is ∙ c.in-Ok-open.ensures in
+    (search rules, (search rules, (search rules, (search rules, (search rules, (search rules, (search rules, (search rules, (search (bounds.send-E, sendable) depth 20, (search (bounds.send-M, sendable) depth 20, (search (timers.the_send, sendable) depth 20, (search sendable depth 20, (search sendable depth 20, (param_send _ _ (arg_send _ no _ (putters.the_send _ bounds.send-R)), (search (bounds.sync-R, sendable) depth 20, (search (bounds.sync-W, sendable) depth 20, (ready, (c.requires.listener, (start, workers)))))))))))))))))))
 
 pub returns-clause-leaves : goal.returns-clause-leaves
 returns-clause-leaves g c =

@@ -10,25 +10,8 @@ pub serve_given-requires : goal.serve_given-requires
 serve_given-requires g c =
     let kept = c.in-Ok.ensures.listens.2 pool_terms
     (g.met.H.Host.keeps_open pool_terms c.args.host.now open-terms) in
-    let bounds = c.type_bounds in (
-      search (bounds.static-R, rules),
-      (
-        search (bounds.send-R, sendable) depth 20,
-        (
-          search (bounds.send-H-End, sendable) depth 20,
-          (
-            search (bounds.send-H-Net, sendable) depth 20,
-            (
-              search (bounds.sync-R, sendable) depth 20,
-              (
-                search (bounds.sync-H-Waker, sendable) depth 20,
-                (c.requires, (c.in-Ok.ensures.listens.0, (kept.0, kept.1))),
-              ),
-            ),
-          ),
-        ),
-      ),
-    )
+    let bounds = c.type_bounds in
+    (search (bounds.static-R, rules), (search (bounds.send-R, sendable) depth 20, (search (bounds.send-H-End, sendable) depth 20, (search (bounds.send-H-Net, sendable) depth 20, (search (bounds.sync-R, sendable) depth 20, (search (bounds.sync-H-Waker, sendable) depth 20, (c.requires, (c.in-Ok.ensures.listens.0, (kept.0, kept.1)))))))))
 
 pub returns-in-Err-Failed-clause-leaves : goal.returns-in-Err-Failed-clause-leaves
 returns-in-Err-Failed-clause-leaves g c =
