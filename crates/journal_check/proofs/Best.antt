@@ -18,7 +18,7 @@ use Rattle.std.specs.Option.{option_to_list}
 use Rattle.reactor_summary.proofs.Found.{Answers, find_answers}
 use Rattle.journal_check.specs.Queue.{goes_first, IsFront}
 use Rattle.journal_check.specs.Fronts.{front, front_in}
-use Rattle.journal_check.proofs.Queue.{class_below}
+use Rattle.journal_check.proofs.Lanes.{class_below}
 
 abbrev pub goes : ℕ → ℕ → ℕ → ℕ → Bool
 goes a i b j = nat_lt a b || (a == b && nat_le i j)

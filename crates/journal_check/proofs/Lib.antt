@@ -2,6 +2,7 @@ pub mod Clock
 pub mod Ended
 pub mod Keyed
 pub mod Timed
+pub mod Lanes
 pub mod Queue
 pub mod Numbered
 pub mod Opened

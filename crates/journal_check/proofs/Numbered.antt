@@ -20,7 +20,7 @@ use Rattle.reactor_summary.proofs.Lists.{each_same}
 use Rattle.journal_check.specs.Numbered.{handle_number, IsNumbered, IsTheOne, passes}
 use Rattle.journal_check.proofs.Keyed.{Agrees, NonePasses, looked_up, any_looked_up}
 use Rattle.journal_check.proofs.Timed.{cmp_equal, cmp_greater}
-use Rattle.journal_check.proofs.Queue.{num_test, num_back}
+use Rattle.journal_check.proofs.Lanes.{num_test, num_back}
 
 pub number_agrees : {X : Type 0} (num : X → ℕ) (i : ℕ) (es : List (ℕ × X))
     → Each (λ e. e.0 ≡ num e.1) es → Agrees (is_at (nat_cmp i)) (λ x. i == num x) es

@@ -22,7 +22,7 @@ use Rattle.journal_check.specs.Fronts.{IsAbout, Adds, Drops, Replaces}
 use Rattle.journal_check.specs.Sound.{IsSound}
 use Rattle.journal_check.proofs.Keyed.{any_member}
 use Rattle.journal_check.proofs.Timed.{pair_exact, pair_same}
-use Rattle.journal_check.proofs.Queue.{num_test, Before, pair_before}
+use Rattle.journal_check.proofs.Lanes.{num_test, Before, pair_before}
 use Rattle.journal_check.proofs.Best.{First, Picks, goes, goes_class, goes_number, summary_picks}
 use Rattle.journal_check.proofs.Best.{picks_one, front_is}
 use Rattle.journal_check.proofs.Fronts.{Apart, key_same, waits_same}

@@ -2,7 +2,7 @@ use Rattle.std.proofs.Common.{rules, ◌≡◌, true, false, sym, ap, ◌∙◌,
 use Rattle.std.proofs.lemmas.Bool.{cases_Bool, cond-true, cond-false, eqb-true}
 use Rattle.std.specs.BTreeSet.{contains}
 use Rattle.std.specs.Ordering.{nat_cmp, is_eq}
-use Rattle.journal_check.proofs.Queue.{num_test}
+use Rattle.journal_check.proofs.Lanes.{num_test}
 use Rattle.journal_check.proofs.checker.mark_changed.Goals as goal
 
 pub returns-then-before-after : goal.returns-then-before-after

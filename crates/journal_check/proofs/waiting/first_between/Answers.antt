@@ -2,7 +2,7 @@ use Rattle.std.proofs.Common.{◌≡◌, ◌<◌, ◌≤◌, true, arith}
 use Rattle.std.proofs.lemmas.Bool.{false_from_ne_true}
 use Rattle.std.specs.BTreeSet.{contains}
 use Rattle.journal_check.specs.Index.{pair_cmp}
-use Rattle.journal_check.proofs.Queue.{pair_reaches, pair_starts, pair_ends}
+use Rattle.journal_check.proofs.Lanes.{pair_reaches, pair_starts, pair_ends}
 use Rattle.journal_check.proofs.waiting.first_between.Goals as goal
 
 pub returns-in-Some-clause-found : goal.returns-in-Some-clause-found
