@@ -99,8 +99,7 @@ module _ {H M Q W V E : Type 0} (m : Meaning H M Q W V ServerNote E) (q : DeskTe
   lead_begins : (h list : List (Entry ServerNote)) (l : Led H ServerNote E)
       → LeadsTo m q None h l list → Begins h list
   lead_begins h list l x =
-      let b = (left_by_lead m q x.first h None x.found l x.left x.stood x.gives).begins in
-      (b.0, b.1 ∙ sym x.leaves)
+      (left_by_lead m q x.first h None x.found l x.left list x.stood x.gives).begins
 
   begins_then : (a b c : List (Entry ServerNote)) → Begins a b → Begins b c → Begins a c
   begins_then a b c x y = (
@@ -171,13 +170,9 @@ module _ {H M Q W V E : Type 0} (m : Meaning H M Q W V ServerNote E) (q : DeskTe
   pub stands : (first : ℕ) × (d : Desk H M Q W V ServerNote E) × DeskStands m q first d r.run
   stands =
       let l = r.alone.leads in
-      let left = left_by_lead m q l.first r.alone.last None l.found r.alone.led l.left l.stood
-      l.gives in (
-        left.first,
-        l.left,
-        subst (λ (h : List (Entry ServerNote)).
-            DeskStands m q left.first l.left h) (sym l.leaves) left.stands,
-      )
+      let left = left_by_lead m q l.first r.alone.last None l.found r.alone.led l.left r.run l.stood
+      l.gives in
+      (left.first, l.left, left.stands)
 
   pub turned : DispatchedByTurns m.means q.run 1 r.run
   turned = (stands.2.by_turn 1 r.by_turn).turns

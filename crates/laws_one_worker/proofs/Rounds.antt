@@ -294,10 +294,6 @@ module _ {H M Q W V E : Type 0} (m : Meaning H M Q W V ServerNote E) (q : DeskTe
 
     -- ---- a lead that came to nothing
 
-    abbrev pub IdlesTo : ℕ → List (Entry ServerNote) → NetFacts E → (PolledAnswer → Type 0)
-        → Desk H M Q W V ServerNote E → List (Entry ServerNote) → Type 0
-    IdlesTo F h before P new list = (i : Idles m q F h None before P new) × (list ≡ h ++ i.entries)
-
     -- what it leaves
     pub record Idle (P : PolledAnswer → Type 0) (list : List (Entry ServerNote)) : Type 0 where
       pub answer : WaitAnswer
@@ -312,19 +308,21 @@ module _ {H M Q W V E : Type 0} (m : Meaning H M Q W V ServerNote E) (q : DeskTe
         (found new : Desk H M Q W V ServerNote E)
         (before : NetFacts E) (P : PolledAnswer → Type 0) (list : List (Entry ServerNote))
         → DeskStands m q first found h
-        → Reserves (m.facts (net_of (core_of found))) before → IdlesTo F h before P new list
-        → Between groups (past_of h) → Idle P list
+        → Reserves (m.facts (net_of (core_of found))) before
+        → Idles m q F h None before P new list → Between groups (past_of h) → Idle P list
     idles first F h found new before P list stood reserves i b =
-        subst (Idle P) (sym i.1) (record {
-          answer = i.0.waited.waits.answer;
-          found = i.0.waited.polled;
-          named = i.0.waited.waits.named;
-          is = i.0.waited.found;
-          waited = waits first h i.0.entries found new before P stood i.0.stands.core.tracks.keeps
-              reserves i.0.waited b;
-          spent = spent F new (h ++ i.0.entries) i.0.stands i.0.none;
-          stands = (F, new, i.0.stands);
-        })
+        record {
+          answer = i.waited.waits.answer;
+          found = i.waited.polled;
+          named = i.waited.waits.named;
+          is = i.waited.found;
+          waited = subst (λ (l : List (Entry ServerNote)).
+              Waited groups (past_of l) (Some i.waited.waits.answer)) (sym i.leaves)
+              (waits first h i.entries found new before P stood i.stands.core.tracks.keeps reserves
+              i.waited b);
+          spent = spent F new list i.stands i.none;
+          stands = (F, new, i.stands);
+        }
 
     quiet_between : (list : List (Entry ServerNote)) → Idle IsNotOver list
         → Between groups (past_of list)
@@ -342,12 +340,12 @@ module _ {H M Q W V E : Type 0} (m : Meaning H M Q W V ServerNote E) (q : DeskTe
         let g = l.gives.1 in
         let there : Front most groups (h ++ g.notices) =
         front_before most groups (h ++ g.notices) g.gives.entries
-        (subst (Front most groups) l.leaves f) in
+        (subst (Front most groups) g.gives.leaves f) in
         let same = none_drained most groups h g.notices there.quiet g.are in
         quiet_between list (idles l.first g.first h l.found l.left g.net IsNotOver list l.stood
         g.reserves
-        (subst (λ (x : List (Entry ServerNote)). IdlesTo g.first x g.net IsNotOver l.left list) same
-        (g.gives, l.leaves))
+        (subst (λ (x : List (Entry ServerNote)). Idles m q g.first x None g.net IsNotOver l.left list) same
+        g.gives)
         (before (front_before most groups h g.notices there)))
 
     -- ---- a lead that gave a job
@@ -357,12 +355,6 @@ module _ {H M Q W V E : Type 0} (m : Meaning H M Q W V ServerNote E) (q : DeskTe
       pub is : past_of list ≡ Started (job_event job) ∷ before
       pub each : EachStep (Steps groups) (Started (job_event job) ∷ before)
       pub fits : JobFits m.means q.run (Started (job_event job) ∷ before) job
-
-    abbrev DispatchesTo : ℕ → List (Entry ServerNote) → NetFacts E → Job H ServerNote E
-        → Desk H M Q W V ServerNote E → List (Entry ServerNote) → Type 0
-    DispatchesTo F h before job new list =
-        (d : Dispatches m q F h None before job new)
-        × (list ≡ (h ++ d.waited) ++ Started (job_event job) ∷ [])
 
     -- the entries before the start
     pub record Ready (list : List (Entry ServerNote)) : Type 0 where
@@ -386,18 +378,18 @@ module _ {H M Q W V E : Type 0} (m : Meaning H M Q W V ServerNote E) (q : DeskTe
     starts : (first F : ℕ) (h : List (Entry ServerNote)) (found new : Desk H M Q W V ServerNote E)
         (before : NetFacts E) (job : Job H ServerNote E) (list : List (Entry ServerNote))
         → DeskStands m q first found h
-        → Reserves (m.facts (net_of (core_of found))) before → DispatchesTo F h before job new list
+        → Reserves (m.facts (net_of (core_of found))) before
+        → Dispatches m q F h None before job new list
         → Between groups (past_of h) → Starts job list
     starts first F h found new before job list stood reserves d b =
-        let r = ready first h d.0.waited found new before stood d.0.stands.core.tracks.keeps
-        reserves
-        d.0.may b in
+        let r = ready first h d.waited found new before stood d.stands.core.tracks.keeps reserves
+        d.may b in
         record {
-          before = past_of (h ++ d.0.waited);
-          is = ap past_of d.1 ∙ past_one (h ++ d.0.waited) (Started (job_event job));
+          before = past_of (h ++ d.waited);
+          is = ap past_of d.leaves ∙ past_one (h ++ d.waited) (Started (job_event job));
           each = (
             record {
-              settles = settles_free (past_of (h ++ d.0.waited))
+              settles = settles_free (past_of (h ++ d.waited))
                   (Started (job_event job)) r.free;
               waits = tt;
               behind = λ ready. refl;
@@ -405,7 +397,7 @@ module _ {H M Q W V E : Type 0} (m : Meaning H M Q W V ServerNote E) (q : DeskTe
             },
             r.each,
           );
-          fits = d.0.fits;
+          fits = d.fits;
         }
 
     lead_job : (h list : List (Entry ServerNote)) (job : Job H ServerNote E)
@@ -416,11 +408,11 @@ module _ {H M Q W V E : Type 0} (m : Meaning H M Q W V ServerNote E) (q : DeskTe
         let there : Front most groups (h ++ g.notices) =
         front_before most groups (h ++ g.notices) g.gives.waited
         (front_before most groups ((h ++ g.notices) ++ g.gives.waited)
-        (Started (job_event job) ∷ []) (subst (Front most groups) l.leaves f)) in
+        (Started (job_event job) ∷ []) (subst (Front most groups) g.gives.leaves f)) in
         let same = none_drained most groups h g.notices there.quiet g.are in
         starts l.first g.first h l.found l.left g.net job list l.stood g.reserves
-        (subst (λ (x : List (Entry ServerNote)). DispatchesTo g.first x g.net job l.left list) same
-        (g.gives, l.leaves))
+        (subst (λ (x : List (Entry ServerNote)).
+        Dispatches m q g.first x None g.net job l.left list) same g.gives)
         (before (front_before most groups h g.notices there))
 
     -- ---- its settling
@@ -547,16 +539,12 @@ module _ {H M Q W V E : Type 0} (m : Meaning H M Q W V ServerNote E) (q : DeskTe
         let g = l.gives.1 in
         let there : Front most groups (h ++ g.notices) =
         front_before most groups (h ++ g.notices) g.gives.entries
-        (subst (Front most groups) l.leaves f) in
+        (subst (Front most groups) g.gives.leaves f) in
         let same = none_drained most groups h g.notices there.quiet g.are in
         idles l.first g.first h l.found l.left g.net IsOver list l.stood g.reserves
-        (subst (λ (x : List (Entry ServerNote)). IdlesTo g.first x g.net IsOver l.left list) same
-        (g.gives, l.leaves))
+        (subst (λ (x : List (Entry ServerNote)). Idles m q g.first x None g.net IsOver l.left list) same
+        g.gives)
         (before (front_before most groups h g.notices there))
-
-    abbrev LeavesTo : ℕ → List (Entry ServerNote) → NetFacts E → Desk H M Q W V ServerNote E
-        → List (Entry ServerNote) → Type 0
-    LeavesTo F h before new list = (l : Leaves m q F h None before new) × (list ≡ h ++ l.entries)
 
     lead_lost : (h list : List (Entry ServerNote)) → LeadsTo m q None h led.NoMemory list
         → Front most groups list → (Front most groups h → Between groups (past_of h)) → Ready list
@@ -564,22 +552,22 @@ module _ {H M Q W V E : Type 0} (m : Meaning H M Q W V ServerNote E) (q : DeskTe
         let g = l.gives.1 in
         let there : Front most groups (h ++ g.notices) =
         front_before most groups (h ++ g.notices) g.gives.entries
-        (subst (Front most groups) l.leaves f) in
+        (subst (Front most groups) g.gives.leaves f) in
         let same = none_drained most groups h g.notices there.quiet g.are in
-        let d : LeavesTo g.first h g.net l.left list =
-        subst (λ (x : List (Entry ServerNote)). LeavesTo g.first x g.net l.left list) same
-        (g.gives, l.leaves) in
-        subst Ready (sym d.1) (ready l.first h d.0.entries l.found l.left g.net l.stood
-        d.0.stands.core.tracks.keeps g.reserves d.0.may
+        let d : Leaves m q g.first h None g.net l.left list =
+        subst (λ (x : List (Entry ServerNote)). Leaves m q g.first x None g.net l.left list) same
+        g.gives in
+        subst Ready (sym d.leaves) (ready l.first h d.entries l.found l.left g.net l.stood
+        d.stands.core.tracks.keeps g.reserves d.may
         (before (front_before most groups h g.notices there)))
 
     lead_failed : (h list : List (Entry ServerNote)) → LeadsTo m q None h led.NetFault list
         → Front most groups list → (Front most groups h → Between groups (past_of h)) → Ready list
     lead_failed h list l f before =
         let g = l.gives.1 in
-        let there : Front most groups (h ++ g.notices) = subst (Front most groups) l.leaves f in
+        let there : Front most groups (h ++ g.notices) = subst (Front most groups) g.gives.leaves f in
         let same = none_drained most groups h g.notices there.quiet g.are in
-        subst Ready (sym (l.leaves ∙ same))
+        subst Ready (sym (g.gives.leaves ∙ same))
         (between_ready h (before (front_before most groups h g.notices there)))
 
     lead_same : (h list : List (Entry ServerNote)) → list ≡ h → Front most groups list
@@ -602,9 +590,9 @@ module _ {H M Q W V E : Type 0} (m : Meaning H M Q W V ServerNote E) (q : DeskTe
         record { each = i.waited.each; free = i.waited.free }
     lead_last h list led.NoMemory answer is l f before = lead_lost h list l f before
     lead_last h list led.NetFault answer is l f before = lead_failed h list l f before
-    lead_last h list led.Stopped answer is l f before = lead_same h list l.leaves f before
-    lead_last h list led.Broken answer is l f before = lead_same h list l.leaves f before
-    lead_last h list led.VolumeFault answer is l f before = lead_same h list l.leaves f before
+    lead_last h list led.Stopped answer is l f before = lead_same h list l.gives.2 f before
+    lead_last h list led.Broken answer is l f before = lead_same h list l.gives.3 f before
+    lead_last h list led.VolumeFault answer is l f before = lead_same h list l.gives.2 f before
 
     -- a lead that ended the loop with Over
     over_lead : (h list : List (Entry ServerNote)) (l : Led H ServerNote E)

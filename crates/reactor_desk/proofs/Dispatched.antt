@@ -31,7 +31,7 @@ use Rattle.reactor_desk.specs.Desks.{DeskStands, FillsVolume, drainer_of, is_sta
 use Rattle.reactor_desk.specs.Draining.{HasLooked, FoundEmpty, Drains}
 use Rattle.reactor_desk.specs.Leading.{WaitsOnNet, IsOver, IsNotOver, StandsForStart, GivesBehind}
 use Rattle.reactor_desk.specs.Leading.{DispatchGives, LeadsOn, MayLead, HasDrained, LeadGives}
-use Rattle.reactor_desk.specs.Leading.{LeadTells}
+use Rattle.reactor_desk.specs.Leading.{LeadTells, SomeList}
 use Rattle.reactor_desk.specs.declared.terms.DeskTerms.{DeskTerms}
 use Rattle.reactor_desk.specs.declared.desk.Desk.{Desk}
 use Rattle.reactor_desk.specs.declared.leading.Led.{Led}
@@ -168,67 +168,80 @@ module _ {H M Q W V N E : Type 0} (m : Meaning H M Q W V N E) (q : DeskTerms) (F
   pub gives_after : (most : Option ℕ) (before : NetFacts E) (old new : Desk H M Q W V N E)
       (core : Core H M Q W V N E) (wait : Polled) (l : Led H N E)
       → (b : Brought most before old core wait) → Reserves (m.facts core.net) (m.facts new.core.net)
-      → GivesBehind m q F (h ++ b.entries) wait l new → DispatchGives m q F h most before l new
-  gives_after most before old new core wait (led.Job job) b stays g =
-      record {
-        waited = b.entries;
-        may =
-            inr (record {
-              none = b.none;
-              polled = wait;
-              now = m.facts core.net;
-              waits = b.waits;
-              stays = stays;
-              found = tt;
-            });
-        pick = g.0;
-        fits = g.1;
-        stands = g.2;
-      }
-  gives_after most before old new core wait led.Quiet b stays g =
-      record {
-        entries = b.entries;
-        waited =
-            record {
-              none = b.none;
-              polled = wait;
-              now = m.facts core.net;
-              waits = b.waits;
-              stays = stays;
-              found = g.0;
-            };
-        none = g.1;
-        stands = g.2;
-      }
-  gives_after most before old new core wait led.Over b stays g =
-      record {
-        entries = b.entries;
-        waited =
-            record {
-              none = b.none;
-              polled = wait;
-              now = m.facts core.net;
-              waits = b.waits;
-              stays = stays;
-              found = g.0;
-            };
-        none = g.1;
-        stands = g.2;
-      }
-  gives_after most before old new core wait led.NoMemory b stays g =
-      record {
-        entries = b.entries;
-        may =
-            inr (record {
-              none = b.none;
-              polled = wait;
-              now = m.facts core.net;
-              waits = b.waits;
-              stays = stays;
-              found = tt;
-            });
-        stands = g;
-      }
+      → GivesBehind m q F (h ++ b.entries) wait l new
+      → SomeList (DispatchGives m q F h most before l new)
+  gives_after most before old new core wait (led.Job job) b stays g = (
+    (h ++ b.entries) ++ entry.Started job.event ∷ [],
+    record {
+      waited = b.entries;
+      may =
+          inr (record {
+            none = b.none;
+            polled = wait;
+            now = m.facts core.net;
+            waits = b.waits;
+            stays = stays;
+            found = tt;
+          });
+      pick = g.0;
+      fits = g.1;
+      leaves = refl;
+      stands = g.2;
+    },
+  )
+  gives_after most before old new core wait led.Quiet b stays g = (
+    h ++ b.entries,
+    record {
+      entries = b.entries;
+      waited =
+          record {
+            none = b.none;
+            polled = wait;
+            now = m.facts core.net;
+            waits = b.waits;
+            stays = stays;
+            found = g.0;
+          };
+      leaves = refl;
+      none = g.1;
+      stands = g.2;
+    },
+  )
+  gives_after most before old new core wait led.Over b stays g = (
+    h ++ b.entries,
+    record {
+      entries = b.entries;
+      waited =
+          record {
+            none = b.none;
+            polled = wait;
+            now = m.facts core.net;
+            waits = b.waits;
+            stays = stays;
+            found = g.0;
+          };
+      leaves = refl;
+      none = g.1;
+      stands = g.2;
+    },
+  )
+  gives_after most before old new core wait led.NoMemory b stays g = (
+    h ++ b.entries,
+    record {
+      entries = b.entries;
+      may =
+          inr (record {
+            none = b.none;
+            polled = wait;
+            now = m.facts core.net;
+            waits = b.waits;
+            stays = stays;
+            found = tt;
+          });
+      leaves = refl;
+      stands = g;
+    },
+  )
   gives_after most before old new core wait led.NetFault b stays g = absurd g
   gives_after most before old new core wait led.Stopped b stays g = absurd g
   gives_after most before old new core wait led.Broken b stays g = absurd g
@@ -241,35 +254,38 @@ module _ {H M Q W V N E : Type 0} (m : Meaning H M Q W V N E) (q : DeskTerms) (F
       → found ≡ Some job → DeskStands m q F old h
       → HasLooked q old h → Reserves (m.facts old.core.net) (m.facts core.net)
       → StartGives m q.run F h found core
-      → DispatchGives m q F h most (m.facts old.core.net) (led.Job job)
-      (record { core = core; drainer = old.drainer })
+      → SomeList (DispatchGives m q F h most (m.facts old.core.net) (led.Job job)
+      (record { core = core; drainer = old.drainer }))
   gives_job most old core size found job is o looked stays gives =
       let s = subst (λ (f : Option (Job H N E)). StartGives m q.run F h f core) is gives in
-      let nil : h ≡ h ++ [] = sym (append-nil h) in
-      record {
-        waited = [];
-        may = inl (refl, stays);
-        pick = subst (λ k. IsTrue (is_pick (past_of k) job.event)) nil s.0;
-        fits = subst (λ k. JobFits m.means q.run (entry.Started job.event ∷ past_of k) job) nil s.2;
-        stands = subst (λ k. DeskStands m q F (record { core = core; drainer = old.drainer })
-            (k ++ entry.Started job.event ∷ [])) nil
-            (desk_started old core size job.event o looked.starts s.1);
-      }
+      let nil : h ≡ h ++ [] = sym (append-nil h) in (
+        (h ++ []) ++ entry.Started job.event ∷ [],
+        record {
+          waited = [];
+          may = inl (refl, stays);
+          pick = subst (λ k. IsTrue (is_pick (past_of k) job.event)) nil s.0;
+          fits = subst (λ k. JobFits m.means q.run (entry.Started job.event ∷ past_of k) job) nil s.2;
+          leaves = refl;
+          stands = subst (λ k. DeskStands m q F (record { core = core; drainer = old.drainer })
+              (k ++ entry.Started job.event ∷ [])) nil
+              (desk_started old core size job.event o looked.starts s.1);
+        },
+      )
 
   pub gives_nothing : (most : Option ℕ) (before : NetFacts E) (old : Desk H M Q W V N E)
       (core : Core H M Q W V N E) → core.volume ≡ old.core.volume → DeskStands m q F old h
       → Reserves before (m.facts core.net)
-      → Stands m q.run core F h → DispatchGives m q F h most before led.NoMemory
-      (record { core = core; drainer = old.drainer })
-  gives_nothing most before old core size o stays stands =
-      record {
-        entries = [];
-        may = inl (refl, stays);
-        stands =
-            subst (DeskStands m q F (record { core = core; drainer = old.drainer }))
-            (sym (append-nil h))
-            (desk_same old core size o stands);
-      }
+      → Stands m q.run core F h → SomeList (DispatchGives m q F h most before led.NoMemory
+      (record { core = core; drainer = old.drainer }))
+  gives_nothing most before old core size o stays stands = (
+    h,
+    record {
+      entries = [];
+      may = inl (refl, stays);
+      leaves = sym (append-nil h);
+      stands = desk_same old core size o stands;
+    },
+  )
 
   pub gives_fault : (most : Option ℕ) (old : Desk H M Q W V N E) (mid core : Core H M Q W V N E)
       → core.volume ≡ old.core.volume → (found : Option (Job H N E)) → found ≡ None
@@ -277,19 +293,23 @@ module _ {H M Q W V N E : Type 0} (m : Meaning H M Q W V N E) (q : DeskTerms) (F
       → StartGives m q.run F h found mid → Reserves (m.facts old.core.net) (m.facts mid.net)
       → (Stands m q.run mid F h → Stands m q.run core F h) → (refused : PollRefused)
       → refused ≡ refusal.NetFailed → LeavesPoll m mid (Err refused) core
-      → DispatchGives m q F h most (m.facts old.core.net) led.NetFault
-      (record { core = core; drainer = old.drainer })
+      → SomeList (DispatchGives m q F h most (m.facts old.core.net) led.NetFault
+      (record { core = core; drainer = old.drainer }))
   gives_fault most old mid core size found is o gives reserves stands refused named leaves =
       let s = subst (λ (f : Option (Job H N E)). StartGives m q.run F h f mid) is gives in
       let f : FailsOnce m FailsToWait mid core =
       subst (λ (r : PollRefused). LeavesPoll m mid (Err r) core) named leaves in (
-        s.0,
+        h,
         record {
-          net = m.facts f.between.net;
-          reserves = reserved_then _ _ _ reserves f.kept.net;
-          fails = f.fails.0;
+          none = s.0;
+          fails = record {
+            net = m.facts f.between.net;
+            reserves = reserved_then _ _ _ reserves f.kept.net;
+            fails = f.fails.0;
+          };
+          leaves = refl;
+          stands = desk_same old core size o (stands s.1);
         },
-        desk_same old core size o (stands s.1),
       )
 
   -- there was no memory for a wait
@@ -341,22 +361,27 @@ module _ {H M Q W V N E : Type 0} (m : Meaning H M Q W V N E) (q : DeskTerms) (F
   pub leads_nowhere : (most : Option ℕ) (old : Desk H M Q W V N E) (core : Core H M Q W V N E)
       → core.volume ≡ old.core.volume → DeskStands m q F old h → core.net ≡ old.core.net
       → Stands m q.run core F h
-      → LeadsOn m q F h most old led.NoMemory (record { core = core; drainer = old.drainer })
-  leads_nowhere most old core size o same stands = record {
-    first = F;
-    within = o.core.tracks.journal.within;
-    notices = [];
-    are = refl;
-    few = omega arith;
-    drained = tt;
-    net = m.facts old.core.net;
-    reserves = reserved_same (m.facts old.core.net);
-    gives = subst (λ k. DispatchGives m q F k most (m.facts old.core.net) led.NoMemory
-        (record { core = core; drainer = old.drainer })) (sym (append-nil h))
-        (gives_nothing most (m.facts old.core.net) old core size o
-        (subst (λ n. Reserves (m.facts old.core.net) (m.facts n)) (sym same)
-        (reserved_same (m.facts old.core.net))) stands);
-  }
+      → SomeList (LeadsOn m q F h most old led.NoMemory
+      (record { core = core; drainer = old.drainer }))
+  leads_nowhere most old core size o same stands =
+      let g = subst (λ k. SomeList (DispatchGives m q F k most (m.facts old.core.net) led.NoMemory
+      (record { core = core; drainer = old.drainer }))) (sym (append-nil h))
+      (gives_nothing most (m.facts old.core.net) old core size o
+      (subst (λ n. Reserves (m.facts old.core.net) (m.facts n)) (sym same)
+      (reserved_same (m.facts old.core.net))) stands) in (
+        g.0,
+        record {
+          first = F;
+          within = o.core.tracks.journal.within;
+          notices = [];
+          are = refl;
+          few = omega arith;
+          drained = tt;
+          net = m.facts old.core.net;
+          reserves = reserved_same (m.facts old.core.net);
+          gives = g.1;
+        },
+      )
 
   few_are : (h' : List (Entry N)) (result : Result ℕ NoMemory) (first : ℕ)
       (mid new : Desk H M Q W V N E) → (d : Drains m q first h' result mid new)
@@ -368,24 +393,26 @@ module _ {H M Q W V N E : Type 0} (m : Meaning H M Q W V N E) (q : DeskTerms) (F
       (result : Result ℕ NoMemory) → (over : HandedOver old core) → core.net ≡ old.core.net
       → Drains m q over.first h result (record { core = core; drainer = old.drainer }) new
       → Reserves (m.facts core.net) (m.facts new.core.net)
-      → LeadsOn m q F h most old led.NoMemory new
-  leads_drained most old new core result over same d reserves = record {
-    first = over.first;
-    within = over.within;
-    notices = d.some.notices;
-    are = d.some.are;
-    few = few_are h result over.first _ new d;
-    drained = tt;
-    net = m.facts new.core.net;
-    reserves = subst (λ n. Reserves (m.facts n) (m.facts new.core.net)) same reserves;
-    gives = record {
-      entries = [];
-      may = inl (refl, reserved_same (m.facts new.core.net));
-      stands =
-          subst (DeskStands m q over.first new) (sym (append-nil (h ++ d.some.notices)))
-          d.some.stands;
-    };
-  }
+      → SomeList (LeadsOn m q F h most old led.NoMemory new)
+  leads_drained most old new core result over same d reserves = (
+    h ++ d.some.notices,
+    record {
+      first = over.first;
+      within = over.within;
+      notices = d.some.notices;
+      are = d.some.are;
+      few = few_are h result over.first _ new d;
+      drained = tt;
+      net = m.facts new.core.net;
+      reserves = subst (λ n. Reserves (m.facts n) (m.facts new.core.net)) same reserves;
+      gives = record {
+        entries = [];
+        may = inl (refl, reserved_same (m.facts new.core.net));
+        leaves = sym (append-nil (h ++ d.some.notices));
+        stands = d.some.stands;
+      };
+    },
+  )
 
   -- 256 were drained, or the ring was found empty, and the drainer was left alone since
   drained_is : (l : Led H N E) (n : ℕ) (notices : List (Entry N)) (mid new : Desk H M Q W V N E)
@@ -409,19 +436,23 @@ module _ {H M Q W V N E : Type 0} (m : Meaning H M Q W V N E) (q : DeskTerms) (F
       (n : ℕ) (l : Led H N E) → (over : HandedOver old core) → core.net ≡ old.core.net
       → (d : Drains m q over.first h (Ok n) (record { core = core; drainer = old.drainer }) mid)
       → Reserves (m.facts core.net) (m.facts mid.core.net)
-      → DispatchGives m q over.first (h ++ d.some.notices) most (m.facts mid.core.net) l new
-      → drainer_of new ≡ drainer_of mid → LeadsOn m q F h most old l new
-  leads_on most old mid new core n l over same d reserves gives left = record {
-    first = over.first;
-    within = over.within;
-    notices = d.some.notices;
-    are = d.some.are;
-    few = few_are h (Ok n) over.first _ mid d;
-    drained = drained_is l n d.some.notices mid new (d.some.many ∙ sym d.answer.0) d.answer.1 left;
-    net = m.facts mid.core.net;
-    reserves = subst (λ n. Reserves (m.facts n) (m.facts mid.core.net)) same reserves;
-    gives = gives;
-  }
+      → SomeList (DispatchGives m q over.first (h ++ d.some.notices) most (m.facts mid.core.net) l
+      new)
+      → drainer_of new ≡ drainer_of mid → SomeList (LeadsOn m q F h most old l new)
+  leads_on most old mid new core n l over same d reserves gives left = (
+    gives.0,
+    record {
+      first = over.first;
+      within = over.within;
+      notices = d.some.notices;
+      are = d.some.are;
+      few = few_are h (Ok n) over.first _ mid d;
+      drained = drained_is l n d.some.notices mid new (d.some.many ∙ sym d.answer.0) d.answer.1 left;
+      net = m.facts mid.core.net;
+      reserves = subst (λ n. Reserves (m.facts n) (m.facts mid.core.net)) same reserves;
+      gives = gives.1;
+    },
+  )
 
   -- if no volume was due
   abbrev pub as_found : (old : Desk H M Q W V N E) → DeskStands m q F old h
@@ -431,43 +462,48 @@ module _ {H M Q W V N E : Type 0} (m : Meaning H M Q W V N E) (q : DeskTerms) (F
   -- what a lead came to after the volume, it came to with it
   pub leads_since : (most : Option ℕ) (old new : Desk H M Q W V N E) (core : Core H M Q W V N E)
       (l : Led H N E) (G : ℕ) → core.net ≡ old.core.net
-      → LeadsOn m q G h most (record { core = core; drainer = old.drainer }) l new
-      → LeadsOn m q F h most old l new
-  leads_since most old new core l G same on = record {
-    first = on.first;
-    within = on.within;
-    notices = on.notices;
-    are = on.are;
-    few = on.few;
-    drained = on.drained;
-    net = on.net;
-    reserves = subst (λ n. Reserves (m.facts n) on.net) same on.reserves;
-    gives = on.gives;
-  }
+      → SomeList (LeadsOn m q G h most (record { core = core; drainer = old.drainer }) l new)
+      → SomeList (LeadsOn m q F h most old l new)
+  leads_since most old new core l G same (list, on) = (
+    list,
+    record {
+      first = on.first;
+      within = on.within;
+      notices = on.notices;
+      are = on.are;
+      few = on.few;
+      drained = on.drained;
+      net = on.net;
+      reserves = subst (λ n. Reserves (m.facts n) on.net) same on.reserves;
+      gives = on.gives;
+    },
+  )
 
   -- a dispatch hands nothing over
   pub first_dispatched : (most : Option ℕ) (before : NetFacts E) (l : Led H N E)
-      (new : Desk H M Q W V N E) → DispatchGives m q F h most before l new → new.core.first ≡ F
-  first_dispatched most before (led.Job job) new g = g.stands.core.tracks.journal.first
-  first_dispatched most before led.Quiet new g = g.stands.core.tracks.journal.first
-  first_dispatched most before led.Over new g = g.stands.core.tracks.journal.first
-  first_dispatched most before led.NetFault new g = g.2.core.tracks.journal.first
-  first_dispatched most before led.NoMemory new g = g.stands.core.tracks.journal.first
-  first_dispatched most before led.Stopped new g = absurd g
-  first_dispatched most before led.Broken new g = absurd g
-  first_dispatched most before led.VolumeFault new g = absurd g
+      (new : Desk H M Q W V N E) (list : List (Entry N))
+      → DispatchGives m q F h most before l new list → new.core.first ≡ F
+  first_dispatched most before (led.Job job) new list g = g.stands.core.tracks.journal.first
+  first_dispatched most before led.Quiet new list g = g.stands.core.tracks.journal.first
+  first_dispatched most before led.Over new list g = g.stands.core.tracks.journal.first
+  first_dispatched most before led.NetFault new list g = g.stands.core.tracks.journal.first
+  first_dispatched most before led.NoMemory new list g = g.stands.core.tracks.journal.first
+  first_dispatched most before led.Stopped new list g = absurd g
+  first_dispatched most before led.Broken new list g = absurd g
+  first_dispatched most before led.VolumeFault new list g = absurd g
 
   -- what the whole lead gives
   pub lead_gives : (most : Option ℕ) (old new : Desk H M Q W V N E) (l : Led H N E)
-      → MayLead m h old → LeadsOn m q F h most old l new → LeadGives m q F h most old l new
-  lead_gives most old new (led.Job job) r on = (r, on)
-  lead_gives most old new led.Quiet r on = (r, on)
-  lead_gives most old new led.Over r on = (r, on)
-  lead_gives most old new led.NetFault r on = (r, on)
-  lead_gives most old new led.NoMemory r on = (r, on)
-  lead_gives most old new led.Stopped r on = absurd on.gives
-  lead_gives most old new led.Broken r on = absurd on.gives
-  lead_gives most old new led.VolumeFault r on = absurd on.gives
+      → MayLead m h old → SomeList (LeadsOn m q F h most old l new)
+      → SomeList (LeadGives m q F h most old l new)
+  lead_gives most old new (led.Job job) r on = (on.0, (r, on.1))
+  lead_gives most old new led.Quiet r on = (on.0, (r, on.1))
+  lead_gives most old new led.Over r on = (on.0, (r, on.1))
+  lead_gives most old new led.NetFault r on = (on.0, (r, on.1))
+  lead_gives most old new led.NoMemory r on = (on.0, (r, on.1))
+  lead_gives most old new led.Stopped r on = absurd on.1.gives
+  lead_gives most old new led.Broken r on = absurd on.1.gives
+  lead_gives most old new led.VolumeFault r on = absurd on.1.gives
 
 -- ---- what a lead tells by the counts
 

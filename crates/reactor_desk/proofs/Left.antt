@@ -9,11 +9,12 @@ use Rattle.leader_token.specs.Lists.{Begins}
 use Rattle.leader_token.specs.list_lemmas.specs.Times.{times}
 use Rattle.reactor_model.specs.reactor_journal.specs.declared.entry.Entry.{Entry}
 use Rattle.reactor_model.specs.reactor_journal.specs.declared.entry.Entry.TheVariants.{Started}
+use Rattle.reactor_core.specs.laws_turns.specs.Opens.{opens_of}
 use Rattle.reactor_core.specs.Stands.{Meaning}
 use Rattle.reactor_core.specs.Views.{job_event}
 use Rattle.reactor_desk.specs.Desks.{DeskStands}
 use Rattle.reactor_desk.specs.Laws.{HistoryLeft}
-use Rattle.reactor_desk.specs.Leading.{DispatchGives, LeadGives, history_on, history_left, event_of}
+use Rattle.reactor_desk.specs.Leading.{DispatchGives, LeadGives, event_of}
 use Rattle.reactor_model.specs.Entries.{is_notice}
 use Rattle.reactor_desk.specs.declared.terms.DeskTerms.{DeskTerms}
 use Rattle.reactor_desk.specs.declared.desk.Desk.{Desk}
@@ -23,29 +24,37 @@ use Rattle.reactor_desk.proofs.Opens.{is_still, opens_more, opens_still, notices
 use Rattle.reactor_desk.proofs.Opens.{waited_still}
 
 module _ {H M Q W V N E : Type 0} (m : Meaning H M Q W V N E) (q : DeskTerms) where
-  left_still : (F : ℕ) (h es : List (Entry N)) (new : Desk H M Q W V N E) → F ≤ length h
-      → list_all is_still es ≡ true → DeskStands m q F new (h ++ es)
-      → HistoryLeft m q h new (h ++ es) None
-  left_still F h es new within s stands =
+  left_still : (F : ℕ) (h es list : List (Entry N)) (new : Desk H M Q W V N E) → F ≤ length h
+      → list_all is_still es ≡ true → list ≡ h ++ es → DeskStands m q F new list
+      → HistoryLeft m q h new list None
+  left_still F h es list new within s leaves stands =
       record {
         first = F;
         within = within;
         stands = stands;
-        begins = (es, refl);
-        opens = λ e. omega (arith, ap (times e) (opens_still h es s));
+        begins = (es, sym leaves);
+        opens = λ e. omega (
+          arith,
+          ap (λ k. times e (opens_of k)) leaves,
+          ap (times e) (opens_still h es s),
+        );
       }
 
-  left_started : (F : ℕ) (h es : List (Entry N)) (event : ℕ) (new : Desk H M Q W V N E)
-      → F ≤ length h → list_all is_still es ≡ true
-      → DeskStands m q F new ((h ++ es) ++ Started event ∷ [])
-      → HistoryLeft m q h new ((h ++ es) ++ Started event ∷ []) (Some event)
-  left_started F h es event new within s stands = record {
+  left_started : (F : ℕ) (h es : List (Entry N)) (event : ℕ) (list : List (Entry N))
+      (new : Desk H M Q W V N E) → F ≤ length h → list_all is_still es ≡ true
+      → list ≡ (h ++ es) ++ Started event ∷ [] → DeskStands m q F new list
+      → HistoryLeft m q h new list (Some event)
+  left_started F h es event list new within s leaves stands = record {
     first = F;
     within = within;
     stands = stands;
-    begins = (es ++ Started event ∷ [], sym (append_assoc h es (Started event ∷ [])));
+    begins = (
+      es ++ Started event ∷ [],
+      sym (append_assoc h es (Started event ∷ [])) ∙ sym leaves,
+    );
     opens = λ e. omega (
       arith,
+      ap (λ k. times e (opens_of k)) leaves,
       ap (times e) (opens_more (h ++ es) (Started event)),
       ap (times e) (opens_still h es s),
     );
@@ -71,63 +80,64 @@ module _ {H M Q W V N E : Type 0} (m : Meaning H M Q W V N E) (q : DeskTerms) wh
   wide F h notices w = omega (arith, length-append h notices)
 
   left_on : (F : ℕ) (h notices : List (Entry N)) (most : Option ℕ) (before : NetFacts E)
-      (l : Led H N E) (new : Desk H M Q W V N E) → F ≤ length h
-      → (g : DispatchGives m q F (h ++ notices) most before l new)
-      → list_all is_notice notices ≡ true
-      → HistoryLeft m q h new (history_on m q F (h ++ notices) most before l new g) (event_of l)
+      (l : Led H N E) (new : Desk H M Q W V N E) (list : List (Entry N)) → F ≤ length h
+      → DispatchGives m q F (h ++ notices) most before l new list
+      → list_all is_notice notices ≡ true → HistoryLeft m q h new list (event_of l)
   unfolding left_started left_still
-  left_on F h notices most before (led.Job job) new w g are =
+  left_on F h notices most before (led.Job job) new list w g are =
       behind_notices h notices _ new _ are
-      (left_started F (h ++ notices) g.waited (job_event job) new (wide F h notices w)
-      (may_still most (h ++ notices) before g.waited _ g.may) g.stands) w
-  left_on F h notices most before led.Quiet new w g are =
+      (left_started F (h ++ notices) g.waited (job_event job) list new (wide F h notices w)
+      (may_still most (h ++ notices) before g.waited _ g.may) g.leaves g.stands) w
+  left_on F h notices most before led.Quiet new list w g are =
       behind_notices h notices _ new _ are
-      (left_still F (h ++ notices) g.entries new (wide F h notices w)
-      (waited_still most (h ++ notices) before g.entries _ _ g.waited) g.stands) w
-  left_on F h notices most before led.Over new w g are =
+      (left_still F (h ++ notices) g.entries list new (wide F h notices w)
+      (waited_still most (h ++ notices) before g.entries _ _ g.waited) g.leaves g.stands) w
+  left_on F h notices most before led.Over new list w g are =
       behind_notices h notices _ new _ are
-      (left_still F (h ++ notices) g.entries new (wide F h notices w)
-      (waited_still most (h ++ notices) before g.entries _ _ g.waited) g.stands) w
-  left_on F h notices most before led.NetFault new w g are =
-      left_still F h notices new w (notices_still notices are) g.2
-  left_on F h notices most before led.NoMemory new w g are =
+      (left_still F (h ++ notices) g.entries list new (wide F h notices w)
+      (waited_still most (h ++ notices) before g.entries _ _ g.waited) g.leaves g.stands) w
+  left_on F h notices most before led.NetFault new list w g are =
+      left_still F h notices list new w (notices_still notices are) g.leaves
+      (subst (DeskStands m q F new) (sym g.leaves) g.stands)
+  left_on F h notices most before led.NoMemory new list w g are =
       behind_notices h notices _ new _ are
-      (left_still F (h ++ notices) g.entries new (wide F h notices w)
-      (may_still most (h ++ notices) before g.entries _ g.may) g.stands) w
-  left_on F h notices most before led.Stopped new w g are = absurd g
-  left_on F h notices most before led.Broken new w g are = absurd g
-  left_on F h notices most before led.VolumeFault new w g are = absurd g
+      (left_still F (h ++ notices) g.entries list new (wide F h notices w)
+      (may_still most (h ++ notices) before g.entries _ g.may) g.leaves g.stands) w
+  left_on F h notices most before led.Stopped new list w g are = absurd g
+  left_on F h notices most before led.Broken new list w g are = absurd g
+  left_on F h notices most before led.VolumeFault new list w g are = absurd g
 
   -- as it was found
-  left_same : (F : ℕ) (h : List (Entry N)) (new : Desk H M Q W V N E) → DeskStands m q F new h
-      → HistoryLeft m q h new h None
-  left_same F h new stands = record {
+  left_same : (F : ℕ) (h list : List (Entry N)) (new : Desk H M Q W V N E) → list ≡ h
+      → DeskStands m q F new h → HistoryLeft m q h new list None
+  left_same F h list new leaves stands = record {
     first = F;
     within = stands.core.tracks.journal.within;
-    stands = stands;
-    begins = ([], append-nil h);
-    opens = λ e. omega arith;
+    stands = subst (DeskStands m q F new) (sym leaves) stands;
+    begins = ([], append-nil h ∙ sym leaves);
+    opens = λ e. omega (arith, ap (λ k. times e (opens_of k)) leaves);
   }
 
   pub left_by_lead : (F : ℕ) (h : List (Entry N)) (most : Option ℕ) (old : Desk H M Q W V N E)
-      (l : Led H N E) (new : Desk H M Q W V N E) → DeskStands m q F old h
-      → (g : LeadGives m q F h most old l new)
-      → HistoryLeft m q h new (history_left m q F h most old l new g) (event_of l)
-  left_by_lead F h most old (led.Job job) new o g =
-      left_on g.1.first h g.1.notices most g.1.net (led.Job job) new g.1.within g.1.gives g.1.are
-  left_by_lead F h most old led.Quiet new o g =
-      left_on g.1.first h g.1.notices most g.1.net led.Quiet new g.1.within g.1.gives g.1.are
-  left_by_lead F h most old led.Over new o g =
-      left_on g.1.first h g.1.notices most g.1.net led.Over new g.1.within g.1.gives g.1.are
-  left_by_lead F h most old led.NetFault new o g =
-      left_on g.1.first h g.1.notices most g.1.net led.NetFault new g.1.within g.1.gives g.1.are
-  left_by_lead F h most old led.NoMemory new o g =
-      left_on g.1.first h g.1.notices most g.1.net led.NoMemory new g.1.within g.1.gives g.1.are
-  left_by_lead F h most old led.Stopped new o g =
-      left_same F h new (subst (λ (d : Desk H M Q W V N E). DeskStands m q F d h) (sym g.1) o)
-  left_by_lead F h most old led.Broken new o g =
-      left_same F h new (subst (λ (d : Desk H M Q W V N E). DeskStands m q F d h) (sym g.2) o)
-  left_by_lead F h most old led.VolumeFault new o g = left_same F h new g.1
+      (l : Led H N E) (new : Desk H M Q W V N E) (list : List (Entry N)) → DeskStands m q F old h
+      → LeadGives m q F h most old l new list → HistoryLeft m q h new list (event_of l)
+  left_by_lead F h most old (led.Job job) new list o (may, g) =
+      left_on g.first h g.notices most g.net (led.Job job) new list g.within g.gives g.are
+  left_by_lead F h most old led.Quiet new list o (may, g) =
+      left_on g.first h g.notices most g.net led.Quiet new list g.within g.gives g.are
+  left_by_lead F h most old led.Over new list o (may, g) =
+      left_on g.first h g.notices most g.net led.Over new list g.within g.gives g.are
+  left_by_lead F h most old led.NetFault new list o (may, g) =
+      left_on g.first h g.notices most g.net led.NetFault new list g.within g.gives g.are
+  left_by_lead F h most old led.NoMemory new list o (may, g) =
+      left_on g.first h g.notices most g.net led.NoMemory new list g.within g.gives g.are
+  left_by_lead F h most old led.Stopped new list o g =
+      left_same F h list new g.2 (subst (λ (d : Desk H M Q W V N E). DeskStands m q F d h) (sym g.1)
+      o)
+  left_by_lead F h most old led.Broken new list o g =
+      left_same F h list new g.3 (subst (λ (d : Desk H M Q W V N E). DeskStands m q F d h) (sym g.2)
+      o)
+  left_by_lead F h most old led.VolumeFault new list o g = left_same F h list new g.2 g.1
 
   -- ---- the list is the only one
 

@@ -1,5 +1,5 @@
 -- Which entries leave the open events as they are, and what the return of one does.
-use Rattle.std.proofs.Common.{ℕ, ◌+◌, ◌≡◌, ⊎_elim, Bool, true, false, ◌&&◌, List, []}
+use Rattle.std.proofs.Common.{ℕ, ◌≡◌, ⊎_elim, Bool, true, false, ◌&&◌, List, []}
 use Rattle.std.proofs.Common.{◌∷◌, ◌++◌, map, filter, refl, sym, ap, ◌∙◌, append-nil}
 use Rattle.std.proofs.Common.{Option}
 use Rattle.std.proofs.lemmas.Bool.{false≢true, and_parts}

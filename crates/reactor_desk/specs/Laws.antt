@@ -13,7 +13,7 @@ use Rattle.reactor_core.specs.Settling.{returned}
 use Rattle.reactor_core.specs.declared.acting.Settled.{Settled}
 use Rattle.reactor_core.specs.declared.job.Done.{Done}
 use Rattle.reactor_desk.specs.Desks.{DeskStands}
-use Rattle.reactor_desk.specs.Leading.{LeadGives, history_left, event_of}
+use Rattle.reactor_desk.specs.Leading.{LeadGives, event_of}
 use Rattle.reactor_desk.specs.Settling.{SettlesDesk}
 use Rattle.reactor_desk.specs.declared.terms.DeskTerms.{DeskTerms}
 use Rattle.reactor_desk.specs.declared.desk.Desk.{Desk}
@@ -34,9 +34,8 @@ pub record HistoryLeft {H M Q W V N E : Type 0} (m : Meaning H M Q W V N E) (q :
 abbrev pub LeadLeaves : {H M Q W V N E : Type 0} → Meaning H M Q W V N E → Type 0
 LeadLeaves {H} {M} {Q} {W} {V} {N} {E} m =
     (q : DeskTerms) (F : ℕ) (h : List (Entry N)) (most : Option ℕ) (old : Desk H M Q W V N E)
-    (led : Led H N E) (new : Desk H M Q W V N E) → DeskStands m q F old h
-    → (gives : LeadGives m q F h most old led new)
-    → HistoryLeft m q h new (history_left m q F h most old led new gives) (event_of led)
+    (led : Led H N E) (new : Desk H M Q W V N E) (list : List (Entry N)) → DeskStands m q F old h
+    → LeadGives m q F h most old led new list → HistoryLeft m q h new list (event_of led)
 
 -- the history that a settling leaves
 abbrev pub history_settled : {H N E : Type 0} → List (Entry N) → Done H N E → List (Entry N)

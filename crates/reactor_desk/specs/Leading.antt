@@ -81,33 +81,49 @@ MayHaveWaited most h before entries left =
     ((entries ≡ []) × Reserves before left)
     ⊎ WaitedFor most h before entries left (λ polled. Unit {0})
 
+-- this holds of some list of entries
+abbrev pub SomeList : {N : Type 0} → (List (Entry N) → Type 0) → Type 0
+SomeList {N} P = (list : List (Entry N)) × P list
+
 -- The event of the job is the next of the history, or of the history with the entries of one wait,
--- if it had none.
+-- if it had none. Its start is the last entry of the list that is left.
 pub record Dispatches {H M Q W V N E : Type 0} (m : Meaning H M Q W V N E) (q : DeskTerms) (F : ℕ)
     (h : List (Entry N)) (most : Option ℕ) (before : NetFacts E) (job : Job H N E)
-    (new : Desk H M Q W V N E) : Type 0 where
+    (new : Desk H M Q W V N E) (list : List (Entry N)) : Type 0 where
   pub waited : List (Entry N)
   pub may : MayHaveWaited most h before waited (m.facts (net_of (core_of new)))
   pub pick : IsTrue (is_pick (past_of (h ++ waited)) (job_event job))
   pub fits : JobFits m.means q.run (entry.Started (job_event job) ∷ past_of (h ++ waited)) job
-  pub stands : DeskStands m q F new ((h ++ waited) ++ entry.Started (job_event job) ∷ [])
+  pub leaves : list ≡ (h ++ waited) ++ entry.Started (job_event job) ∷ []
+  pub stands : DeskStands m q F new list
 
--- After a wait no event could be started.
+-- After a wait no event could be started. The list that is left is the history with its entries.
 pub record Idles {H M Q W V N E : Type 0} (m : Meaning H M Q W V N E) (q : DeskTerms) (F : ℕ)
     (h : List (Entry N)) (most : Option ℕ) (before : NetFacts E) (P : Polled → Type 0)
-    (new : Desk H M Q W V N E) : Type 0 where
+    (new : Desk H M Q W V N E) (list : List (Entry N)) : Type 0 where
   pub entries : List (Entry N)
   pub waited : WaitedFor most h before entries (m.facts (net_of (core_of new))) P
-  pub none : HasNoPick (past_of (h ++ entries))
-  pub stands : DeskStands m q F new (h ++ entries)
+  pub leaves : list ≡ h ++ entries
+  pub none : HasNoPick (past_of list)
+  pub stands : DeskStands m q F new list
+
+-- The wait failed, so the list that is left is the history.
+pub record FailsWait {H M Q W V N E : Type 0} (m : Meaning H M Q W V N E) (q : DeskTerms) (F : ℕ)
+    (h : List (Entry N)) (before : NetFacts E) (new : Desk H M Q W V N E) (list : List (Entry N))
+    : Type 0 where
+  pub none : HasNoPick (past_of h)
+  pub fails : WaitFails before (m.facts (net_of (core_of new)))
+  pub leaves : list ≡ h
+  pub stands : DeskStands m q F new h
 
 -- what is left if there was no memory: what was recorded
 pub record Leaves {H M Q W V N E : Type 0} (m : Meaning H M Q W V N E) (q : DeskTerms) (F : ℕ)
-    (h : List (Entry N)) (most : Option ℕ) (before : NetFacts E) (new : Desk H M Q W V N E) : Type 0
-  where
-    pub entries : List (Entry N)
-    pub may : MayHaveWaited most h before entries (m.facts (net_of (core_of new)))
-    pub stands : DeskStands m q F new (h ++ entries)
+    (h : List (Entry N)) (most : Option ℕ) (before : NetFacts E) (new : Desk H M Q W V N E)
+    (list : List (Entry N)) : Type 0 where
+  pub entries : List (Entry N)
+  pub may : MayHaveWaited most h before entries (m.facts (net_of (core_of new)))
+  pub leaves : list ≡ h ++ entries
+  pub stands : DeskStands m q F new list
 
 -- the desk stands, but that its drainer may have looked only once more than there were starts
 pub record StandsForStart {H M Q W V N E : Type 0} (m : Meaning H M Q W V N E) (q : DeskTerms)
@@ -143,19 +159,19 @@ GivesBehind m q F h polled led.Stopped new = ⊥
 GivesBehind m q F h polled led.Broken new = ⊥
 GivesBehind m q F h polled led.VolumeFault new = ⊥
 
--- What the lead of a desk gives once the postings were drained.
+-- What the lead of a desk gives once the postings were drained, and the list that it leaves.
 abbrev pub DispatchGives : {H M Q W V N E : Type 0} → Meaning H M Q W V N E → DeskTerms → ℕ
-    → List (Entry N) → Option ℕ → NetFacts E → Led H N E → Desk H M Q W V N E → Type 0
-DispatchGives m q F h most before (led.Job job) new = Dispatches m q F h most before job new
-DispatchGives m q F h most before led.Quiet new = Idles m q F h most before IsNotOver new
-DispatchGives m q F h most before led.Over new = Idles m q F h most before IsOver new
-DispatchGives m q F h most before led.NetFault new =
-    HasNoPick (past_of h) × WaitFails before (m.facts (net_of (core_of new)))
-    × DeskStands m q F new h
-DispatchGives m q F h most before led.NoMemory new = Leaves m q F h most before new
-DispatchGives m q F h most before led.Stopped new = ⊥
-DispatchGives m q F h most before led.Broken new = ⊥
-DispatchGives m q F h most before led.VolumeFault new = ⊥
+    → List (Entry N) → Option ℕ → NetFacts E → Led H N E → Desk H M Q W V N E → List (Entry N)
+    → Type 0
+DispatchGives m q F h most before (led.Job job) new list =
+    Dispatches m q F h most before job new list
+DispatchGives m q F h most before led.Quiet new list = Idles m q F h most before IsNotOver new list
+DispatchGives m q F h most before led.Over new list = Idles m q F h most before IsOver new list
+DispatchGives m q F h most before led.NetFault new list = FailsWait m q F h before new list
+DispatchGives m q F h most before led.NoMemory new list = Leaves m q F h most before new list
+DispatchGives m q F h most before led.Stopped new list = ⊥
+DispatchGives m q F h most before led.Broken new list = ⊥
+DispatchGives m q F h most before led.VolumeFault new list = ⊥
 
 -- Unless there was no memory, 256 postings were drained, or the ring was found empty.
 abbrev pub HasDrained : {H M Q W V N E : Type 0} → Led H N E → List (Entry N) → Desk H M Q W V N E
@@ -166,7 +182,7 @@ HasDrained led notices new = (length notices ≡ 256) ⊎ FoundEmpty new
 -- a volume was handed over if one was due, and postings were drained, at most 256
 pub record LeadsOn {H M Q W V N E : Type 0} (m : Meaning H M Q W V N E) (q : DeskTerms) (F : ℕ)
     (h : List (Entry N)) (most : Option ℕ) (old : Desk H M Q W V N E) (led : Led H N E)
-    (new : Desk H M Q W V N E) : Type 0 where
+    (new : Desk H M Q W V N E) (list : List (Entry N)) : Type 0 where
   pub first : ℕ
   pub within : first ≤ length h
   pub notices : List (Entry N)
@@ -175,7 +191,7 @@ pub record LeadsOn {H M Q W V N E : Type 0} (m : Meaning H M Q W V N E) (q : Des
   pub drained : HasDrained led notices new
   pub net : NetFacts E
   pub reserves : Reserves (m.facts (net_of (core_of old))) net
-  pub gives : DispatchGives m q first (h ++ notices) most net led new
+  pub gives : DispatchGives m q first (h ++ notices) most net led new list
 
 -- it was not stopped, and its watch is whole
 pub record MayLead {H M Q W V N E : Type 0} (m : Meaning H M Q W V N E) (h : List (Entry N))
@@ -190,14 +206,17 @@ abbrev pub MayNotLeadOn : {H M Q W V N E : Type 0} → Meaning H M Q W V N E →
 MayNotLeadOn m F h old = ((summary (past_of h)).ended ≡ true)
     ⊎ ((m.is_broken (watch_of (core_of old)) ≡ true) ⊎ (is_due (core_of old) F h ≡ true))
 
--- What the lead of a desk gives.
+-- What the lead of a desk gives, and the list that it leaves.
 abbrev pub LeadGives : {H M Q W V N E : Type 0} → Meaning H M Q W V N E → DeskTerms → ℕ
-    → List (Entry N) → Option ℕ → Desk H M Q W V N E → Led H N E → Desk H M Q W V N E → Type 0
-LeadGives m q F h most old led.Stopped new = ((summary (past_of h)).ended ≡ true) × (new ≡ old)
-LeadGives m q F h most old led.Broken new =
-    IsRunning h × (m.is_broken (watch_of (core_of old)) ≡ true) × (new ≡ old)
-LeadGives m q F h most old led.VolumeFault new = MayLead m h old × DeskStands m q F new h
-LeadGives m q F h most old led new = MayLead m h old × LeadsOn m q F h most old led new
+    → List (Entry N) → Option ℕ → Desk H M Q W V N E → Led H N E → Desk H M Q W V N E
+    → List (Entry N) → Type 0
+LeadGives m q F h most old led.Stopped new list =
+    ((summary (past_of h)).ended ≡ true) × (new ≡ old) × (list ≡ h)
+LeadGives m q F h most old led.Broken new list =
+    IsRunning h × (m.is_broken (watch_of (core_of old)) ≡ true) × (new ≡ old) × (list ≡ h)
+LeadGives m q F h most old led.VolumeFault new list =
+    MayLead m h old × DeskStands m q F new h × (list ≡ h)
+LeadGives m q F h most old led new list = MayLead m h old × LeadsOn m q F h most old led new list
 
 -- What a lead tells by the counts of the desk: with a fault that of its cause rose in this call, or
 -- for the watch above what the terms had at the start; with Over the last wait that was answered so
@@ -222,39 +241,6 @@ abbrev pub TellsVolumeFault : {H M Q W V N E : Type 0} → Meaning H M Q W V N E
     → Led H N E → Desk H M Q W V N E → Type 0
 TellsVolumeFault m old answer new = (answer ≡ led.VolumeFault → ⊥)
     → (m.volumes (volumes_of (core_of new))).faults ≡ (m.volumes (volumes_of (core_of old))).faults
-
--- the list that a lead left: with what was drained, what a wait brought, and the start
-abbrev pub history_on : {H M Q W V N E : Type 0}
-    → (m : Meaning H M Q W V N E) (q : DeskTerms) (F : ℕ) (h : List (Entry N)) (most : Option ℕ)
-    (before : NetFacts E) (l : Led H N E) (new : Desk H M Q W V N E)
-    → DispatchGives m q F h most before l new → List (Entry N)
-history_on m q F h most before (led.Job job) new g =
-    (h ++ g.waited) ++ entry.Started (job_event job) ∷ []
-history_on m q F h most before led.Quiet new g = h ++ g.entries
-history_on m q F h most before led.Over new g = h ++ g.entries
-history_on m q F h most before led.NetFault new g = h
-history_on m q F h most before led.NoMemory new g = h ++ g.entries
-history_on m q F h most before led.Stopped new g = h
-history_on m q F h most before led.Broken new g = h
-history_on m q F h most before led.VolumeFault new g = h
-
-abbrev pub history_left : {H M Q W V N E : Type 0}
-    → (m : Meaning H M Q W V N E) (q : DeskTerms) (F : ℕ) (h : List (Entry N)) (most : Option ℕ)
-    (old : Desk H M Q W V N E) (l : Led H N E) (new : Desk H M Q W V N E)
-    → LeadGives m q F h most old l new → List (Entry N)
-history_left m q F h most old (led.Job job) new g =
-    history_on m q g.1.first (h ++ g.1.notices) most g.1.net (led.Job job) new g.1.gives
-history_left m q F h most old led.Quiet new g =
-    history_on m q g.1.first (h ++ g.1.notices) most g.1.net led.Quiet new g.1.gives
-history_left m q F h most old led.Over new g =
-    history_on m q g.1.first (h ++ g.1.notices) most g.1.net led.Over new g.1.gives
-history_left m q F h most old led.NetFault new g =
-    history_on m q g.1.first (h ++ g.1.notices) most g.1.net led.NetFault new g.1.gives
-history_left m q F h most old led.NoMemory new g =
-    history_on m q g.1.first (h ++ g.1.notices) most g.1.net led.NoMemory new g.1.gives
-history_left m q F h most old led.Stopped new g = h
-history_left m q F h most old led.Broken new g = h
-history_left m q F h most old led.VolumeFault new g = h
 
 -- the event of the job, if there is one
 abbrev pub event_of : {H N E : Type 0} → Led H N E → Option ℕ

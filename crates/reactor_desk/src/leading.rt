@@ -12,6 +12,7 @@ ghost use Rattle.reactor_desk.specs.Desks.{first_of};
 ghost use Rattle.reactor_desk.specs.Draining.{IsRunning, Drains, DrainsOne, HasLooked};
 ghost use Rattle.reactor_desk.specs.Draining.{LeavesDrained};
 ghost use Rattle.reactor_desk.specs.Leading.{DispatchGives, LeadGives, LeadTells, LeadsOn};
+ghost use Rattle.reactor_desk.specs.Leading.{SomeList};
 ghost use Rattle.reactor_desk.specs.Leading.{MayNotLeadOn, StartsFrom, FromStart, GivesBehind};
 ghost use Rattle.reactor_desk.specs.Leading.{TellsVolumeFault};
 
@@ -68,7 +69,7 @@ impl<
         requires stands { DeskWith ⟦<Self as Means>⟧.m (λ q h. FitsLimit q.run most_ms) self.old }
         requires ring { drainer_ring (drainer_of self.old) ≡ id_of ring.now }
         ensures gives { FromDesk ⟦<Self as Means>⟧.m self.old (λ q F h. FitsLimit q.run most_ms
-            → LeadGives ⟦<Self as Means>⟧.m q F h most_ms self.old result self.new) }
+            → SomeList (LeadGives ⟦<Self as Means>⟧.m q F h most_ms self.old result self.new)) }
         ensures volumes { TellsVolumeFault ⟦<Self as Means>⟧.m self.old result self.new }
         ensures tells { LeadTells ⟦<Self as Means>⟧.m self.old result self.new }
         ensures marks { KeepsMarks ⟦<Self as Means>⟧.m self.old self.new }
@@ -95,7 +96,8 @@ impl<
         requires ring { drainer_ring (drainer_of self.old) ≡ id_of ring.now }
         ensures gives { FromDesk ⟦<Self as Means>⟧.m self.old
             (λ q F h. FitsLimit q.run most_ms → IfSome result
-            (λ led. LeadGives ⟦<Self as Means>⟧.m q F h most_ms self.old led self.new)) }
+            (λ led. SomeList
+            (LeadGives ⟦<Self as Means>⟧.m q F h most_ms self.old led self.new))) }
         ensures none { FromDesk ⟦<Self as Means>⟧.m self.old (λ q F h. IfNone result
             (MayNotLeadOn ⟦<Self as Means>⟧.m F h self.old × (self.new ≡ self.old))) }
         ensures due { FromDesk ⟦<Self as Means>⟧.m self.old (λ q F h. IfSome result
@@ -126,7 +128,7 @@ impl<
         requires ring { drainer_ring (drainer_of self.old) ≡ id_of ring.now }
         ensures gives { FromDesk ⟦<Self as Means>⟧.m self.old
             (λ q F h. IsRunning h → FitsLimit q.run most_ms
-            → LeadsOn ⟦<Self as Means>⟧.m q F h most_ms self.old result self.new) }
+            → SomeList (LeadsOn ⟦<Self as Means>⟧.m q F h most_ms self.old result self.new)) }
         ensures volumes { volumes_of (core_of self.new) ≡ volumes_of (core_of self.old) }
         ensures tells { LeadTells ⟦<Self as Means>⟧.m self.old result self.new }
         ensures first { first_of self.new ≡ first_of self.old }
@@ -144,8 +146,8 @@ impl<
             (λ q h. HasLooked q self.old h × IsRunning h × FitsLimit q.run most_ms) self.old }
         ensures gives { FromDesk ⟦<Self as Means>⟧.m self.old (λ q F h.
             HasLooked q self.old h → IsRunning h → FitsLimit q.run most_ms
-            → DispatchGives ⟦<Self as Means>⟧.m q F h most_ms
-            (M.facts (net_of (core_of self.old))) result self.new) }
+            → SomeList (DispatchGives ⟦<Self as Means>⟧.m q F h most_ms
+            (M.facts (net_of (core_of self.old))) result self.new)) }
         ensures volumes { volumes_of (core_of self.new) ≡ volumes_of (core_of self.old) }
         ensures tells { LeadTells ⟦<Self as Means>⟧.m self.old result self.new }
         ensures drainer { drainer_of self.new ≡ drainer_of self.old }

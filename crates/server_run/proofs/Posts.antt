@@ -116,7 +116,7 @@ module _ {H M Q W V N E : Type 0} (m : Meaning H M Q W V N E) (most : Option ℕ
   says_ended v w led.Quiet d is = absurd cc
   says_ended v w led.Over d is = absurd cc
   says_ended v w led.Stopped d is = ap (λ (x : View (Entry N) DeskTerms). (sum x.seen).ended)
-      d.leaves.view ∙ d.gives.0
+      d.leaves.view ∙ ap (λ (h : List (Entry N)). (sum h).ended) d.gives.2 ∙ d.gives.0
   says_ended v w led.Broken d is = absurd cc
   says_ended v w led.VolumeFault d is = absurd cc
   says_ended v w led.NetFault d is = absurd cc

@@ -211,7 +211,8 @@ over_there {N = N} m most limit v w legal root none d =
     let x = g.gives.waited in
     let b : IsBehind h w.seen = behind_wait h w.seen g.gives.entries x.waits.moment x.waits.timers
     (filter (is_taken (summary (past_of h))) x.now.reports)
-    (ap (λ (x : View (Entry N) DeskTerms). x.seen) d.leads.leaves.view) x.waits.are in
+    (ap (λ (x : View (Entry N) DeskTerms). x.seen) d.leads.leaves.view ∙ g.gives.leaves)
+    x.waits.are in
     let rests = d.rests root none in
     record {
       waited = b.waited;

@@ -89,7 +89,7 @@ module _ {H M Q W V N E : Type 0} (m : Meaning H M Q W V N E) where
   seen_led v w most l d =
       subst (λ (x : List (Entry N)). HistoryLeft m v.terms d.history d.left x (event_of l))
       (sym (ap (λ (x : View (Entry N) DeskTerms). x.seen) d.leaves.view))
-      (left_by_lead m v.terms d.first d.history most d.found l d.left d.finds.stood d.gives)
+      (left_by_lead m v.terms d.first d.history most d.found l d.left d.list d.finds.stood d.gives)
 
   module _ (v w : View (Entry N) DeskTerms) (most : Option ℕ) (l : Led H N E)
       (d : IsLed m v most l w) where

@@ -1,8 +1,10 @@
 -- What a lead tells by the marks of its caller.
-use Rattle.std.proofs.Common.{ℕ, ◌≡◌, ◌≤◌, Option, sym, subst, arith}
+use Rattle.std.proofs.Common.{ℕ, ◌≡◌, ◌≤◌, List, Option, sym, ap, ◌∙◌, subst, arith}
 use Rattle.ev_base.specs.Counts.{Rose}
 use Rattle.leader_token.specs.declared.kept.View.{View}
 use Rattle.reactor_model.specs.reactor_journal.specs.declared.entry.Entry.{Entry}
+use Rattle.reactor_model.specs.reactor_journal.specs.Past.{past_of}
+use Rattle.reactor_core.specs.reactor_summary.specs.Summary.{summary}
 use Rattle.reactor_core.specs.Stands.{Meaning}
 use Rattle.reactor_desk.specs.Desks.{capped}
 use Rattle.reactor_desk.specs.declared.terms.DeskTerms.{DeskTerms}
@@ -24,7 +26,8 @@ module _ {H M Q W V N E : Type 0} (m : Meaning H M Q W V N E) (v : View (Entry N
   marks_tell led.Quiet d = tt
   marks_tell led.Over d = by_view led.Over _ d.leaves.view
       (d.tells v.terms d.leaves.first _ d.leaves.stands)
-  marks_tell led.Stopped d = by_view led.Stopped _ d.leaves.view d.gives.0
+  marks_tell led.Stopped d = by_view led.Stopped _ d.leaves.view
+      (ap (λ (h : List (Entry N)). (summary (past_of h)).ended) d.gives.2 ∙ d.gives.0)
   marks_tell led.Broken d = by_view led.Broken _ d.leaves.view
       (d.tells v.terms d.leaves.first _ d.leaves.stands)
   marks_tell led.VolumeFault d = by_view led.VolumeFault _ d.leaves.view

@@ -15,7 +15,7 @@ use Rattle.reactor_core.specs.declared.acting.Settled.{Settled}
 use Rattle.reactor_core.specs.declared.job.Done.{Done}
 use Rattle.reactor_core.specs.Views.{volumes_of}
 use Rattle.reactor_desk.specs.Desks.{DeskStands, KeepsMarks, core_of, first_of}
-use Rattle.reactor_desk.specs.Leading.{LeadGives, LeadTells, MayNotLeadOn, history_left, event_of}
+use Rattle.reactor_desk.specs.Leading.{LeadGives, LeadTells, MayNotLeadOn, SomeList, event_of}
 use Rattle.reactor_desk.specs.Laws.{HistoryLeft}
 use Rattle.reactor_desk.specs.Settling.{SettlesDesk}
 use Rattle.reactor_desk.specs.declared.terms.DeskTerms.{DeskTerms}
@@ -47,14 +47,12 @@ module _ {H M Q W V N E : Type 0} (m : Meaning H M Q W V N E) (v mid : View (Ent
   between = put_view v (marks m left) list_settled None
 
   module _ (most : Option ℕ) (led : Led H N E) (onward : Desk H M Q W V N E)
-      (gives : LeadGives m v.terms got.first list_settled most left led onward)
+      (list_led : List (Entry N))
+      (gives : LeadGives m v.terms got.first list_settled most left led onward list_led)
       (first : first_of onward ≡ first_of left) (risen : KeepsMarks m left onward) where
-    -- the list that the lead left
-    abbrev pub list_led : List (Entry N)
-    list_led = history_left m v.terms got.first list_settled most left led onward gives
-
     led_left : HistoryLeft m v.terms list_settled onward list_led (event_of led)
-    led_left = left_by_lead m v.terms got.first list_settled most left led onward s.stands gives
+    led_left =
+        left_by_lead m v.terms got.first list_settled most left led onward list_led s.stands gives
 
     pub holds_on : Holds m v mid found onward got list_led (event_of led)
     holds_on =
@@ -99,6 +97,7 @@ module _ {H M Q W V N E : Type 0} (m : Meaning H M Q W V N E) (v mid : View (Ent
             left = onward;
             first = got.first;
             history = list_settled;
+            list = list_led;
             finds = record {
               stood = s.stands;
               begins = ([], append-nil list_settled);
@@ -128,7 +127,7 @@ module _ {H M Q W V N E : Type 0} (m : Meaning H M Q W V N E) (v mid : View (Ent
       → Type 0
   DeskLeadsOn most old answer new = (q : DeskTerms) (F : ℕ) (h : List (Entry N))
       → DeskStands m q F old h → FitsLimit q.run most
-      → IfSome answer (λ l. LeadGives m q F h most old l new)
+      → IfSome answer (λ l. SomeList (LeadGives m q F h most old l new))
 
   abbrev pub DeskStays : Desk H M Q W V N E → Option (Led H N E) → Desk H M Q W V N E → Type 0
   DeskStays old answer new = (q : DeskTerms) (F : ℕ) (h : List (Entry N)) → DeskStands m q F old h
@@ -147,7 +146,8 @@ module _ {H M Q W V N E : Type 0} (m : Meaning H M Q W V N E) (v mid : View (Ent
 
   pub led_on : (most : Option ℕ) (answer : Option (Led H N E)) (lent onward : Desk H M Q W V N E)
       → lent ≡ left → DeskLeadsOn most lent answer onward → FitsLimit v.terms.run most
-      → IfSome answer (λ l. LeadGives m v.terms got.first list_settled most left l onward)
+      → IfSome answer (λ l.
+      SomeList (LeadGives m v.terms got.first list_settled most left l onward))
   led_on most answer lent onward same leads limit =
       subst (λ d. DeskLeadsOn most d answer onward) same leads v.terms got.first list_settled
       s.stands limit
@@ -161,16 +161,18 @@ module _ {H M Q W V N E : Type 0} (m : Meaning H M Q W V N E) (v mid : View (Ent
   -- with a lead that was made, or without one
 
   pub may_on : (most : Option ℕ) (answer : Option (Led H N E)) (onward : Desk H M Q W V N E)
-      → IfSome answer (λ led. LeadGives m v.terms got.first list_settled most left led onward)
+      → IfSome answer (λ led.
+      SomeList (LeadGives m v.terms got.first list_settled most left led onward))
       → IfNone answer (onward ≡ left) → first_of onward ≡ first_of left → KeepsMarks m left onward
       → May m mid onward
   may_on most None onward gives same first risen =
       subst (May m mid) (sym same) (may_put m v mid found left got list_settled None settle_holds)
   may_on most (Some led) onward gives same first risen =
-      may_put m v mid found onward got _ (event_of led) (holds_on most led onward gives first risen)
+      may_put m v mid found onward got _ (event_of led) (holds_on most led onward gives.0 gives.1 first risen)
 
   pub settles_on : (most : Option ℕ) (answer : Option (Led H N E)) (onward : Desk H M Q W V N E)
-      → IfSome answer (λ led. LeadGives m v.terms got.first list_settled most left led onward)
+      → IfSome answer (λ led.
+      SomeList (LeadGives m v.terms got.first list_settled most left led onward))
       → IfNone answer (onward ≡ left) → first_of onward ≡ first_of left → KeepsMarks m left onward
       → (w : View (Entry N) DeskTerms) → volumes_of (core_of onward) ≡ volumes_of (core_of left)
       → IfSome answer (λ led. LeadTells m left led onward)
@@ -179,4 +181,4 @@ module _ {H M Q W V N E : Type 0} (m : Meaning H M Q W V N E) (v mid : View (Ent
       has_settled m v mid found left got done settled w s mine fits kept
       (subst (λ d. Put m mid d w) same put)
   settles_on most (Some led) onward gives same first risen w volumes tells put =
-      settles_and_leads most led onward gives first risen w volumes tells put
+      settles_and_leads most led onward gives.0 gives.1 first risen w volumes tells put

@@ -40,6 +40,7 @@ module _ {H M Q W V N E : Type 0} (m : Meaning H M Q W V N E) where
   job_ready v w most job l =
       let view = l.leaves.view in
       let seen = ap (λ (x : View (Entry N) DeskTerms). past_of x.seen) view
+      ∙ ap past_of l.gives.1.gives.leaves
       ∙ past_of-more ((l.history ++ l.gives.1.notices) ++ l.gives.1.gives.waited)
       (Started (job_event job)) in
       record {

@@ -9,7 +9,6 @@ use Rattle.leader_token.specs.Passes.{joined, split_left, split_right}
 use Rattle.leader_token.specs.declared.kept.Kept.{Ghosts as Keeping}
 use Rattle.leader_token.specs.declared.kept.View.{View}
 use Rattle.notify_ring.specs.Passes as ring
-use Rattle.notify_ring.specs.Words.{poster_view}
 use Rattle.notify_ring.specs.declared.view.View.{View as RingView}
 use Rattle.reactor_model.specs.reactor_journal.specs.declared.entry.Entry.{Entry}
 use Rattle.reactor_core.specs.Polling.{FitsLimit}
@@ -22,7 +21,7 @@ use Rattle.tp_reactor.specs.Hired.{observers_of}
 use Rattle.tp_reactor.specs.Observed.{AllObserved, EndsObserved, Loop, PoolObserved, RunsObserved}
 use Rattle.tp_reactor.specs.Observed.{loop_end, loop_of}
 use Rattle.tp_reactor.specs.Pool.{Dismisses, WorkerEnd, hirer, hirer_posted}
-use Rattle.tp_reactor.specs.Words.{known_by, poster_of, posted_of}
+use Rattle.tp_reactor.specs.Words.{posted_of}
 use Rattle.tp_reactor.specs.Working.{first_ran}
 use Rattle.tp_reactor.specs.declared.working.Ran.{Ran}
 use Rattle.tp_reactor.specs.declared.working.Ran.TheVariants as ran

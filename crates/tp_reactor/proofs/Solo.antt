@@ -1,5 +1,5 @@
 -- The loop of a worker that is alone, entry by entry.
-use Rattle.std.proofs.Common.{ℕ, zero, suc, ◌≡◌, inl, inr, true, List, ap, ◌∙◌, subst, Option}
+use Rattle.std.proofs.Common.{ℕ, zero, suc, ◌≡◌, inl, inr, true, List, sym, ap, ◌∙◌, subst, Option}
 use Rattle.std.proofs.Common.{⊎_elim}
 use Rattle.ev_base.specs.ev_types.specs.declared.upcall.Handle.{Handle}
 use Rattle.leader_token.specs.declared.kept.View.{View}
@@ -8,6 +8,7 @@ use Rattle.reactor_model.specs.reactor_journal.specs.declared.entry.Entry.{Entry
 use Rattle.reactor_core.specs.Stands.{Meaning}
 use Rattle.reactor_core.specs.declared.acting.Settled.{Settled}
 use Rattle.reactor_core.specs.declared.job.Done.{Done}
+use Rattle.reactor_desk.specs.Leading.{LeadGives}
 use Rattle.reactor_desk.specs.declared.terms.DeskTerms.{DeskTerms}
 use Rattle.reactor_desk.specs.declared.leading.Led.{Led}
 use Rattle.reactor_desk.specs.declared.leading.Led.TheVariants as led
@@ -43,9 +44,9 @@ module _ {H M Q W V N E : Type 0} (m : Meaning H M Q W V N E) (q : DeskTerms) (m
           found = d.found;
           left = d.left;
           stood = d.finds.stood;
-          gives = d.gives;
+          gives = subst (LeadGives m v.terms d.first d.history most d.found l d.left)
+              (sym (ap (λ (x : View (Entry N) DeskTerms). x.seen) d.leaves.view)) d.gives;
           volumes = d.volumes;
-          leaves = ap (λ (x : View (Entry N) DeskTerms). x.seen) d.leaves.view;
         } in
         subst (λ (t : DeskTerms). LeadsTo m t most v.seen l w.seen) a.terms
         (subst (λ (h : List (Entry N)). LeadsTo m v.terms most h l w.seen)

@@ -12,7 +12,7 @@ use Rattle.reactor_model.specs.reactor_journal.specs.declared.entry.Entry.{Entry
 use Rattle.reactor_core.specs.Polling.{FitsLimit}
 use Rattle.reactor_core.specs.Stands.{Meaning}
 use Rattle.reactor_desk.specs.Desks.{DeskStands, KeepsMarks, marks_of}
-use Rattle.reactor_desk.specs.Leading.{LeadGives, LeadTells, TellsVolumeFault, history_left}
+use Rattle.reactor_desk.specs.Leading.{LeadGives, LeadTells, TellsVolumeFault, SomeList}
 use Rattle.reactor_desk.specs.Leading.{event_of}
 use Rattle.reactor_core.specs.laws_turns.specs.Opens.{opens_of}
 use Rattle.reactor_desk.specs.declared.terms.DeskTerms.{DeskTerms}
@@ -130,26 +130,24 @@ module _ {H M Q W V N E : Type 0} (m : Meaning H M Q W V N E) where
   -- what the lead of a desk says
   abbrev pub DeskLeads : Option ℕ → Desk H M Q W V N E → Led H N E → Desk H M Q W V N E → Type 0
   DeskLeads most old l new = (q : DeskTerms) (F : ℕ) (h : List (Entry N)) → DeskStands m q F old h
-      → FitsLimit q.run most → LeadGives m q F h most old l new
+      → FitsLimit q.run most → SomeList (LeadGives m q F h most old l new)
 
   module _ (v mid : View (Entry N) DeskTerms) (found lent left : Desk H M Q W V N E)
       (got : Got v found mid) (most : Option ℕ) (l : Led H N E) where
     pub lead_of : lent ≡ found → DeskLeads most lent l left → FitsLimit v.terms.run most
-        → LeadGives m v.terms got.first got.list most found l left
+        → SomeList (LeadGives m v.terms got.first got.list most found l left)
     lead_of same leads fits = subst (λ (d : Desk H M Q W V N E). DeskLeads most d l left) same leads
         v.terms got.first got.list got.stood fits
 
     -- what was lent out of the token led, and is put back
     pub held_lead : (same : lent ≡ found) (leads : DeskLeads most lent l left)
         (fits : FitsLimit v.terms.run most) → v.mine ≡ None → KeepsMarks m lent left
-        → Holds v mid found left got (history_left m v.terms got.first got.list most found l left
-        (lead_of same leads fits)) (event_of l)
+        → Holds v mid found left got (lead_of same leads fits).0 (event_of l)
     held_lead same leads fits idle kept =
-        let g : LeadGives m v.terms got.first got.list most found l left =
+        let g : SomeList (LeadGives m v.terms got.first got.list most found l left) =
         lead_of same leads fits in
-        let x : HistoryLeft m v.terms got.list left
-        (history_left m v.terms got.first got.list most found l left g) (event_of l) =
-        left_by_lead m v.terms got.first got.list most found l left got.stood g in
+        let x : HistoryLeft m v.terms got.list left g.0 (event_of l) =
+        left_by_lead m v.terms got.first got.list most found l left g.0 got.stood g.1 in
         record {
           first = x.first;
           within = x.within;
@@ -168,8 +166,9 @@ module _ {H M Q W V N E : Type 0} (m : Meaning H M Q W V N E) where
       left = left;
       first = got.first;
       history = got.list;
+      list = (lead_of same leads fits).0;
       finds = finds v mid found got;
-      gives = lead_of same leads fits;
+      gives = (lead_of same leads fits).1;
       volumes = subst (λ (d : Desk H M Q W V N E). TellsVolumeFault m d l left) same volumes;
       tells = subst (λ (d : Desk H M Q W V N E). LeadTells m d l left) same tells;
       leaves = leaves v mid w found left got _ (event_of l) (held_lead same leads fits idle kept)

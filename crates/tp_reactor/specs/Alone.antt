@@ -9,7 +9,7 @@ use Rattle.reactor_core.specs.declared.job.Done.{Done}
 use Rattle.reactor_core.specs.declared.job.Job.{Job}
 use Rattle.reactor_desk.specs.Desks.{DeskStands}
 use Rattle.reactor_desk.specs.Laws.{history_settled}
-use Rattle.reactor_desk.specs.Leading.{LeadGives, TellsVolumeFault, history_left}
+use Rattle.reactor_desk.specs.Leading.{LeadGives, TellsVolumeFault}
 use Rattle.reactor_desk.specs.Settling.{SettlesDesk}
 use Rattle.reactor_desk.specs.declared.terms.DeskTerms.{DeskTerms}
 use Rattle.reactor_desk.specs.declared.desk.Desk.{Desk}
@@ -27,9 +27,8 @@ pub record LeadsTo {H M Q W V N E : Type 0} (m : Meaning H M Q W V N E) (q : Des
     pub found : Desk H M Q W V N E
     pub left : Desk H M Q W V N E
     pub stood : DeskStands m q first found history
-    pub gives : LeadGives m q first history most found led left
+    pub gives : LeadGives m q first history most found led left list
     pub volumes : TellsVolumeFault m found led left
-    pub leaves : list ≡ history_left m q first history most found led left gives
 
 -- A settling found the history, and left this list.
 pub record SettlesTo {H M Q W V N E : Type 0} (m : Meaning H M Q W V N E) (q : DeskTerms)

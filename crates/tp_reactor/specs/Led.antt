@@ -11,8 +11,7 @@ use Rattle.reactor_core.specs.reactor_summary.specs.Summary.{summary}
 use Rattle.reactor_core.specs.Marks.{is_polled}
 use Rattle.reactor_core.specs.Stands.{Meaning}
 use Rattle.reactor_desk.specs.Desks.{DeskStands, marks_of}
-use Rattle.reactor_desk.specs.Leading.{LeadGives, LeadTells, TellsVolumeFault, history_left}
-use Rattle.reactor_desk.specs.Leading.{event_of}
+use Rattle.reactor_desk.specs.Leading.{LeadGives, LeadTells, TellsVolumeFault, event_of}
 use Rattle.reactor_core.specs.laws_turns.specs.Opens.{opens_of}
 use Rattle.reactor_desk.specs.declared.terms.DeskTerms.{DeskTerms}
 use Rattle.reactor_desk.specs.declared.desk.Desk.{Desk}
@@ -41,20 +40,20 @@ pub record LeavesDesk {H M Q W V N E : Type 0} (m : Meaning H M Q W V N E)
   pub view : w ≡ put_view v (marks_of m left) list mine
   pub risen : NoneAbove (marks_of m found) (marks_of m left)
 
--- One lead of a caller that knew v and knows w from then on. With every other answer than
--- VolumeFault no volume failed in it.
+-- One lead of a caller that knew v and knows w from then on: it found the history and left the
+-- list. With every other answer than VolumeFault no volume failed in it.
 pub record IsLed {H M Q W V N E : Type 0} (m : Meaning H M Q W V N E) (v : View (Entry N) DeskTerms)
     (most : Option ℕ) (led : Led H N E) (w : View (Entry N) DeskTerms) : Type 0 where
   pub found : Desk H M Q W V N E
   pub left : Desk H M Q W V N E
   pub first : ℕ
   pub history : List (Entry N)
+  pub list : List (Entry N)
   pub finds : Finds m v first history found
-  pub gives : LeadGives m v.terms first history most found led left
+  pub gives : LeadGives m v.terms first history most found led left list
   pub volumes : TellsVolumeFault m found led left
   pub tells : LeadTells m found led left
-  pub leaves : LeavesDesk m v found left
-      (history_left m v.terms first history most found led left gives) (event_of led) w
+  pub leaves : LeavesDesk m v found left list (event_of led) w
 
 -- the marks of a worker: of the faults of the watch, of failed waits, of the faults of the volumes,
 -- and of the last wait that was answered Over

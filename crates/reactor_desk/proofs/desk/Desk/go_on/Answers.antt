@@ -44,9 +44,10 @@ pub returns-in-Ok-clause-first : goal.returns-in-Ok-clause-first
 returns-in-Ok-clause-first g c =
     let o = c.requires.stands in
     let d = c.in-Ok.ensures.drains o.0 o.1 o.2 o.3 o.4.0 in
-    first_dispatched _ o.0 o.1 (o.2 ++ d.some.notices) c.args.most_ms _ c.dispatch.result _
-    (c.dispatch.ensures.gives o.0 o.1 (o.2 ++ d.some.notices) d.some.stands d.answer.2
-    (notices_ended o.2 d.some.notices d.some.are ∙ o.4.0) o.4.1)
+    let gives = c.dispatch.ensures.gives o.0 o.1 (o.2 ++ d.some.notices) d.some.stands d.answer.2
+    (notices_ended o.2 d.some.notices d.some.are ∙ o.4.0) o.4.1 in
+    first_dispatched _ o.0 o.1 (o.2 ++ d.some.notices) c.args.most_ms _ c.dispatch.result _ gives.0
+    gives.1
     ∙ sym o.3.core.tracks.journal.first
 
 pub returns-in-Ok-clause-marks : goal.returns-in-Ok-clause-marks

@@ -58,15 +58,19 @@ returns-in-Err-Failed-clause-marks g c =
     c.in-Err-Failed.ensures.same.others c.in-Err-Failed.ensures.cause)
 
 pub returns-in-Err-NoMemory-clause-gives : goal.returns-in-Err-NoMemory-clause-gives
-returns-in-Err-NoMemory-clause-gives g c q F h o fits = (
-  record {
-    running = sym (c.is_ended.ensures q.run F h o.core) ∙ c.if-is_ended.false;
-    whole = sym c.is_broken.ensures.told ∙ c.if-is_broken.false;
-  },
-  leads_nowhere _ q F h c.args.most_ms c.args.self.now _
-      c.in-Err-NoMemory.ensures.same.others.volume o
-      c.in-Err-NoMemory.ensures.same.others.net (c.in-Err-NoMemory.ensures.err q.run F h o.core),
-)
+returns-in-Err-NoMemory-clause-gives g c q F h o fits =
+    let on = leads_nowhere _ q F h c.args.most_ms c.args.self.now _
+    c.in-Err-NoMemory.ensures.same.others.volume o c.in-Err-NoMemory.ensures.same.others.net
+    (c.in-Err-NoMemory.ensures.err q.run F h o.core) in (
+      on.0,
+      (
+        record {
+          running = sym (c.is_ended.ensures q.run F h o.core) ∙ c.if-is_ended.false;
+          whole = sym c.is_broken.ensures.told ∙ c.if-is_broken.false;
+        },
+        on.1,
+      ),
+    )
 
 pub returns-in-Err-NoMemory-clause-marks : goal.returns-in-Err-NoMemory-clause-marks
 returns-in-Err-NoMemory-clause-marks g c =
@@ -75,7 +79,7 @@ returns-in-Err-NoMemory-clause-marks g c =
 
 pub returns-then-is_ended-clause-gives : goal.returns-then-is_ended-clause-gives
 returns-then-is_ended-clause-gives g c q F h o fits =
-    (sym (c.is_ended.ensures q.run F h o.core) ∙ c.if-is_ended.true, refl)
+    (h, (sym (c.is_ended.ensures q.run F h o.core) ∙ c.if-is_ended.true, refl, refl))
 
 pub returns-then-is_ended-clause-tells : goal.returns-then-is_ended-clause-tells
 returns-then-is_ended-clause-tells g c = tt
@@ -85,10 +89,13 @@ returns-then-is_ended-clause-marks g c = desk_keeps _ _ _ (core_same _ _)
 
 pub returns-then-is_broken-clause-gives : goal.returns-then-is_broken-clause-gives
 returns-then-is_broken-clause-gives g c q F h o fits = (
-  sym (c.is_ended.ensures q.run F h o.core) ∙ c.if-is_ended.false,
-  sym c.is_broken.ensures.told
-      ∙ c.if-is_broken.true,
-  refl,
+  h,
+  (
+    sym (c.is_ended.ensures q.run F h o.core) ∙ c.if-is_ended.false,
+    sym c.is_broken.ensures.told ∙ c.if-is_broken.true,
+    refl,
+    refl,
+  ),
 )
 
 pub returns-then-is_broken-clause-tells : goal.returns-then-is_broken-clause-tells
@@ -101,12 +108,16 @@ returns-then-is_broken-clause-marks g c = desk_keeps _ _ _ (core_same _ _)
 
 pub returns-in-Err-Failed-clause-gives : goal.returns-in-Err-Failed-clause-gives
 returns-in-Err-Failed-clause-gives g c q F h o fits = (
-  record {
-    running = sym (c.is_ended.ensures q.run F h o.core) ∙ c.if-is_ended.false;
-    whole = sym c.is_broken.ensures.told ∙ c.if-is_broken.false;
-  },
-  desk_same _ q F h c.args.self.now _ c.in-Err-Failed.ensures.same.others.volume o
-      (c.in-Err-Failed.ensures.err q.run F h o.core),
+  h,
+  (
+    record {
+      running = sym (c.is_ended.ensures q.run F h o.core) ∙ c.if-is_ended.false;
+      whole = sym c.is_broken.ensures.told ∙ c.if-is_broken.false;
+    },
+    desk_same _ q F h c.args.self.now _ c.in-Err-Failed.ensures.same.others.volume o
+        (c.in-Err-Failed.ensures.err q.run F h o.core),
+    refl,
+  ),
 )
 
 pub returns-in-Err-NoMemory-clause-tells : goal.returns-in-Err-NoMemory-clause-tells
