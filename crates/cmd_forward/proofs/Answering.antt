@@ -1,5 +1,5 @@
 -- What is answered of a run that was told.
-use Rattle.std.proofs.Common.{ℕ, ◌≡◌, inl, inr, List, Some, refl, sym, subst}
+use Rattle.std.proofs.Common.{ℕ, ◌≡◌, ◌∙◌, inl, inr, List, Option, Some, None, refl, sym, subst}
 use Rattle.ev_base.specs.End.{EndFacts}
 use Rattle.ev_base.specs.Net.{NetFacts}
 use Rattle.ev_base.specs.Sink.{SinkFacts}
@@ -72,3 +72,18 @@ module _ {M S K E : Type 0} (tells : E → EndFacts) (facts : M → NetFacts E)
         (subst (λ (s : S). RunEnds tells most_input options.wait (source input) (source s)
         (facts ran.net) ran.status) (sym told.input) ends) told.told;
   }
+
+-- ---- what is there
+
+-- of two values that are there, both are the one
+pub same_net : {A : Type 0} (there : Option A) (a b : A) → there ≡ Some a → there ≡ Some b → a ≡ b
+same_net there a b first second = same (sym first ∙ second)
+  where
+    same : Some a ≡ Some b → a ≡ b
+    same q = cc
+
+pub no_net : {A X : Type 0} (there : Option A) (a : A) → there ≡ None → there ≡ Some a → X
+no_net {A} {X} there a none some = absurd (not_there (sym none ∙ some))
+  where
+    not_there : ◌≡◌ {A = Option A} None (Some a) → ⊥
+    not_there q = cc

@@ -36,7 +36,7 @@ use Rattle.reactor_core.specs.reactor_summary.proofs.Reading.{alive_is, open_som
 use Rattle.reactor_core.specs.reactor_summary.proofs.Reading.{waiting_some}
 use Rattle.reactor_core.specs.reactor_summary.proofs.Told.{told}
 use Rattle.reactor_core.proofs.Dispatch.{had_other, had_returned}
-use Rattle.cmd_forward.proofs.Timeouts.{may_fit}
+use Rattle.connector_run.proofs.Waits.{may_fit}
 
 -- ---- turns
 

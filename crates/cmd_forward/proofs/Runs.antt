@@ -6,7 +6,7 @@ use Rattle.std.specs.Option.{option_to_list}
 use Rattle.std.specs.Prelude.{option_and_then, slice_get}
 use Rattle.ev_base.specs.Bytes.{ReaderBytes, MovesOn, HasGiven}
 use Rattle.ev_base.specs.End.{EndFacts}
-use Rattle.ev_base.specs.Net.{NetFacts}
+use Rattle.ev_base.specs.Net.{Call, NetFacts}
 use Rattle.ev_base.specs.Source.{SourceFacts}
 use Rattle.ev_base.specs.Story.{Story, OfBytes}
 use Rattle.ev_base.specs.Terms.{Terms}
@@ -15,6 +15,7 @@ use Rattle.ev_base.specs.declared.net.Net.{Ghosts as NetGhosts}
 use Rattle.ev_base.specs.ev_types.specs.declared.upcall.Why.{Why}
 use Rattle.reactor_model.specs.reactor_journal.specs.Event.{Item}
 use Rattle.reactor_core.specs.Ends.{WhereTold}
+use Rattle.connector_run.specs.Waits.{AskedUntil}
 use Rattle.forwarder.specs.connector.specs.Connecting.{Progress}
 use Rattle.forwarder.specs.connector.specs.Connectors.{ConnectorGone}
 use Rattle.forwarder.specs.connector.specs.declared.note.ConnectNote.{ConnectNote}
@@ -34,7 +35,7 @@ use Rattle.forwarder.specs.one_net.specs.bounded_input.specs.Input.{TakesInput}
 use Rattle.forwarder.specs.one_net.specs.declared.one_end.OneEnd.{OneEnd}
 use Rattle.cmd_forward.specs.Answers.{most_input}
 use Rattle.cmd_forward.specs.Runs.{HasRun, TookBack, TookNoneBack}
-use Rattle.cmd_forward.specs.Starting.{stories_of, terms_of}
+use Rattle.cmd_forward.specs.Starting.{stories_of, terms_bound, terms_of}
 
 -- ---- the terms
 
@@ -57,8 +58,8 @@ story_is (Some bytes) story told = (bytes, refl, same story told)
 some_is : (a f : ℕ) → ◌≡◌ {A = Option ℕ} (Some a) (Some f) → f ≡ a
 some_is a f told = cc
 
-pub starts : (i : SourceFacts) → StartsAt (terms_of i) i
-starts i = record {
+pub starts : (bound : Option (Option ℕ)) (i : SourceFacts) → StartsAt (terms_bound bound i) i
+starts bound i = record {
   gave = λ g told. some_is i.gave g told;
   faults = λ f told. some_is i.faults f told;
   bytes = at_start_is i.bytes;
@@ -206,3 +207,11 @@ module _ {M S E : Type 0} {N : NetGhosts M E} {G : Ghosts E} (facts : M → NetF
         (λ ends told. keeps.turned_away ends told
         ∙ ap (map (λ e. peer_of e.1)) (none_left (λ e. e.1) net.turned_away away));
   }
+
+-- ---- the waits
+
+-- a net that was asked nothing
+pub none_asked : (wait : ℕ) (calls : Option (List Call)) → WhereTold (λ calls. calls ≡ []) calls
+    → WhereTold (AskedUntil wait) calls
+none_asked wait None none = tt
+none_asked wait (Some calls) none = subst (AskedUntil wait) (sym none) tt

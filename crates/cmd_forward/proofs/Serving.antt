@@ -1,6 +1,6 @@
 -- What a run leaves, by how it ended.
-use Rattle.std.proofs.Common.{ℕ, suc, ◌≡◌, ◌≤◌, ◌==◌, ◌&&◌, ◌||◌, inl, inr, arith, Bool, true}
-use Rattle.std.proofs.Common.{false, not, List, [], ◌∷◌, ◌++◌, map, Option, Some, None, refl}
+use Rattle.std.proofs.Common.{ℕ, suc, ◌≡◌, ◌≤◌, ◌==◌, ◌||◌, inl, inr, arith, Bool, true}
+use Rattle.std.proofs.Common.{false, not, List, [], ◌∷◌, ◌++◌, map, Option, Some, refl}
 use Rattle.std.proofs.Common.{sym, ap}
 use Rattle.std.proofs.Common.{subst, ◌∙◌, cond}
 use Rattle.std.proofs.lemmas.Bool.{and_from, and_parts, false≢true, not-true}
@@ -16,7 +16,6 @@ use Rattle.ev_base.specs.declared.end.PeerEnd.{Ghosts}
 use Rattle.ev_base.specs.declared.net.Net.{Ghosts as NetGhosts}
 use Rattle.ev_base.specs.ev_types.specs.declared.upcall.Answer.TheVariants.{Close}
 use Rattle.ev_base.specs.ev_types.specs.declared.upcall.Kind.TheVariants as kind
-use Rattle.ev_base.specs.ev_types.specs.declared.upcall.Handle.{Handle}
 use Rattle.ev_base.specs.ev_types.specs.declared.upcall.Why.{Why}
 use Rattle.timer_queue.specs.declared.timer.Timer.{Timer}
 use Rattle.reactor_model.specs.Handling.{Handling, NoClose}
@@ -39,7 +38,6 @@ use Rattle.reactor_core.specs.declared.reactor.Core.{Core}
 use Rattle.reactor_core.specs.declared.reactor.Parts.{Parts}
 use Rattle.reactor_core.specs.reactor_summary.specs.Summary as S
 use Rattle.reactor_core.specs.reactor_summary.specs.Summary.{summary}
-use Rattle.reactor_core.specs.reactor_summary.specs.declared.parts.LiveHandle.{LiveHandle}
 use Rattle.reactor_core.specs.reactor_summary.proofs.Reading.{alive_is, open_is}
 use Rattle.reactor_core.specs.reactor_summary.proofs.Told.{told}
 use Rattle.reactor_core.proofs.Moves.{found_open}
@@ -51,6 +49,7 @@ use Rattle.connector_run.specs.Phases.{ClosedItself, IsAlive, first_entries, is_
 use Rattle.connector_run.specs.Running.{EndsSo, HasCause}
 use Rattle.connector_run.specs.declared.running.Ended.{Ended}
 use Rattle.connector_run.specs.declared.running.Ended.TheVariants as ended
+use Rattle.connector_run.proofs.Waits.{all_past, alive_lives, alive_past_is, base, where_told}
 use Rattle.laws_reports.specs.Laws.{holds_back, reports, rests}
 use Rattle.laws_reports.proofs.Turns.{answered}
 use Rattle.forwarder.specs.connector.specs.declared.note.ConnectNote.{ConnectNote}
@@ -73,7 +72,7 @@ use Rattle.cmd_forward.proofs.Closed.{ends_closed, notes_closing}
 use Rattle.cmd_forward.proofs.LastTurns.{asks_last, is_calm, none_asks}
 use Rattle.cmd_forward.proofs.Runs.{Left, has_run, took_back}
 use Rattle.cmd_forward.proofs.Timeouts.{comes_late}
-use Rattle.cmd_forward.proofs.Waits.{Polls, base, polls_started, readies, reported, was_answered}
+use Rattle.cmd_forward.proofs.Waits.{Polls, polls_started, readies, reported, was_answered}
 
 abbrev Note : Type 0
 Note = ConnectNote ForwardNote
@@ -83,15 +82,6 @@ Note = ConnectNote ForwardNote
 past_two : {N : Type 0} (h : List (Entry N)) (a b c : Entry N)
     → past_of (h ++ a ∷ b ∷ c ∷ []) ≡ c ∷ b ∷ a ∷ past_of h
 past_two h a b c = past_of-append h (a ∷ b ∷ c ∷ [])
-
-all_past : {N : Type 0} (p : Entry N → Bool) (xs : List (Entry N)) → list_all p xs ≡ true
-    → list_all p (past_of xs) ≡ true
-all_past p [] all = refl
-all_past {N} p (x ∷ xs) all =
-    let parts = and_parts (p x) (list_all p xs) all in
-    ap (list_all p) (past_of-append (x ∷ []) xs)
-    ∙ (list_all-append p (past_of xs) (x ∷ [])
-    ∙ and_from _ _ (all_past p xs parts.1) (and_from _ _ parts.0 refl))
 
 calm_served : {N : Type 0} (wait : ℕ) (es : List (Entry N)) → list_all is_served es ≡ true
     → list_all is_calm (es ++ base wait) ≡ true
@@ -150,7 +140,7 @@ some_polled between entries rest moment is = omega (
 module _ {N : Type 0} (wait most : ℕ) (h : List (Entry N)) (a : IsAlive wait h)
     (legal : Legal h most) where
   past_is : past_of h ≡ past_of a.served ++ base wait
-  past_is = ap past_of a.is ∙ past_of-append (first_entries wait) a.served
+  past_is = alive_past_is wait h a
 
   served_past : list_all is_served (past_of a.served) ≡ true
   served_past = all_past is_served a.served a.kinds
@@ -160,14 +150,7 @@ module _ {N : Type 0} (wait most : ℕ) (h : List (Entry N)) (a : IsAlive wait h
   calm = ap (list_all is_calm) past_is ∙ calm_served wait (past_of a.served) served_past
 
   pub lives : S.is_alive (sum h) 0 ≡ true
-  lives = ap (list_any (λ (h : LiveHandle). h.handle.0 == 0 && h.alive)) a.handles
-      ∙ here a.handler a.handle a.alive
-    where
-      here : (handler : LiveHandle) → handler.handle ≡ one_handle → handler.alive ≡ true
-          → (handler.handle.0 == 0 && handler.alive || false) ≡ true
-      here handler handle alive =
-          ap (λ (x : Handle). x.0 == 0 && handler.alive || false) handle
-          ∙ ap (λ b. true && b || false) alive
+  lives = alive_lives wait h a
 
   alive_past : P.is_alive (past_of h) 0 ≡ true
   unfolding lives
@@ -283,11 +266,6 @@ module _ {N : Type 0} (wait most first : ℕ) (h : List (Entry N)) (c : ClosedIt
       )
 
 -- ---- the run
-
-where_told : {A : Type 0} (P Q : A → Type 0) (told : Option A) → ((a : A) → P a → Q a)
-    → WhereTold P told → WhereTold Q told
-where_told P Q None f h = tt
-where_told P Q (Some a) f h = f a h
 
 module _ {H Q W V M S E : Type 0} {N : NetGhosts M E} {G : Ghosts E}
     {m : Meaning H (ForwardNet M S E N G) Q W V (ConnectNote ForwardNote) (ForwardEnd E S G)}

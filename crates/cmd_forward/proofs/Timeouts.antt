@@ -1,8 +1,8 @@
 -- That a timer's upcall is started no earlier than the timer was set for.
 use Rattle.std.proofs.Common.{ℕ, ◌≡◌, ◌≤◌, ◌+◌, ◌-◌, ◌*◌, ◌/◌, ◌==◌, Bool, true, false, not}
-use Rattle.std.proofs.Common.{List, [], ◌∷◌, ◌++◌, refl, sym, ◌∙◌, subst, arith, Option, Some}
+use Rattle.std.proofs.Common.{List, [], ◌∷◌, ◌++◌, refl, sym, subst, arith, Option, Some}
 use Rattle.std.proofs.Common.{None, cond, nat_le}
-use Rattle.std.proofs.lemmas.Bool.{false≢true, and_parts, cond-true, cond-false}
+use Rattle.std.proofs.lemmas.Bool.{false≢true, and_parts, cond-true}
 use Rattle.std.proofs.lemmas.Bool.{leb-true}
 use Rattle.std.proofs.lemmas.List.{append-nil, append_assoc}
 use Rattle.std.specs.List.{list_all, find, filter}
@@ -16,8 +16,7 @@ use Rattle.reactor_model.specs.reactor_journal.specs.declared.entry.Entry.{Entry
 use Rattle.reactor_model.specs.reactor_journal.specs.declared.entry.Entry.TheVariants as entry
 use Rattle.reactor_model.specs.reactor_journal.specs.Past.{past_of, upcall_of, next_deadline}
 use Rattle.reactor_model.specs.reactor_journal.specs.Past as P
-use Rattle.reactor_model.specs.reactor_journal.specs.Follow as F
-use Rattle.reactor_model.specs.reactor_journal.specs.Follow.{Legal, is_legal}
+use Rattle.reactor_model.specs.reactor_journal.specs.Follow.{Legal}
 use Rattle.reactor_model.specs.reactor_journal.proofs.Turning.{past_of-more, Legal-front}
 use Rattle.reactor_model.specs.reactor_journal.proofs.Turning.{Legal-last}
 use Rattle.reactor_core.specs.reactor_summary.specs.Summary as S
@@ -28,11 +27,10 @@ use Rattle.reactor_core.specs.reactor_summary.specs.declared.parts.ArmedTimer.{A
 use Rattle.reactor_core.specs.reactor_summary.specs.declared.parts.DueTimer.{DueTimer}
 use Rattle.reactor_core.specs.reactor_summary.specs.declared.parts.OpenEvent.{OpenEvent}
 use Rattle.reactor_core.specs.reactor_summary.specs.declared.parts.WaitingEvent.{WaitingEvent}
-use Rattle.reactor_core.specs.reactor_summary.proofs.Follows.{may_follow_is}
 use Rattle.reactor_core.specs.reactor_summary.proofs.Lists.{each_append, each_filter, each_same}
-use Rattle.reactor_core.specs.reactor_summary.proofs.Told.{told}
 use Rattle.core_loop.proofs.Keeping.{sum}
 use Rattle.connector_run.specs.Phases.{first_entries, is_served}
+use Rattle.connector_run.proofs.Waits.{each_found, may_fit}
 
 -- ---- what is late enough
 
@@ -56,18 +54,6 @@ record ComesLate (wait : ℕ) (s : Summary) : Type 0 where
   opens : Each (OpenFrom wait s.moment) s.opens
 
 -- ---- lists
-
-each_found : {A : Type 0} (P : A → Type 0) (p : A → Bool) (xs : List A) (a : A) → Each P xs
-    → find p xs ≡ Some a → P a
-each_found P p [] a e q = cc
-each_found {A} P p (x ∷ xs) a e q = go (λ rest. each_found P p xs a e.1 rest) (p x) refl
-  where
-    go : (find p xs ≡ Some a → P a) → (b : Bool) → p x ≡ b → P a
-    go later true b = subst P (same (sym (cond-true (p x) (Some x) (find p xs) b) ∙ q)) e.0
-      where
-        same : ◌≡◌ {A = Option A} (Some x) (Some a) → x ≡ a
-        same q = cc
-    go later false b = later (sym (cond-false (p x) (Some x) (find p xs) b) ∙ q)
 
 each_with_timer : (wait : ℕ) (a : ArmedTimer) (armed : List ArmedTimer) → ArmedFrom wait a
     → Each (ArmedFrom wait) armed → Each (ArmedFrom wait) (S.with_timer a armed)
@@ -245,13 +231,6 @@ late_step wait most d r s (entry.Returned event Close note) kind fits k = record
 late_step wait most d r s _ kind fits k = absurd (false≢true kind)
 
 -- ---- a history
-
-pub may_fit : {N : Type 0} (most : ℕ) (past : List (Entry N)) (e : Entry N)
-    → is_legal most past ≡ true
-    → F.may_follow most past e ≡ true
-    → R.fits most (F.follows_due past) (F.follows_ready past) (summary past) e ≡ true
-may_fit most past e legal may = (and_parts _ _
-    (may_follow_is most past (summary past) e legal (told most past legal) ∙ may)).1
 
 late_one : {N : Type 0} (wait most : ℕ) (h : List (Entry N)) (e : Entry N) → is_served e ≡ true
     → Legal (h ++ e ∷ []) most → ComesLate wait (sum h) → ComesLate wait (sum (h ++ e ∷ []))

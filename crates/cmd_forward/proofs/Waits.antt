@@ -24,7 +24,8 @@ use Rattle.reactor_core.specs.reactor_summary.specs.Summary as S
 use Rattle.reactor_core.specs.reactor_summary.specs.Summary.{Summary, summary}
 use Rattle.reactor_core.specs.reactor_summary.proofs.Reading.{wanted_is}
 use Rattle.reactor_core.specs.reactor_summary.proofs.Told.{told}
-use Rattle.connector_run.specs.Phases.{is_served, one_handle, write_alone}
+use Rattle.connector_run.specs.Phases.{is_served, write_alone}
+use Rattle.connector_run.proofs.Waits.{base}
 use Rattle.cmd_forward.specs.Runs.{WasAnsweredAt, is_write, reports_in, tells_write}
 
 -- ---- a moment that was read of a wait
@@ -110,10 +111,6 @@ module _ {H E N : Type 0} (means : Handling H E N) (t : Terms) where
 abbrev pub readies : {N : Type 0} → Entry N → Bool
 readies (entry.Ready handle kind) = handle.0 == 0 && is_write kind
 readies _ = false
-
--- the registration, the latest entry first
-abbrev pub base : {N : Type 0} → ℕ → List (Entry N)
-base wait = entry.Scheduled 0 one_handle wait 0 ∷ entry.Opened one_handle write_alone ∷ []
 
 mask_stays : {N : Type 0} (wait : ℕ) (es : List (Entry N)) → list_all is_served es ≡ true
     → P.mask_of (es ++ base wait) 0 ≡ write_alone

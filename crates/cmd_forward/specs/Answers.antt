@@ -7,6 +7,8 @@ use Rattle.ev_base.specs.Sink.{SinkFacts}
 use Rattle.ev_base.specs.Source.{SourceFacts}
 use Rattle.sink_buffer.specs.Written.{TookAll, TookFront}
 use Rattle.cmd_line.specs.Given.{Text}
+use Rattle.connector_run.specs.Waits.{AskedUntil}
+use Rattle.reactor_core.specs.Ends.{WhereTold}
 use Rattle.cmd_forward.specs.Runs.{HasRun}
 use Rattle.cmd_forward.specs.Statuses.{IsDone, RunEnds, code_of, number_of, totals_text}
 use Rattle.cmd_forward.specs.Words.{forward_of}
@@ -39,6 +41,15 @@ abbrev pub DialsPort : {M S K : Type 0} → List Text → List ℕ → List ℕ 
 DialsPort words before now left = ((now ≡ before) × IsUndialled words left)
     ⊎ ((options : ForwardOptions) × (forward_of words ≡ Some options)
     × (now ≡ before ++ options.port ∷ []))
+
+-- The limits of the waits, if a connection was begun and its net tells its calls. Each wait was
+-- asked with exactly the time that was left until the milliseconds were over for which the words
+-- let the connection be waited for, and with no limit after that.
+abbrev pub LimitsWaits : {M S K E : Type 0} → (M → NetFacts E) → List Text → Forwarded M S K
+    → Type 0
+LimitsWaits {M = M} facts words left =
+    (options : ForwardOptions) (net : M) → forward_of words ≡ Some options → left.net ≡ Some net
+    → WhereTold (AskedUntil options.wait) (facts net).calls
 
 -- The words call the command, and a connection was begun to their port, so no count of the dialler
 -- rose. Of what they say and of the net, P holds.

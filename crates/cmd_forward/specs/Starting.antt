@@ -27,20 +27,27 @@ abbrev pub stories_of : Option ReaderBytes → Option (List Story)
 stories_of None = None
 stories_of (Some bytes) = Some (OfBytes bytes.left ∷ OfBytes bytes.given ∷ [])
 
--- the terms of a run over an input that tells this
-abbrev pub terms_of : SourceFacts → Terms
-terms_of i = record (open_terms 1) {
+-- the terms of a run over an input that tells this, which bind the limit of its waits so, or leave
+-- it open
+abbrev pub terms_bound : Option (Option ℕ) → SourceFacts → Terms
+terms_bound bound i = record (open_terms 1) {
+  limit = bound;
   stories = stories_of i.bytes;
   input_gave = Some i.gave;
   input_faults = Some i.faults;
 }
 
--- a reactor stands for the registration of the one handler, on these terms, with a timer that comes
--- due after so many milliseconds
+-- those of the run: its waits have no limit of their own
+abbrev pub terms_of : SourceFacts → Terms
+terms_of i = terms_bound (Some None) i
+
+-- a reactor stands for the registration of the one handler, whatever binds that limit, with a timer
+-- that comes due after so many milliseconds
 pub record HasStarted {H M Q W V N E : Type 0} (m : Meaning H M Q W V N E) (i : SourceFacts)
     (wait : ℕ) (core : Core H M Q W V N E) : Type 0 where
   pub some : 1 ≤ wait
-  pub stands : Stands m (terms_of i) core 0 (first_entries wait)
+  pub stands : (bound : Option (Option ℕ))
+      → Stands m (terms_bound bound i) core 0 (first_entries wait)
 
 -- nothing was opened, on these terms
 pub record IsLeftUnopened {M S E : Type 0} {N : NetGhosts M E} {G : Ghosts E}

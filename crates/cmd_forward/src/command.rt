@@ -3,7 +3,9 @@ ghost use Rattle.std.specs.Prelude.{◌≡◌, ◌++◌, ◌∷◌, [], Some, ma
 ghost use Rattle.std.specs.String.{string_bytes};
 ghost use Rattle.cmd_line.specs.Given.{Text};
 ghost use Rattle.std.specs.Prelude.{List};
-ghost use Rattle.cmd_forward.specs.Answers.{DialsPort, HasAnswered, IsUnbegun};
+ghost use Rattle.reactor_core.specs.Ends.{WhereTold};
+ghost use Rattle.connector_run.specs.Waits.{AskedUntil};
+ghost use Rattle.cmd_forward.specs.Answers.{DialsPort, HasAnswered, IsUnbegun, LimitsWaits};
 ghost use Rattle.cmd_forward.specs.Telling.{HasNumbers, IsTold};
 ghost use Rattle.cmd_forward.specs.Words.{AreInRange, forward_of};
 
@@ -38,7 +40,9 @@ pub struct Forwarded<M, S, K> {
 /// sent, the two lines `records R` and `bytes T` are written to the output; with another status
 /// than 0 nothing is, but for a front of them if a write failed. At most 2^40 bytes of the source
 /// are read, and one more to see whether it is there. Of several faults of a run the least status
-/// is answered. The source and the sink come back whatever happens.
+/// is answered. The source and the sink come back whatever happens. Until the connection has been
+/// waited for as long as the words say, each wait of the net is asked with exactly the time that is
+/// left; from then on it lasts until something is reported.
 pub fn forward_main<R: Wait, D: Dialer, S: Source, K: Sink>(
     rt: &R,
     alloc: Global,
@@ -54,6 +58,7 @@ where
         result }
     ensures dials { DialsPort (map string_bytes words.now) (D.ports dialer.old)
         (D.ports dialer.new) result }
+    ensures waits { LimitsWaits D.Net.facts (map string_bytes words.now) result }
 {
     match ForwardOptions::of(alloc, words) {
         Ok(Some(options)) => dial(rt, alloc, options, dialer, input, output),
@@ -78,6 +83,8 @@ where
         → HasAnswered D.End.tells D.Net.facts S.facts K.facts words
         (D.faults dialer.old) (D.faults dialer.new) input output result }
     ensures dials { D.ports dialer.new ≡ D.ports dialer.old ++ options.port ∷ [] }
+    ensures waits { (net : D.Net) → result.net ≡ Some net
+        → WhereTold (AskedUntil options.wait) (D.Net.facts net).calls }
 {
     match dialer.dial(alloc, options.port) {
         Ok((net, end)) => tell(forward(rt, alloc, net, end, input, options.wait), output),

@@ -1,9 +1,11 @@
 //! The run over a connection that was begun.
-ghost use Rattle.std.specs.Prelude.{◌≡◌, ◌≤◌};
+ghost use Rattle.std.specs.Prelude.{◌≡◌, ◌≤◌, []};
 ghost use Rattle.ev_base.specs.Dialer.{GivesEnd, LeavesDialOpen};
 ghost use Rattle.ev_base.specs.Source.{SourceFacts};
 ghost use Rattle.ev_base.specs.Terms.{Terms};
 ghost use Rattle.reactor_model.specs.Turns.{most_milliseconds};
+ghost use Rattle.reactor_core.specs.Ends.{WhereTold};
+ghost use Rattle.connector_run.specs.Waits.{AskedUntil};
 ghost use Rattle.cmd_forward.specs.Answers.{most_input};
 ghost use Rattle.cmd_forward.specs.Statuses.{RunEnds};
 ghost use Rattle.cmd_forward.specs.Starting.{HasStarted, IsLeftUnopened};
@@ -31,7 +33,8 @@ pub(crate) struct Ran<M, S> {
 }
 
 /// Waits for the connection of an end that a dialler gave with its net, at most `wait`
-/// milliseconds, from 1 to 4,294,967,295, and then sends the records of the source to it.
+/// milliseconds, from 1 to 4,294,967,295, and then sends the records of the source to it. Each wait
+/// of the net is asked with exactly the time that is left of these, and with no limit after them.
 pub(crate) fn forward<R: Wait, E: DialEnd + Drop, M: Net<End = E>, S: Source>(
     rt: &R,
     alloc: Global,
@@ -44,8 +47,9 @@ pub(crate) fn forward<R: Wait, E: DialEnd + Drop, M: Net<End = E>, S: Source>(
     requires few { wait ≤ most_milliseconds }
     requires given { GivesEnd M.facts E.tells (net, end) }
     requires kept { (t : Terms) → LeavesDialOpen t → M.keeps t net × E.keeps t end }
-    ensures { RunEnds E.tells most_input wait (S.facts input) (S.facts result.input)
+    ensures ends { RunEnds E.tells most_input wait (S.facts input) (S.facts result.input)
         (M.facts result.net) result.status }
+    ensures asked { WhereTold (AskedUntil wait) (M.facts result.net).calls }
 {
     let end = ForwardEnd::new(end, input);
     let handler = Connector::new(end, Forwarder::new(alloc));
@@ -62,10 +66,13 @@ fn serve<R: Wait, E: DialEnd + Drop, M: Net<End = E>, S: Source>(
 ) -> Ran<M, S>
     requires { (i : SourceFacts) × (wait : _)
         × HasStarted ⟦<ForwardCore<E, M, S> as Means>⟧.m i wait core }
-    ensures { (i : SourceFacts) (wait : _)
+    ensures ends { (i : SourceFacts) (wait : _)
         → HasStarted ⟦<ForwardCore<E, M, S> as Means>⟧.m i wait core
         → RunEnds E.tells most_input wait i (S.facts result.input) (M.facts result.net)
         result.status }
+    ensures asked { (i : SourceFacts) (wait : _)
+        → HasStarted ⟦<ForwardCore<E, M, S> as Means>⟧.m i wait core
+        → WhereTold (AskedUntil wait) (M.facts result.net).calls }
 {
     let mut core = core;
     let ended = run(rt, &mut core);
@@ -91,9 +98,12 @@ fn give_up<E: DialEnd + Drop, M: Net<End = E>, S: Source>(
     left: Unopened<ForwardEnd<E, S>, ForwardNet<M, S>>,
 ) -> Ran<M, S>
     requires { (i : SourceFacts) × IsLeftUnopened M.facts M.keeps E.tells E.keeps S.facts i left }
-    ensures { (i : SourceFacts) → IsLeftUnopened M.facts M.keeps E.tells E.keeps S.facts i left
+    ensures ends { (i : SourceFacts) → IsLeftUnopened M.facts M.keeps E.tells E.keeps S.facts i left
         → (wait : _) → RunEnds E.tells most_input wait i (S.facts result.input)
         (M.facts result.net) result.status }
+    ensures asked { (i : SourceFacts)
+        → IsLeftUnopened M.facts M.keeps E.tells E.keeps S.facts i left
+        → WhereTold (λ calls. calls ≡ []) (M.facts result.net).calls }
 {
     let Unopened { why, net, end } = left;
     let (_, end) = end.into_parts();

@@ -82,10 +82,11 @@ module _ {H M Q' W V N E : Type 0} (m : Meaning H M Q' W V N E) (t : Terms)
   refused_for wait old new back register.NoMemory g = (tt, g.1, tt)
   refused_for wait old new back register.NetFailed g = (tt, g.2, g.1)
 
-  pub idle_none : (core : Core H M Q' W V N E) → Stands m t core 0 [] → IsIdle m core
-  idle_none core stands = record {
+  pub idle_none : (core : Core H M Q' W V N E) → t.limit ≡ None → Stands m t core 0 []
+      → IsIdle m core
+  idle_none core limit stands = record {
     terms = t;
-    limit = one.limit;
+    limit = limit;
     first = 0;
     history = [];
     stands = stands;
@@ -98,11 +99,12 @@ caused told refused before between now is same cause =
     subst (λ (o : OpenRefused). OpenHasCause o before now) (sym is)
     (subst (λ (n : ℕ). OpenHasCause refused before n) (sym same) cause)
 
--- a reactor that had no handler took no end back
+-- a reactor that had no handler asked its net nothing, and took no end back
 pub record TookNone {H M Q W V N E : Type 0} (m : Meaning H M Q W V N E) (t : Terms)
     (parts : Parts N M Q W V) : Type 0 where
   pub retired : WhereTold (λ ends. ends ≡ []) (m.facts parts.net).retired
   pub turned_away : WhereTold (λ ends. ends ≡ []) (m.facts parts.net).turned_away
+  pub none_asked : WhereTold (λ calls. calls ≡ []) (m.facts parts.net).calls
   pub kept : m.keeps t parts.net
 
 pub took_none : {H M Q W V N E : Type 0} (m : Meaning H M Q W V N E) (armed : Q → List Timer)
@@ -117,6 +119,7 @@ took_none {N = N} m armed t parts l =
       retired = told_as net.retired.0 [] (m.facts parts.net).retired net.retired.1 net.retired.2;
       turned_away = told_as net.turned_away.0 [] (m.facts parts.net).turned_away net.turned_away.1
           net.turned_away.2;
+      none_asked = net.calls;
       kept = stand.net_keeps;
     }
 

@@ -8,7 +8,8 @@ use Rattle.reactor_model.specs.reactor_journal.specs.Follow.{Legal}
 use Rattle.reactor_core.specs.Stands.{Meaning}
 use Rattle.reactor_core.specs.declared.reactor.Core.{Core}
 use Rattle.std.proofs.lemmas.Bool.{false≢true, leb-false, leb-true}
-use Rattle.core_loop.specs.Leading.{Reaches, GoesOn, RunsSo, StaysBelow, closed_of, is_enough}
+use Rattle.core_loop.specs.Leading.{NoneDue, Reaches, GoesOn, RunsSo, StaysBelow, closed_of}
+use Rattle.core_loop.specs.Leading.{is_enough}
 use Rattle.core_loop.specs.declared.turns.RunEnd.TheVariants as end
 use Rattle.core_loop.proofs.Leading.{goes_so}
 use Rattle.connector_run.specs.Phases.{IsAlive, ClosedItself, first_entries}
@@ -29,7 +30,7 @@ few wait h below = below_one (closed_of h) (below refl)
 
 module _ {H M Q' W V N E : Type 0} (m : Meaning H M Q' W V N E) (t : Terms)
     (none : (up : Upcall) (deed : _) → m.means.may t up deed → ⊥) (wait over : ℕ)
-    (core : Core H M Q' W V N E) where
+    (core : Core H M Q' W V N E) (none_due : NoneDue {N = N} (first_entries wait)) where
   pub ends_closed : GoesOn m t (first_entries wait)
       (RunsSo m.means (Some 1) (Some end.Enough) over t (first_entries wait)) core
       → GoesOn m t (first_entries wait) (EndsSo m t wait ended.Closed over) core
@@ -37,7 +38,7 @@ module _ {H M Q' W V N E : Type 0} (m : Meaning H M Q' W V N E) (t : Terms)
       let e = g.so.ends in
       let none_closed = few wait e.between (e.below) in
       let alive = alive_steps m.means t none wait (first_entries wait) e.earlier e.between
-      (alive_first wait) e.reaches none_closed in
+      (alive_first wait) none_due e.reaches none_closed in
       let u = turned m.means t e.between e.entries none e.turn in
       let legal : Legal (e.between ++ e.entries) t.most =
       subst (λ (k : List (Entry N)). Legal k t.most) e.is g.stands.tracks.legal in
@@ -53,7 +54,7 @@ module _ {H M Q' W V N E : Type 0} (m : Meaning H M Q' W V N E) (t : Terms)
       → Reaches m.means t (first_entries wait) steps h
       → StaysBelow (Some 1) (first_entries wait) h → IsAlive wait h
   alive_at steps h reaches below = alive_steps m.means t none wait (first_entries wait) steps h
-      (alive_first wait) reaches (few wait h below)
+      (alive_first wait) none_due reaches (few wait h below)
 
   pub ends_over : GoesOn m t (first_entries wait)
       (RunsSo m.means (Some 1) (Some end.Over) over t (first_entries wait)) core

@@ -3,7 +3,7 @@ use Rattle.std.proofs.Common.{ℕ, ◌≡◌, ◌≤◌, ◌<◌, ◌==◌, ◌&
 use Rattle.std.proofs.Common.{true}
 use Rattle.std.proofs.Common.{false, not, List, [], ◌∷◌, ◌++◌, length, refl, sym, ap, ◌∙◌, subst}
 use Rattle.std.proofs.Common.{arith, map, Option, Some, None, cond}
-use Rattle.std.proofs.lemmas.Bool.{cases_Bool, false≢true, and_from, eqb-true}
+use Rattle.std.proofs.lemmas.Bool.{cases_Bool, false≢true, and_from, and_parts, eqb-true}
 use Rattle.std.proofs.lemmas.List.{append-nil, append_assoc}
 use Rattle.std.proofs.lemmas.List.Folds.{list_all-append}
 use Rattle.std.specs.List.{list_all, list_any, filter}
@@ -33,10 +33,10 @@ use Rattle.reactor_core.specs.Polling.{due_of, ready_of}
 use Rattle.reactor_core.specs.Settling.{IsClosing, returned}
 use Rattle.reactor_core.specs.Handlers.{is_live}
 use Rattle.reactor_core.proofs.Dispatch.{open_is_live}
-use Rattle.core_loop.specs.Leading.{IsWait, IsTurn, Reaches, closed_of}
+use Rattle.core_loop.specs.Leading.{IsWait, IsTurn, NoneDue, Reaches, closed_of}
 use Rattle.core_loop.proofs.Keeping.{sum, sum_more}
-use Rattle.connector_run.specs.Phases.{IsAlive, ClosedItself, first_entries, is_served, one_handle}
-use Rattle.connector_run.specs.Phases.{write_alone}
+use Rattle.connector_run.specs.Phases.{BeginInTime, IsAlive, ClosedItself, first_entries, is_served}
+use Rattle.connector_run.specs.Phases.{one_handle, write_alone}
 
 -- ---- counts of closings and refusals
 
@@ -118,12 +118,60 @@ kinds_dues : (N : Type 0) (timers : List ℕ) (reports : List Report)
 kinds_dues N [] reports = kinds_readies N reports
 kinds_dues N (timer ∷ timers) reports = kinds_dues N timers reports
 
+-- ---- waits that were begun in time
+
+abbrev is_later : {N : Type 0} → Entry N → Bool
+is_later (entry.Polled moment) = false
+is_later _ = true
+
+-- entries without a wait
+in_time_one : {N : Type 0} (h : List (Entry N)) (e : Entry N) → is_later e ≡ true
+    → BeginInTime (past_of h) → BeginInTime (past_of (h ++ e ∷ []))
+in_time_one {N} h e later begun =
+    subst (λ (past : List (Entry N)). BeginInTime past) (sym (past_of-more h e)) (by e later)
+  where
+    by : (e : Entry N) → is_later e ≡ true → BeginInTime (e ∷ past_of h)
+    by (entry.Polled moment) later = absurd (false≢true later)
+    by _ later = begun
+
+in_time_on : {N : Type 0} (h es : List (Entry N)) → list_all is_later es ≡ true
+    → BeginInTime (past_of h) → BeginInTime (past_of (h ++ es))
+in_time_on {N} h [] later begun =
+    subst (λ (k : List (Entry N)). BeginInTime (past_of k)) (sym (append-nil h)) begun
+in_time_on {N} h (e ∷ es) later begun =
+    let parts = and_parts (is_later e) (list_all is_later es) later in
+    subst (λ (k : List (Entry N)). BeginInTime (past_of k)) (append_assoc h (e ∷ []) es)
+    (in_time_on (h ++ e ∷ []) es parts.1 (in_time_one h e parts.0 begun))
+
+later_readies : (N : Type 0) (reports : List Report)
+    → list_all (is_later {N = N}) (map ready_of reports) ≡ true
+later_readies N [] = refl
+later_readies N (r ∷ reports) = later_readies N reports
+
+later_dues : (N : Type 0) (timers : List ℕ) (reports : List Report)
+    → list_all (is_later {N = N}) (map due_of timers ++ map ready_of reports) ≡ true
+later_dues N [] reports = later_readies N reports
+later_dues N (timer ∷ timers) reports = later_dues N timers reports
+
+-- a wait that is begun while no deadline is reached
+in_time_wait : {N : Type 0} (h : List (Entry N)) (moment : ℕ) (timers : List ℕ)
+    (reports : List Report) → NoneDue h → BeginInTime (past_of h)
+    → BeginInTime (past_of (h ++ entry.Polled moment
+    ∷ (map due_of timers ++ map ready_of reports)))
+in_time_wait {N} h moment timers reports none begun =
+    subst (λ (k : List (Entry N)). BeginInTime (past_of k)) (append_assoc h
+    (entry.Polled moment ∷ []) (map due_of timers ++ map ready_of reports))
+    (in_time_on (h ++ entry.Polled moment ∷ []) (map due_of timers ++ map ready_of reports)
+    (later_dues N timers reports)
+    (subst (λ (past : List (Entry N)). BeginInTime past)
+    (sym (past_of-more h (entry.Polled moment))) (none, begun)))
+
 more_served : {N : Type 0} (wait : ℕ) (h es : List (Entry N)) (a : IsAlive wait h)
     → list_all is_served es ≡ true → (handler : LiveHandle)
     → (sum (h ++ es)).handles ≡ handler ∷ [] → handler.handle ≡ one_handle
-    → handler.alive ≡ true → closed_of (h ++ es) ≤ 0 → (sum (h ++ es)).ended ≡ false
-    → IsAlive wait (h ++ es)
-more_served wait h es a kinds handler handles handle alive few going = record {
+    → handler.alive ≡ true → closed_of (h ++ es) ≤ 0 → BeginInTime (past_of (h ++ es))
+    → (sum (h ++ es)).ended ≡ false → IsAlive wait (h ++ es)
+more_served wait h es a kinds handler handles handle alive few in_time going = record {
   served = a.served ++ es;
   is = ap (λ k. k ++ es) a.is ∙ append_assoc (first_entries wait) a.served es;
   kinds = list_all-append is_served a.served es ∙ and_from _ _ a.kinds kinds;
@@ -132,12 +180,13 @@ more_served wait h es a kinds handler handles handle alive few going = record {
   handle = handle;
   alive = alive;
   none_closed = omega (arith, few);
+  in_time = in_time;
   going = going;
 }
 
-alive_waits : {N : Type 0} (wait : ℕ) (h entries : List (Entry N)) → IsAlive wait h
+alive_waits : {N : Type 0} (wait : ℕ) (h entries : List (Entry N)) → IsAlive wait h → NoneDue h
     → IsWait entries → closed_of (h ++ entries) ≤ 0 → IsAlive wait (h ++ entries)
-alive_waits {N} wait h entries a w few =
+alive_waits {N} wait h entries a none w few =
     subst (λ es. IsAlive wait (h ++ es)) (sym w.is)
     (let es : List (Entry N) = entry.Polled w.now ∷ (map due_of w.timers ++ map ready_of w.reports)
     in
@@ -146,7 +195,7 @@ alive_waits {N} wait h entries a w few =
     (same_dues (h ++ entry.Polled w.now ∷ []) w.timers w.reports) in
     more_served wait h es a (kinds_dues N w.timers w.reports) a.handler (s.handles ∙ a.handles)
     a.handle a.alive (omega (arith, few, ap (λ es. closed_of (h ++ es)) w.is))
-    (s.ended ∙ a.going))
+    (in_time_wait h w.now w.timers w.reports none a.in_time) (s.ended ∙ a.going))
 
 -- ---- a turn
 
@@ -316,12 +365,15 @@ module _ {N : Type 0} (wait : ℕ) (h entries : List (Entry N)) (a : IsAlive wai
       let none : u.closing ≡ [] =
       subst (λ (b : Bool). IsClosing (not b) u.handle u.closing) (is ∙ lives_on) closing in
       let all : h ++ entries ≡ back = behind ∙ (ap (λ es. back ++ es) none ∙ append-nil back) in
-      let kinds : list_all is_served entries ≡ true =
-      ap (list_all is_served) (u.is ∙ ap (λ es. entry.Started u.event
-      ∷ entry.Returned u.returned u.answer u.note ∷ es) none) in
+      let entries_are : entries ≡ entry.Started u.event
+      ∷ entry.Returned u.returned u.answer u.note ∷ [] =
+      u.is ∙ ap (λ es. entry.Started u.event
+      ∷ entry.Returned u.returned u.answer u.note ∷ es) none in
+      let kinds : list_all is_served entries ≡ true = ap (list_all is_served) entries_are in
       more_served wait h entries a kinds left.now
       (ap (λ k. (sum k).handles) all ∙ left.is) (left.handle ∙ a.handle)
       (lives (sum back).handles left.now u.handle.0 left.is (is ∙ lives_on)) few
+      (in_time_on h entries (ap (list_all is_later) entries_are) a.in_time)
       (ap (λ k. (sum k).ended) all ∙ going)
 
   -- a closing is counted
@@ -427,18 +479,25 @@ module _ {N : Type 0} (wait : ℕ) (h entries : List (Entry N)) (a : IsAlive wai
 
 module _ {H E N : Type 0} (means : Handling H E N) (t : Terms)
     (none : (up : Upcall) (deed : _) → means.may t up deed → ⊥) where
+  -- after each step no deadline is reached
+  none_due_at : (before : List (Entry N)) (steps : List (List (Entry N))) (h : List (Entry N))
+      → NoneDue before → Reaches means t before steps h → NoneDue h
+  none_due_at before [] h none is = subst (λ (k : List (Entry N)). NoneDue k) (sym is) none
+  none_due_at before (entries ∷ earlier) h none r = r.4
+
   -- while no handler was closed, the one is alive
   pub alive_steps : (wait : ℕ) (before : List (Entry N)) (steps : List (List (Entry N)))
-      (h : List (Entry N)) → IsAlive wait before → Reaches means t before steps h
+      (h : List (Entry N)) → IsAlive wait before → NoneDue before → Reaches means t before steps h
       → closed_of h ≤ 0 → IsAlive wait h
-  alive_steps wait before [] h a is few = subst (IsAlive wait) (sym is) a
-  alive_steps wait before (entries ∷ earlier) h a r few =
+  alive_steps wait before [] h a none_due is few = subst (IsAlive wait) (sym is) a
+  alive_steps wait before (entries ∷ earlier) h a none_due r few =
       let between = r.0 in
       let same : closed_of h ≡ closed_of (between ++ entries) = ap closed_of r.3 in
-      let b = alive_steps wait before earlier between a r.1
+      let b = alive_steps wait before earlier between a none_due r.1
       (omega (arith, few, same, closed_grows between entries)) in
       subst (IsAlive wait) (sym r.3)
-      (⊎_elim (λ w. alive_waits wait between entries b w (omega (arith, few, same)))
+      (⊎_elim (λ w. alive_waits wait between entries b
+      (none_due_at before earlier between none_due r.1) w (omega (arith, few, same)))
       (λ turn. alive_turns wait between entries b (turned means t between entries none turn)
       (omega (arith, few, same))) r.2)
 
@@ -454,5 +513,6 @@ alive_first wait = record {
   handle = refl;
   alive = refl;
   none_closed = refl;
+  in_time = tt;
   going = refl;
 }

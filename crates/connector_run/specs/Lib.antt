@@ -1,4 +1,5 @@
 pub mod Phases
 pub mod Running
 pub mod Leaving
+pub mod Waits
 pub mod Opening

@@ -15,7 +15,6 @@ use Rattle.connector_run.specs.declared.opening.Unopened.{Unopened}
 -- terms of a run: one handler may be live, and all else that a reactor asks of them is open
 pub record AreOfOne (t : Terms) : Type 0 where
   pub most : t.most ≡ 1
-  pub limit : t.limit ≡ None
   pub steady : t.steady ≡ None
 
 -- a new net, which keeps what the terms say, and a handler that had no turns
@@ -41,12 +40,13 @@ abbrev pub OpenHasCause : OpenRefused → ℕ → ℕ → Type 0
 OpenHasCause NotAttached before now = Rose before now
 OpenHasCause NoMemory before now = Unit {0}
 
--- Nothing was opened: the net took no end back, and the handler's end comes back as that of one
--- that had no turns.
+-- Nothing was opened: the net was asked nothing and took no end back, and the handler's end comes
+-- back as that of one that had no turns.
 pub record LeavesUnopened {N E M : Type 0} (facts : M → NetFacts E) (keeps : Terms → M → Type 0)
     (gone : E → N → Type 0) (t : Terms) (left : Unopened E M) : Type 0 where
   pub retired : WhereTold (λ ends. ends ≡ []) (facts left.net).retired
   pub turned_away : WhereTold (λ ends. ends ≡ []) (facts left.net).turned_away
+  pub none_asked : WhereTold (λ calls. calls ≡ []) (facts left.net).calls
   pub kept : keeps t left.net
   pub said : N
   pub unused : gone left.end said

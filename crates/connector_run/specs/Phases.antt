@@ -9,7 +9,7 @@ use Rattle.ev_base.specs.ev_types.specs.declared.upcall.Upcall.{Upcall}
 use Rattle.reactor_model.specs.reactor_journal.specs.declared.entry.Entry.{Entry}
 use Rattle.reactor_model.specs.reactor_journal.specs.declared.entry.Entry.TheVariants as entry
 use Rattle.reactor_model.specs.reactor_journal.specs.Past.{past_of}
-use Rattle.reactor_core.specs.reactor_summary.specs.Summary.{summary, open_event}
+use Rattle.reactor_core.specs.reactor_summary.specs.Summary.{summary, is_overdue, open_event}
 use Rattle.reactor_core.specs.reactor_summary.specs.declared.parts.LiveHandle.{LiveHandle}
 use Rattle.core_loop.specs.Leading.{closed_of}
 
@@ -34,6 +34,12 @@ is_served (entry.Started event) = true
 is_served (entry.Returned event answer note) = true
 is_served _ = false
 
+-- each wait of a past was begun while no armed deadline was reached
+abbrev pub BeginInTime : {N : Type 0} → List (Entry N) → Type 0
+BeginInTime [] = Unit {0}
+BeginInTime (entry.Polled now ∷ past) = (is_overdue (summary past) ≡ false) × BeginInTime past
+BeginInTime (_ ∷ past) = BeginInTime past
+
 -- It is alive: it was registered, and waits, timers, reports and upcalls are all that was since.
 pub record IsAlive {N : Type 0} (wait : ℕ) (h : List (Entry N)) : Type 0 where
   pub served : List (Entry N)
@@ -44,6 +50,7 @@ pub record IsAlive {N : Type 0} (wait : ℕ) (h : List (Entry N)) : Type 0 where
   pub handle : handler.handle ≡ one_handle
   pub alive : handler.alive ≡ true
   pub none_closed : closed_of h ≡ 0
+  pub in_time : BeginInTime (past_of h)
   pub going : (summary (past_of h)).ended ≡ false
 
 -- It closed itself: it was alive until its last turn, which was that of this upcall at this moment,

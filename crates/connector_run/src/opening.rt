@@ -1,5 +1,5 @@
 //! The beginning of a run.
-ghost use Rattle.std.specs.Prelude.{◌≡◌, ◌≤◌, [], IfErr, IfOk};
+ghost use Rattle.std.specs.Prelude.{◌≡◌, ◌≤◌, [], IfErr, IfOk, None};
 ghost use Rattle.ev_base.specs.Terms.{Terms};
 ghost use Rattle.ev_base.specs.ev_types.specs.declared.upcall.Why.TheVariants.{Refused};
 ghost use Rattle.connector.specs.Connectors.{ConnectorFits, ConnectorGone};
@@ -43,7 +43,7 @@ pub struct Unopened<E, M> {
 /// A reactor over a new net, with one connector that had no turns. It is registered with the mask
 /// write alone and a timer that comes due once after `wait` milliseconds, from 1 to 4,294,967,295.
 /// It lets its journal go in volumes of as many entries as their keeper says. If there is no
-/// reactor, the net and the connector's end come back.
+/// reactor, the net, which was asked nothing, and the connector's end come back.
 pub fn open<E: DialEnd, V: Service<End = E> + Drop, M: Net<End = E>>(
     alloc: Global,
     net: M,
@@ -54,7 +54,7 @@ where
     V::Note: Drop,
     requires some { 1 ≤ wait }
     requires few { wait ≤ most_milliseconds }
-    requires begins { (t : Terms) × CanOpen (M.facts net) (M.keeps t net)
+    requires begins { (t : Terms) × (t.limit ≡ None) × CanOpen (M.facts net) (M.keeps t net)
         (ConnectorFits E.tells E.keeps V.serves t handler []) t }
     ensures opened { IfOk result (λ core. (t : Terms) → CanOpen (M.facts net) (M.keeps t net)
         (ConnectorFits E.tells E.keeps V.serves t handler []) t
@@ -92,7 +92,8 @@ where
     V::Note: Drop,
     requires some { 1 ≤ wait }
     requires few { wait ≤ most_milliseconds }
-    requires may { (t : Terms) × CanRegister ⟦<ConnectCore<E, V, M> as Means>⟧.m t core handler }
+    requires may { (t : Terms) × (t.limit ≡ None)
+        × CanRegister ⟦<ConnectCore<E, V, M> as Means>⟧.m t core handler }
     ensures opened { IfOk result (λ new. (t : Terms)
         → CanRegister ⟦<ConnectCore<E, V, M> as Means>⟧.m t core handler
         → Stands ⟦<ConnectCore<E, V, M> as Means>⟧.m t new 0 (first_entries wait)) }

@@ -1,5 +1,5 @@
 //! The run of one connector on a reactor.
-ghost use Rattle.std.specs.Prelude.{◌≡◌, ◌≤◌, ℕ, List, None};
+ghost use Rattle.std.specs.Prelude.{◌≡◌, ◌≤◌, ◌⊎◌, ℕ, List, None, Some};
 ghost use Rattle.ev_base.specs.Terms.{Terms};
 ghost use Rattle.connector.specs.declared.note.ConnectNote.{ConnectNote};
 ghost use Rattle.reactor_model.specs.reactor_journal.specs.declared.entry.Entry.{Entry};
@@ -14,6 +14,7 @@ ghost use Rattle.core_loop.specs.Leading.{GoesOn, NoneOpen};
 ghost use Rattle.connector_run.specs.Leaving.{LastWaitWasOver, LeavesAlive, LeavesClosed};
 ghost use Rattle.connector_run.specs.Phases.{ClosedItself, IsAlive, first_entries};
 ghost use Rattle.connector_run.specs.Running.{EndsSo, HasCause, IsRegistered};
+ghost use Rattle.connector_run.specs.Waits.{AskedUntil};
 
 use connector::{ConnectNote, Connector, Service};
 use core_loop::RunEnd;
@@ -42,7 +43,8 @@ pub enum Ended {
 
 /// Serves the connector, which was registered with the mask write alone and a timer that comes due
 /// once after `wait` milliseconds, until it closed itself, nothing can be reported any more, or
-/// something fails.
+/// something fails. Each wait is asked with exactly the time that is left until the timer comes
+/// due, and without a limit once it did.
 pub fn run<R: Wait, E: DialEnd, V: Service<End = E> + Drop, M: Net<End = E>>(
     rt: &R,
     core: &mut ConnectCore<E, V, M>,
@@ -55,6 +57,9 @@ where
         → FitsLimit t None
         → GoesOn ⟦<ConnectCore<E, V, M> as Means>⟧.m t (first_entries wait)
         (EndsSo ⟦<ConnectCore<E, V, M> as Means>⟧.m t wait result (over_of core.new)) core.new }
+    ensures asked { (t : Terms) (F wait : ℕ) → t.limit ≡ Some None
+        → Stands ⟦<ConnectCore<E, V, M> as Means>⟧.m t core.old F (first_entries wait)
+        → WhereTold (AskedUntil wait) (M.facts (net_of core.new)).calls }
     ensures cause { HasCause result (M.facts (net_of core.old)).failed_waits
         (M.facts (net_of core.new)).failed_waits }
 {
@@ -72,7 +77,7 @@ where
 /// Stops a reactor with no upcall on its way, and takes it apart. Its net has retired one end, that
 /// of the connector, and turned none away. If the connector had closed itself, the journal ends
 /// with the note of its last turn. If the last wait was answered that nothing can be reported
-/// any more, the net tells so, if it tells its calls.
+/// any more, the net tells so, if it tells its calls. No wait is asked.
 pub fn finish<E: DialEnd, V: Service<End = E> + Drop, M: Net<End = E>>(
     core: ConnectCore<E, V, M>,
 ) -> Parts<ConnectNote<V::Note>, M, SortedTimers, NoWatch, DropVolumes>
@@ -91,6 +96,10 @@ where
         → Stands ⟦<ConnectCore<E, V, M> as Means>⟧.m t core F h → NoneOpen h
         → over_of core ≡ count is_polled (past_of h) → 1 ≤ over_of core
         → WhereTold LastWaitWasOver (M.facts result.net).calls }
+    ensures asked { (t : Terms) (F : ℕ) (h : List (Entry (ConnectNote V.Note))) (wait : ℕ)
+        → t.limit ≡ Some None → Stands ⟦<ConnectCore<E, V, M> as Means>⟧.m t core F h → NoneOpen h
+        → IsAlive wait h ⊎ ClosedItself wait F h
+        → WhereTold (AskedUntil wait) (M.facts result.net).calls }
     ensures waits { (M.facts result.net).failed_waits ≡ (M.facts (net_of core)).failed_waits }
 {
     let mut core = core;

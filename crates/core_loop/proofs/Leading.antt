@@ -45,6 +45,7 @@ use Rattle.reactor_core.specs.declared.reactor.Parts.{Parts}
 use Rattle.reactor_core.proofs.Over.{none_live}
 use Rattle.core_loop.specs.Idle.{IsIdleOn, HasClosed, IsIdle, HasNoUpcall, FailsVolume}
 use Rattle.core_loop.specs.Leading.{NoneOpen, GoesOn, IsWait, IsTurn, IsWaited, Reaches, IsStep}
+use Rattle.core_loop.specs.Leading.{NoneDue}
 use Rattle.core_loop.specs.Leading.{Leads, closed_of, TurnedSo, StaysBelow, EndedSo, RunsSo}
 use Rattle.core_loop.specs.Leading.{EndsEnough}
 use Rattle.core_loop.specs.Leading.{EndsOver, LeavesFrom, PolledSo, PostedSo, is_enough}
@@ -119,7 +120,7 @@ module _ {H E N : Type 0} (means : Handling H E N) (t : Terms) where
       → Reaches means t a (then ++ first) c
   reaches_then a b c first [] r is = subst (Reaches means t a first) (sym is) r
   reaches_then a b c first (entries ∷ earlier) r s =
-      (s.0, reaches_then a b s.0 first earlier r s.1, s.2, s.3)
+      (s.0, reaches_then a b s.0 first earlier r s.1, s.2, s.3, s.4)
 
   ended_then : (until : Option ℕ) (ended : Option RunEnd) (over first : ℕ)
       (a b c : List (Entry N)) (steps : List (List (Entry N))) → Reaches means t a steps b
@@ -179,10 +180,10 @@ module _ {H E N : Type 0} (means : Handling H E N) (t : Terms) where
 
   -- a run of one step
   pub runs_once : (until : Option ℕ) (ended : Option RunEnd) (over first : ℕ)
-      (h entries g : List (Entry N)) → IsStep means t h entries → g ≡ h ++ entries
+      (h entries g : List (Entry N)) → IsStep means t h entries → g ≡ h ++ entries → NoneDue g
       → EndedSo means t until ended over h first g → RunsSo means until ended over t h first g
-  runs_once until ended over first h entries g step is ends =
-      record { steps = entries ∷ []; reaches = (h, refl, step, is); ends = ends }
+  runs_once until ended over first h entries g step is none_due ends =
+      record { steps = entries ∷ []; reaches = (h, refl, step, is, none_due); ends = ends }
 
   -- what stands after a volume that was not taken says nothing more of the history
   pub failed_so : (until : Option ℕ) (why : RunEnd) (before now over first : ℕ)
@@ -355,7 +356,7 @@ module _ {H M Q' W V N E : Type 0} (m : Meaning H M Q' W V N E) (t : Terms) wher
   step_enough until closed over h new a is =
       goes_so h _ (RunsSo m.means until (Some end.Enough) over t h) new a
       (runs_once m.means t until (Some end.Enough) over a.first h a.so.0 a.history (inr a.so.1)
-      a.so.2
+      a.so.2 a.stands.settled.none_due
       (record {
         earlier = [];
         between = h;
@@ -376,6 +377,7 @@ module _ {H M Q' W V N E : Type 0} (m : Meaning H M Q' W V N E) (t : Terms) wher
   step_turned until closed over h new a is =
       goes_so h _ (RunsSo m.means until None over t h) new a
       (runs_once m.means t until None over a.first h a.so.0 a.history (inr a.so.1) a.so.2
+      a.stands.settled.none_due
       (λ few. step_counted until closed false a.first h a.history a.so is))
 
   -- a wait after which there is no upcall to make, since nothing can be reported any more; any
@@ -388,7 +390,7 @@ module _ {H M Q' W V N E : Type 0} (m : Meaning H M Q' W V N E) (t : Terms) wher
   step_over until over h between same new b none =
       let is : b.history ≡ h ++ b.so.entries = b.so.is ∙ ap (λ k. k ++ b.so.entries) same in
       runs_once m.means t until (Some end.Over) over b.first h b.so.entries b.history (inl
-      b.so.wait) is
+      b.so.wait) is b.stands.settled.none_due
       (record {
         earlier = [];
         between = h;
@@ -409,6 +411,7 @@ module _ {H M Q' W V N E : Type 0} (m : Meaning H M Q' W V N E) (t : Terms) wher
   step_waited until found over h between same new b =
       let is : b.history ≡ h ++ b.so.entries = b.so.is ∙ ap (λ k. k ++ b.so.entries) same in
       runs_once m.means t until None over b.first h b.so.entries b.history (inl b.so.wait) is
+      b.stands.settled.none_due
       (counted_below until h b.history (ap closed_of is ∙ closed_waited h b.so.entries b.so.wait))
 
   -- ---- the end

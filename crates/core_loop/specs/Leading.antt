@@ -12,7 +12,7 @@ use Rattle.reactor_model.specs.Handling.{Handling}
 use Rattle.reactor_model.specs.reactor_journal.specs.declared.entry.Entry.{Entry}
 use Rattle.reactor_model.specs.reactor_journal.specs.declared.entry.Entry.TheVariants as entry
 use Rattle.reactor_model.specs.reactor_journal.specs.Past.{past_of, count, is_pick}
-use Rattle.reactor_core.specs.reactor_summary.specs.Summary.{summary, is_alive}
+use Rattle.reactor_core.specs.reactor_summary.specs.Summary.{summary, is_alive, is_overdue}
 use Rattle.reactor_core.specs.Acting.{ActAppends, StopAppends}
 use Rattle.reactor_core.specs.Beginning.{IsShutDown, PartsStand}
 use Rattle.reactor_core.specs.Marks.{is_polled}
@@ -37,6 +37,10 @@ use Rattle.core_loop.specs.declared.turns.RunEnd.TheVariants as end
 -- no upcall is on its way
 abbrev pub NoneOpen : {N : Type 0} → List (Entry N) → Type 0
 NoneOpen h = (summary (past_of h)).opens ≡ []
+
+-- no armed deadline is reached
+abbrev pub NoneDue : {N : Type 0} → List (Entry N) → Type 0
+NoneDue h = is_overdue (summary (past_of h)) ≡ false
 
 -- how many handlers were closed or refused
 abbrev pub closed_of : {N : Type 0} → List (Entry N) → ℕ
@@ -78,13 +82,14 @@ abbrev pub IsStep : {H E N : Type 0} → Handling H E N → Terms → List (Entr
     → Type 0
 IsStep means t h entries = IsWait entries ⊎ IsTurn means t h entries
 
--- a history is reached from an earlier one by these steps, the last first
+-- A history is reached from an earlier one by these steps, the last first. After each of them the
+-- timers have come due whose deadline is reached.
 abbrev pub Reaches : {H E N : Type 0} → Handling H E N → Terms → List (Entry N)
     → List (List (Entry N)) → List (Entry N) → Type 0
 Reaches means t before [] h = h ≡ before
 Reaches {N = N} means t before (entries ∷ earlier) h =
     (between : List (Entry N)) × Reaches means t before earlier between
-    × IsStep means t between entries × (h ≡ between ++ entries)
+    × IsStep means t between entries × (h ≡ between ++ entries) × NoneDue h
 
 -- ---- what a call leads to
 

@@ -1,4 +1,8 @@
-use Rattle.std.proofs.Common.{inl, inr, refl, sym, ◌∙◌}
+use Rattle.std.proofs.Common.{inl, inr, refl, subst, sym, ◌∙◌}
+use Rattle.reactor_core.specs.Ends.{WhereTold}
+use Rattle.connector_run.specs.Waits.{AskedUntil}
+use Rattle.cmd_forward.specs.declared.words.ForwardOptions.{ForwardOptions}
+use Rattle.cmd_forward.proofs.Answering.{no_net, same_net}
 use Rattle.cmd_forward.specs.declared.status.Status.TheVariants as status
 use Rattle.cmd_forward.proofs.command.forward_main.Goals as goal
 
@@ -46,3 +50,18 @@ returns-in-Err-clause-dials g c = inl (
     why = inr c.unbegun-in-Err.ensures.numbers.code;
   },
 )
+
+pub returns-in-Ok-Some-clause-waits : goal.returns-in-Ok-Some-clause-waits
+returns-in-Ok-Some-clause-waits g c options net called is =
+    subst (λ (o : ForwardOptions). WhereTold (AskedUntil o.wait) (g.D.Net.Net.facts net).calls)
+    (same_net _ c.in-Ok-Some.options options
+    (sym c.in-Ok-Some.ensures.options ∙ c.in-Ok-Some.field-0-is) called)
+    (c.dial.ensures.waits net is)
+
+pub returns-in-Ok-None-clause-waits : goal.returns-in-Ok-None-clause-waits
+returns-in-Ok-None-clause-waits g c options net called is =
+    no_net _ net c.unbegun.ensures.unbegun.net is
+
+pub returns-in-Err-clause-waits : goal.returns-in-Err-clause-waits
+returns-in-Err-clause-waits g c options net called is =
+    no_net _ net c.unbegun-in-Err.ensures.unbegun.net is

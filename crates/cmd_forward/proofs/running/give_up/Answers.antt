@@ -1,4 +1,5 @@
-use Rattle.std.proofs.Common.{sym, subst, ap, ◌∙◌}
+use Rattle.std.proofs.Common.{◌≡◌, [], sym, subst, ap, ◌∙◌}
+use Rattle.reactor_core.specs.Ends.{WhereTold}
 use Rattle.forwarder.specs.ForwardEnds.{input_end}
 use Rattle.forwarder.specs.ForwardNets.{net_within}
 use Rattle.forwarder.specs.one_net.specs.OneEnd.{input_of}
@@ -8,8 +9,13 @@ use Rattle.cmd_forward.proofs.Unopened.{ends_unopened}
 use Rattle.cmd_forward.proofs.running.give_up.Goals as goal
 use Rattle.cmd_forward.proofs.running.give_up.Goals.{in-NotAttached, in-NoMemory}
 
-pub returns : goal.returns
-returns g c i leaves wait =
+pub returns-clause-asked : goal.returns-clause-asked
+returns-clause-asked g c i leaves =
+    subst (λ net. WhereTold (λ calls. calls ≡ []) (g.M.Net.facts net).calls) (sym c.close.ensures)
+    leaves.leaves.none_asked
+
+pub returns-clause-ends : goal.returns-clause-ends
+returns-clause-ends g c i leaves wait =
     let tells = g.E.PeerEnd.tells in
     let source = g.S.Source.facts in
     let facts = g.M.Net.facts in

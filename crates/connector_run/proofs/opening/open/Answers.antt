@@ -8,11 +8,12 @@ pub register-requires-clause-may : goal.register-requires-clause-may
 register-requires-clause-may g c =
     let r = c.requires.begins in (
       r.0,
+      r.1,
       record {
-        terms = r.1.terms;
-        stands = c.in-Ok.ensures.ok r.0 (begins r.0 _ _ _ r.1.terms r.1.fresh r.1.kept
+        terms = r.2.terms;
+        stands = c.in-Ok.ensures.ok r.0 (begins r.0 _ _ _ r.2.terms r.2.fresh r.2.kept
             c.new-timers.ensures.timers);
-        fits = r.1.fits_none;
+        fits = r.2.fits_none;
       },
     )
 

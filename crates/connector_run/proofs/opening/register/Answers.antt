@@ -7,20 +7,20 @@ use Rattle.connector_run.proofs.opening.register.Goals as goal
 pub register-requires-clause-stands : goal.register-requires-clause-stands
 register-requires-clause-stands g c =
     let r = c.requires.may in
-    (r.0, 0, [], r.1.stands, r.1.fits)
+    (r.0, 0, [], r.2.stands, r.2.fits)
 
 pub refusal-requires : goal.refusal-requires
 refusal-requires g c =
     let r = c.requires.may in
-    (refused_for _ r.0 r.1.terms c.args.wait c.args.core c.register.new.self _ c.in-Err.refused
-    (c.in-Err.ensures.stands r.0 0 [] r.1.stands r.1.fits)).0
+    (refused_for _ r.0 r.2.terms c.args.wait c.args.core c.register.new.self _ c.in-Err.refused
+    (c.in-Err.ensures.stands r.0 0 [] r.2.stands r.2.fits)).0
 
 pub close-requires : goal.close-requires
 close-requires g c =
     let r = c.requires.may in
-    idle_none _ r.0 r.1.terms c.register.new.self
-    (refused_for _ r.0 r.1.terms c.args.wait c.args.core c.register.new.self _ c.in-Err.refused
-    (c.in-Err.ensures.stands r.0 0 [] r.1.stands r.1.fits)).1.stands
+    idle_none _ r.0 r.2.terms c.register.new.self r.1
+    (refused_for _ r.0 r.2.terms c.args.wait c.args.core c.register.new.self _ c.in-Err.refused
+    (c.in-Err.ensures.stands r.0 0 [] r.2.stands r.2.fits)).1.stands
 
 pub returns-in-Ok-clause-opened : goal.returns-in-Ok-clause-opened
 returns-in-Ok-clause-opened g c = λ t may.
@@ -35,6 +35,7 @@ returns-in-Err-clause-unopened g c = λ t may.
     record {
       retired = n.retired;
       turned_away = n.turned_away;
+      none_asked = n.none_asked;
       kept = n.kept;
       said = _;
       unused = c.handle_close-end.ensures.gone t None [] (λ own. not_own own) r.1.offered;
@@ -44,5 +45,5 @@ pub returns-in-Err-clause-cause : goal.returns-in-Err-clause-cause
 returns-in-Err-clause-cause g c =
     let r = c.requires.may in
     caused c.refusal.result _ _ _ _ c.refusal.ensures c.close.ensures.attaches
-    (refused_for _ r.0 r.1.terms c.args.wait c.args.core c.register.new.self _ c.in-Err.refused
-    (c.in-Err.ensures.stands r.0 0 [] r.1.stands r.1.fits)).2
+    (refused_for _ r.0 r.2.terms c.args.wait c.args.core c.register.new.self _ c.in-Err.refused
+    (c.in-Err.ensures.stands r.0 0 [] r.2.stands r.2.fits)).2

@@ -1,4 +1,4 @@
-use Rattle.std.proofs.Common.{◌≤◌, ◌∙◌, ap, refl, subst, sym}
+use Rattle.std.proofs.Common.{◌≤◌, ◌∙◌, ⊎_elim, ap, refl, subst, sym}
 use Rattle.reactor_model.specs.reactor_journal.specs.Past.{past_of}
 use Rattle.reactor_core.specs.Ends.{WhereTold}
 use Rattle.reactor_core.specs.declared.marks.WaitMarks.{WaitMarks}
@@ -6,6 +6,7 @@ use Rattle.core_loop.proofs.Idling.{over_stopped, stopped as stopped_idle}
 use Rattle.core_loop.proofs.Leading.{stopped}
 use Rattle.connector_run.specs.Leaving.{LastWaitWasOver}
 use Rattle.connector_run.proofs.Leaving.{last_waited, leaves_alive, leaves_closed}
+use Rattle.connector_run.proofs.Waits.{alive_left, closed_left}
 use Rattle.connector_run.proofs.running.finish.Goals as goal
 
 pub into_parts-requires : goal.into_parts-requires
@@ -45,3 +46,10 @@ returns-clause-over g c = λ t F h stands none over some.
     (last_waited _ (past_of h) _ _
     (ap (λ (m : WaitMarks). m.made) c.stop.ensures.rest.marks ∙ stands.tracks.marks.made)
     s.stands.tracks.marks (mark ∙ over) (subst (λ n. 1 ≤ n) (sym mark) some))
+
+pub returns-clause-asked : goal.returns-clause-asked
+returns-clause-asked g c = λ t F h wait limit stands none how.
+    ⊎_elim (λ alive. alive_left _ t limit wait F h _ c.into_parts.result stands.tracks.legal alive
+    (returns-clause-alive g c t F h wait stands none alive))
+    (λ closed. closed_left _ t limit wait F h _ c.into_parts.result stands.tracks.legal closed
+    (returns-clause-closed g c t F h wait stands none closed)) how
