@@ -3,3 +3,5 @@ pub mod PutItems
 pub mod Begins
 pub mod Leaves
 pub mod Lines
+mod Among
+mod ItemLines

@@ -15,7 +15,7 @@ within_more span text more in_ = record {
   within = omega (arith, in_.within, length-append text more);
 }
 
-part_more : (span : Span) (text more : List ℕ) → IsWithin span text
+pub part_more : (span : Span) (text more : List ℕ) → IsWithin span text
     → part span (text ++ more) ≡ part span text
 part_more span text more in_ =
     ap (take (span.end - span.start))

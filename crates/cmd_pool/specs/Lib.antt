@@ -1,5 +1,6 @@
 pub mod Words
 pub mod Lines
+pub mod ItemLines
 pub mod PutItems
 pub mod Starting
 pub mod Leaving

@@ -1,5 +1,5 @@
 -- Lines that stand in a text, one after another.
-use Rattle.std.specs.Prelude.{◌≡◌, ◌≤◌, ◌-◌, ℕ, List, ◌++◌, drop, length, take}
+use Rattle.std.specs.Prelude.{◌≡◌, ◌≤◌, ◌-◌, ◌⊎◌, ℕ, List, [], ◌∷◌, ◌++◌, drop, length, map, take}
 use Rattle.cdr_record.specs.declared.record.LogRecord.{LogRecord}
 use Rattle.cdr_record.specs.declared.record.RecordRef.{RecordRef}
 use Rattle.log_lines.specs.Texts.{record_line}
@@ -62,3 +62,20 @@ pub record StandsIn (text : List ℕ) (line : Line) : Type 0 where
   pub message : IsWithin line.message text
   pub line_within : IsWithin line.line text
   pub is : part line.line text ≡ record_line line.conn (record_of line (part line.message text))
+
+-- the item of a line that stands in the text
+abbrev pub item_of : List ℕ → Line → Item
+item_of text line = record {
+  conn = line.conn;
+  event = line.event;
+  index = line.index;
+  rec = record_of line (part line.message text);
+}
+
+-- the items of lines that stand in the text
+abbrev pub items_in : List ℕ → List Line → List Item
+items_in text lines = map (item_of text) lines
+
+-- one more came after the others, or none
+abbrev pub AddsOrKeeps : List Item → Item → List Item → Type 0
+AddsOrKeeps old item new = (new ≡ old ++ item ∷ []) ⊎ (new ≡ old)

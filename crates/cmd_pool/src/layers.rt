@@ -114,10 +114,10 @@ pub(crate) fn gather<R: Threads + Wait>(
     last: Writer<LineMaker>,
 ) -> Vec<Lines> {
     let mut made = Vec::new(alloc);
-    last.run(rt).move_lines(&mut made);
+    last.run(rt).service.move_lines(&mut made);
     for seat in seats {
-        if let Some(maker) = seat.finish(rt) {
-            maker.move_lines(&mut made);
+        if let Some(ended) = seat.finish(rt) {
+            ended.service.move_lines(&mut made);
         }
     }
     made

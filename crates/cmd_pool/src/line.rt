@@ -3,7 +3,8 @@ ghost use Rattle.std.specs.Prelude.{◌≡◌, ◌⊎◌, ◌++◌, ◌∷◌, [
 ghost use Rattle.std.proofs.Props.{props};
 ghost use Rattle.cdr_record.specs.Borrowed.{owned};
 ghost use Rattle.log_lines.specs.Texts.{record_line};
-ghost use Rattle.cmd_pool.specs.Lines.{Grows, HasHead, StandsIn, Stands, line_of, part};
+ghost use Rattle.cmd_pool.specs.Lines.{AddsOrKeeps, Grows, HasHead, StandsIn, Stands, items_in};
+ghost use Rattle.cmd_pool.specs.Lines.{line_of, part};
 
 use cdr_record::RecordRef;
 use ev_base::NoMemory;
@@ -73,7 +74,9 @@ pub(crate) struct Lines {
 
 impl Lines {
     /// No lines. It takes no memory.
-    pub(crate) fn none(alloc: Global) -> Lines {
+    pub(crate) fn none(alloc: Global) -> Lines
+        ensures { result.lines.items ≡ [] }
+    {
         Lines {
             text: Vec::new(alloc),
             lines: Vec::new(alloc),
@@ -93,6 +96,8 @@ impl Lines {
     /// Adds the line of an item. On `NoMemory` it is left out.
     pub(crate) fn add(&mut self, item: &Item, text: &[u8]) -> Result<(), NoMemory>
         requires { text.now ≡ record_line item.now.conn item.now.rec }
+        ensures { AddsOrKeeps (items_in self.old.text.items self.old.lines.items) item.now
+            (items_in self.new.text.items self.new.lines.items) }
     {
         let line = append(&mut self.text, text)?;
         let entry = item.rec.borrowed();

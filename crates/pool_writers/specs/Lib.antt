@@ -1,1 +1,3 @@
+pub mod Writers
+pub mod Seats
 pub use Rattle.task_server

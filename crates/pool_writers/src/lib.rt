@@ -5,8 +5,15 @@
 //! the writers run at the same time, and that each ends after the workers are back.
 #![tactic(auto)]
 
+mod given;
+mod seat;
+mod service;
+mod serving;
 mod shared;
 mod writer;
 
+pub use given::GivenItems;
+pub use seat::{Seat, Serves};
+pub use service::Service;
 pub use shared::Shared;
-pub use writer::{Seat, Service, Writer};
+pub use writer::{Ended, Writer};

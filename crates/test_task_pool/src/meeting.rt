@@ -4,7 +4,7 @@ ghost use Rattle.std.specs.Prelude.{◌≡◌};
 ghost use Rattle.task_server.specs.Calls.{pool_id, putter_pool, taker_pool};
 
 use crate::queue::item;
-use pool_writers::{Seat, Service, Shared, Writer};
+use pool_writers::{GivenItems, Seat, Service, Shared, Writer};
 use std::alloc::Global;
 use std::sync::atomic::{AtomicU64, Ordering};
 use std::sync::{Arc, Wait};
@@ -24,19 +24,30 @@ struct Meeting {
     mine: Flag,
     other: Flag,
     met: bool,
+    given: GivenItems,
 }
 
 impl Service for Meeting {
-    fn serve<R: Wait>(&mut self, _rt: &R, _item: Item) {
-        self.mine.store(1, Ordering::SeqCst);
-        for _ in 0..TURNS {
-            if self.other.load(Ordering::SeqCst) == 1 {
-                self.met = true;
-                return;
-            }
-            yield_now();
+    ghost served = { λ meeting. meeting.given };
+
+    fn serve<R: Wait>(&mut self, _rt: &R, item: Item) {
+        self.given.add(&item);
+        if meets(&self.mine, &self.other) {
+            self.met = true;
         }
     }
+}
+
+// Raises a flag, and tells whether the other was raised before the turns ended.
+fn meets(mine: &Flag, other: &Flag) -> bool {
+    mine.store(1, Ordering::SeqCst);
+    for _ in 0..TURNS {
+        if other.load(Ordering::SeqCst) == 1 {
+            return true;
+        }
+        yield_now();
+    }
+    false
 }
 
 // One that waits for the other flag.
@@ -45,6 +56,7 @@ fn service_of(mine: &Flag, other: &Flag) -> Result<Meeting, Fail> {
         mine: Arc::try_clone(mine)?,
         other: Arc::try_clone(other)?,
         met: false,
+        given: GivenItems::none(),
     })
 }
 
@@ -94,7 +106,7 @@ fn meet<R: Threads + Wait + Copy + Send + 'static>(rt: &R, alloc: Global) -> Res
     shared.end();
     let first = first.finish(rt);
     let second = second.finish(rt);
-    Ok(first.is_some_and(|one| one.met) && second.is_some_and(|one| one.met))
+    Ok(first.is_some_and(|one| one.service.met) && second.is_some_and(|one| one.service.met))
 }
 
 #[test]

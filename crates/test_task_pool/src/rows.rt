@@ -69,7 +69,7 @@ static ROWS: &[Row<'static>] = &[
 ];
 
 /// The words of a line, which are parted by one space.
-fn words_of(alloc: Global, line: &str) -> Result<Vec<String>, Fail> {
+pub(crate) fn words_of(alloc: Global, line: &str) -> Result<Vec<String>, Fail> {
     let mut words = Vec::new(alloc);
     for word in line.split(' ') {
         words.push(String::from_str(alloc, word)?)?;
