@@ -5,6 +5,9 @@ use Rattle.ev_base.specs.Sink.{SinkFacts}
 use Rattle.reactor_core.specs.Stands.{Meaning}
 use Rattle.aio_words.specs.declared.words.AioWords.{AioWords}
 use Rattle.proactor.specs.declared.service.AioNote.{AioNote}
+use Rattle.exit_status.specs.Statuses.{code_of}
+use Rattle.exit_status.specs.declared.status.Status.{Status}
+use Rattle.exit_status.specs.declared.status.Status.TheVariants as status
 use Rattle.cmd_aio.specs.Leaving.{LeavesRun, ListensSo}
 use Rattle.cmd_aio.specs.declared.ending.AioEnd.{AioEnd}
 use Rattle.cmd_aio.specs.declared.ending.AioEnd.TheVariants as end
@@ -12,17 +15,17 @@ use Rattle.cmd_aio.specs.declared.ending.Ran.{Ran}
 use Rattle.cmd_aio.specs.declared.top.AioServed.{AioServed}
 
 -- the status of each ending
-abbrev pub status_of : AioEnd → ℕ
-status_of end.Done = 0
-status_of end.WriteFault = 4
-status_of end.NetFault = 5
-status_of end.NoMemory = 6
-status_of end.ListenFault = 7
+abbrev pub status_by : AioEnd → Status
+status_by end.Done = status.Done
+status_by end.WriteFault = status.WriteFault
+status_by end.NetFault = status.NetFault
+status_by end.NoMemory = status.NoMemory
+status_by end.ListenFault = status.ListenFault
 
 -- what the top call answers for what a run left
 abbrev pub served_by : {M K : Type 0} → Ran M K → AioServed M K
 served_by ran = record {
-  status = status_of ran.end;
+  status = code_of (status_by ran.end);
   net = ran.net;
   journal = ran.journal;
   output = ran.output;

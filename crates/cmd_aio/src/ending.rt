@@ -8,11 +8,12 @@ ghost use Rattle.reactor_core.specs.Views.{net_of, watch_of};
 ghost use Rattle.core_loop.specs.Idle.{IsIdle};
 ghost use Rattle.core_loop.specs.Leading.{NoneOpen};
 ghost use Rattle.cmd_aio.specs.Finishing.{Finishes, MayEnd, end_by, named};
-ghost use Rattle.cmd_aio.specs.Statuses.{status_of};
+ghost use Rattle.cmd_aio.specs.Statuses.{status_by};
 
 use crate::AioCore;
 use core_loop::RunEnd;
 use ev_base::{Net, PeerEnd, Sink};
+use exit_status::Status;
 use proactor::AioNote;
 use reactor_core::{Means, Parts};
 use reactor_model::{Journal, Watch};
@@ -64,15 +65,15 @@ impl AioEnd {
     }
 
     /// Its status.
-    pub(crate) fn status(self) -> u8
-        ensures { result ≡ status_of self }
+    pub(crate) fn status(self) -> Status
+        ensures { result ≡ status_by self }
     {
         match self {
-            AioEnd::Done => 0,
-            AioEnd::WriteFault => 4,
-            AioEnd::NetFault => 5,
-            AioEnd::NoMemory => 6,
-            AioEnd::ListenFault => 7,
+            AioEnd::Done => Status::Done,
+            AioEnd::WriteFault => Status::WriteFault,
+            AioEnd::NetFault => Status::NetFault,
+            AioEnd::NoMemory => Status::NoMemory,
+            AioEnd::ListenFault => Status::ListenFault,
         }
     }
 }

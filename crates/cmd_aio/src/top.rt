@@ -2,6 +2,7 @@
 ghost use Rattle.std.specs.Prelude.{◌≡◌, ◌⊎◌, [], None, Some, map};
 ghost use Rattle.std.specs.String.{string_bytes};
 ghost use Rattle.aio_words.specs.declared.words.AioWords.{AioWords};
+ghost use Rattle.exit_status.specs.Statuses.{code_of};
 ghost use Rattle.cmd_aio.specs.Statuses.{IsUnbegun, RunsCommand, served_by};
 ghost use Rattle.cmd_aio.specs.Words.{called};
 
@@ -9,17 +10,12 @@ use crate::ending::Ran;
 use crate::running::serve_host;
 use crate::{AioCore, read_words};
 use ev_base::{Host, Sink};
+use exit_status::Status;
 use proactor::AioNote;
 use reactor_core::Means;
 use reactor_model::Journal;
 use std::alloc::Global;
 use std::sync::Wait;
-
-/// The status of words that do not call the command.
-const USAGE: u8 = 1;
-
-/// The status of want of memory.
-const OUT_OF_MEMORY: u8 = 6;
 
 /// What the command leaves.
 #[derive(Drop)]
@@ -74,8 +70,8 @@ where
 {
     match read_words(alloc, words) {
         Ok(Some(said)) => answer(serve_host(rt, alloc, said, host, output)),
-        Ok(None) => unbegun(alloc, USAGE, output),
-        Err(_) => unbegun(alloc, OUT_OF_MEMORY, output),
+        Ok(None) => unbegun(alloc, Status::Usage, output),
+        Err(_) => unbegun(alloc, Status::NoMemory, output),
     }
 }
 
@@ -90,7 +86,7 @@ fn answer<M, K>(ran: Ran<M, K>) -> AioServed<M, K>
         output,
     } = ran;
     AioServed {
-        status: end.status(),
+        status: end.status().code(),
         net,
         journal,
         output,
@@ -98,14 +94,14 @@ fn answer<M, K>(ran: Ran<M, K>) -> AioServed<M, K>
 }
 
 /// What is answered if no run was begun.
-fn unbegun<M, K>(alloc: Global, status: u8, output: K) -> AioServed<M, K>
-    ensures status { result.status ≡ status }
+fn unbegun<M, K>(alloc: Global, status: Status, output: K) -> AioServed<M, K>
+    ensures status { result.status ≡ code_of status }
     ensures net { result.net ≡ None }
     ensures journal { result.journal.entries ≡ [] }
     ensures output { result.output ≡ output }
 {
     AioServed {
-        status,
+        status: status.code(),
         net: None,
         journal: Journal::new(alloc),
         output,

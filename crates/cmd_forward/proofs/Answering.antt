@@ -5,14 +5,14 @@ use Rattle.ev_base.specs.Net.{NetFacts}
 use Rattle.ev_base.specs.Sink.{SinkFacts}
 use Rattle.ev_base.specs.Source.{SourceFacts}
 use Rattle.cmd_line.specs.Given.{Text}
-use Rattle.cmd_forward.specs.Answers.{HasAnswered, HasBegun, HasStatus, most_input}
+use Rattle.cmd_forward.specs.Answers.{HasAnswered, HasBegun, HasOutcome, most_input}
 use Rattle.cmd_forward.specs.Statuses.{RunEnds}
 use Rattle.cmd_forward.specs.Telling.{BecomesTold, IsTold}
 use Rattle.cmd_forward.specs.Words.{forward_of}
 use Rattle.cmd_forward.specs.declared.command.Forwarded.{Forwarded}
 use Rattle.cmd_forward.specs.declared.running.Ran.{Ran}
-use Rattle.cmd_forward.specs.declared.status.Status.{Status}
-use Rattle.cmd_forward.specs.declared.status.Status.TheVariants as status
+use Rattle.cmd_forward.specs.declared.outcome.Outcome.{Outcome}
+use Rattle.cmd_forward.specs.declared.outcome.Outcome.TheVariants as outcome
 use Rattle.cmd_forward.specs.declared.words.ForwardOptions.{ForwardOptions}
 
 module _ {M S K E : Type 0} (tells : E → EndFacts) (facts : M → NetFacts E)
@@ -20,10 +20,10 @@ module _ {M S K E : Type 0} (tells : E → EndFacts) (facts : M → NetFacts E)
     (input : S) (output : K) (left : Forwarded M S K) (options : ForwardOptions) (ran : Ran M S)
     (called : forward_of words ≡ Some options) (dialled : now ≡ before)
     (net_is : left.net ≡ Some ran.net) where
-  abbrev Says : Status → Type 0
-  Says = HasStatus tells facts source sink words before now input output left
+  abbrev Says : Outcome → Type 0
+  Says = HasOutcome tells facts source sink words before now input output left
 
-  abbrev Ends : Status → Type 0
+  abbrev Ends : Outcome → Type 0
   Ends = RunEnds tells most_input options.wait (source input) (source left.input) (facts ran.net)
 
   begun : (P : ForwardOptions → M → Type 0) → P options ran.net → HasBegun words before now left P
@@ -36,24 +36,24 @@ module _ {M S K E : Type 0} (tells : E → EndFacts) (facts : M → NetFacts E)
     so = so;
   }
 
-  says : (ended told : Status) → Ends ended → BecomesTold sink ended output told left.output
+  says : (ended told : Outcome) → Ends ended → BecomesTold sink ended output told left.output
       → Says told
   unfolding begun
-  says (status.Done records bytes) told (run, done) (inl (is, all)) =
+  says (outcome.Done records bytes) told (run, done) (inl (is, all)) =
       subst Says (sym is) (begun _ (records, bytes, run, done, (refl, refl, all)))
-  says (status.Done records bytes) told (run, done) (inr (is, front)) =
+  says (outcome.Done records bytes) told (run, done) (inr (is, front)) =
       subst Says (sym is) (begun _ (records, bytes, run, done, front))
-  says status.Usage told ends (is, same) = absurd ends
-  says status.ReadFault told ends (is, same) = subst Says (sym is) (begun _ (same, ends))
-  says status.WriteFault told ends (is, same) = absurd ends
-  says status.NetFault told ends (is, same) = subst Says (sym is) (begun _ (same, ends))
-  says status.NoMemory told ends (is, same) = subst Says (sym is) (inr (begun _ (same, ends)))
-  says (status.BadRecord at) told ends (is, same) = subst Says (sym is) (begun _ (same, ends))
-  says status.TooLong told ends (is, same) = subst Says (sym is) (begun _ (same, ends))
-  says status.PeerFault told ends (is, same) = subst Says (sym is) (inr (begun _ (same, ends)))
-  says (status.ConnectTimeout at) told ends (is, same) =
+  says outcome.Usage told ends (is, same) = absurd ends
+  says outcome.ReadFault told ends (is, same) = subst Says (sym is) (begun _ (same, ends))
+  says outcome.WriteFault told ends (is, same) = absurd ends
+  says outcome.NetFault told ends (is, same) = subst Says (sym is) (begun _ (same, ends))
+  says outcome.NoMemory told ends (is, same) = subst Says (sym is) (inr (begun _ (same, ends)))
+  says (outcome.BadRecord at) told ends (is, same) = subst Says (sym is) (begun _ (same, ends))
+  says outcome.TooLong told ends (is, same) = subst Says (sym is) (begun _ (same, ends))
+  says outcome.PeerFault told ends (is, same) = subst Says (sym is) (inr (begun _ (same, ends)))
+  says (outcome.ConnectTimeout at) told ends (is, same) =
       subst Says (sym is) (begun _ (same, ends))
-  says status.Unfinished told ends (is, same) = subst Says (sym is) (begun _ (same, ends))
+  says outcome.Unfinished told ends (is, same) = subst Says (sym is) (begun _ (same, ends))
 
 module _ {M S K E : Type 0} (tells : E → EndFacts) (facts : M → NetFacts E)
     (source : S → SourceFacts) (sink : K → SinkFacts) (words : List Text) (before now : ℕ)
@@ -61,16 +61,16 @@ module _ {M S K E : Type 0} (tells : E → EndFacts) (facts : M → NetFacts E)
     (ran : Ran M S) where
   pub answers : forward_of words ≡ Some options → now ≡ before
       → RunEnds tells most_input options.wait (source input) (source ran.input) (facts ran.net)
-      ran.status → IsTold sink ran output left
+      ran.outcome → IsTold sink ran output left
       → HasAnswered tells facts source sink words before now input output left
   answers called dialled ends told = record {
-    status = told.status;
+    outcome = told.outcome;
     code = told.numbers.code;
     number = told.numbers.number;
     means = says tells facts source sink words before now input output left options ran called
-        dialled told.net ran.status told.status
+        dialled told.net ran.outcome told.outcome
         (subst (λ (s : S). RunEnds tells most_input options.wait (source input) (source s)
-        (facts ran.net) ran.status) (sym told.input) ends) told.told;
+        (facts ran.net) ran.outcome) (sym told.input) ends) told.told;
   }
 
 -- ---- what is there

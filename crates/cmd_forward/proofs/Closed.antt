@@ -40,10 +40,10 @@ use Rattle.forwarder.specs.one_net.specs.OneEnd.{failed_of, input_of}
 use Rattle.forwarder.specs.one_net.specs.OneEnd.{one_end_facts}
 use Rattle.forwarder.specs.one_net.specs.bounded_input.specs.Input.{IsReadToEnd}
 use Rattle.cmd_forward.specs.Answers.{most_input}
-use Rattle.cmd_forward.specs.Endings.{Closes, cause_of, cause_when_failed, status_closed}
-use Rattle.cmd_forward.specs.Endings.{status_ended, status_for}
+use Rattle.cmd_forward.specs.Endings.{Closes, cause_of, cause_when_failed, outcome_closed}
+use Rattle.cmd_forward.specs.Endings.{outcome_ended, outcome_for}
 use Rattle.cmd_forward.specs.Runs.{HasRun, HasWaited, TookBack, WasAnsweredAt, WroteNone}
-use Rattle.cmd_forward.specs.declared.status.Status.{Status}
+use Rattle.cmd_forward.specs.declared.outcome.Outcome.{Outcome}
 use Rattle.cmd_forward.specs.Statuses.{HasSentAll, RunEnds, StopsAtRecord}
 use Rattle.cmd_forward.proofs.Courses.{HasAsked, LastTurn, Refused, Served, TimedOut, ends_in_close}
 use Rattle.cmd_forward.proofs.Courses.{last_turn}
@@ -93,8 +93,8 @@ module _ {E S : Type 0} {G : Ghosts E} (tells : E → EndFacts) (keeps : Terms �
   abbrev failed : Bool
   failed = failed_of (input_end end)
 
-  abbrev Ends : Status → Type 0
-  Ends status = RunEnds tells most_input wait i j n status
+  abbrev Ends : Outcome → Type 0
+  Ends outcome = RunEnds tells most_input wait i j n outcome
 
   within : length f.taken ≤ 2 ^ 40
   within = omega (arith, left.kept_end.input.within, left.kept_end.input.limit, f.gave)
@@ -110,7 +110,7 @@ module _ {E S : Type 0} {G : Ghosts E} (tells : E → EndFacts) (keeps : Terms �
 
   done_status : (b : Bool) → failed ≡ b → f.rest ≡ [] → HasStopped ending.End f.taken s.facts
       → GoesOnFrom f.taken f.rest s → left.now.connected ≡ true
-      → Ends (status_for ending.End b s.records s.bytes)
+      → Ends (outcome_for ending.End b s.records s.bytes)
   unfolding within read_to_end
   done_status true is none stopped going connected =
       (run, record { rose = is; all = inl none })
@@ -141,7 +141,7 @@ module _ {E S : Type 0} {G : Ghosts E} (tells : E → EndFacts) (keeps : Terms �
 
   bad_status : (at : ℕ) (b : Bool) → failed ≡ b → HasSentAll run
       → HasStopped (ending.BadRecord at) f.taken s.facts
-      → Ends (status_for (ending.BadRecord at) b s.records s.bytes)
+      → Ends (outcome_for (ending.BadRecord at) b s.records s.bytes)
   unfolding stops_at
   bad_status at true is all stopped = (run, record { rose = is; all = all })
   bad_status at false is all stopped =
@@ -149,7 +149,7 @@ module _ {E S : Type 0} {G : Ghosts E} (tells : E → EndFacts) (keeps : Terms �
 
   read_status : (b : Bool) → failed ≡ b → HasSentAll run
       → HasStopped ending.ReadFailed f.taken s.facts
-      → Ends (status_for ending.ReadFailed b s.records s.bytes)
+      → Ends (outcome_for ending.ReadFailed b s.records s.bytes)
   read_status true is all stopped = (run, record { rose = is; all = all })
   read_status false is all stopped = (
     run,
@@ -172,7 +172,7 @@ module _ {E S : Type 0} {G : Ghosts E} (tells : E → EndFacts) (keeps : Terms �
         IfSo o (λ how. EndedSo how f.taken f.rest s.facts)) is f.ended)
 
     by_stop : (o : Option ForwardEnding) → s.stop ≡ o
-        → Ends (status_for (cause_when_failed o) failed s.records s.bytes)
+        → Ends (outcome_for (cause_when_failed o) failed s.records s.bytes)
     unfolding peer_failed
     by_stop None q =
         let going = subst (λ (o : Option ForwardEnding).
@@ -194,7 +194,7 @@ module _ {E S : Type 0} {G : Ghosts E} (tells : E → EndFacts) (keeps : Terms �
         IfSo o (λ how. HasStopped how f.taken s.facts)) q f.stop)
 
   by_how : (how : ForwardEnding) → s.ended ≡ Some how → left.now.connected ≡ true
-      → Ends (status_for (cause_of s.stop how) failed s.records s.bytes)
+      → Ends (outcome_for (cause_of s.stop how) failed s.records s.bytes)
   unfolding by_stop
   by_how ending.End is connected =
       let e = subst (λ (o : Option ForwardEnding).
@@ -214,7 +214,7 @@ module _ {E S : Type 0} {G : Ghosts E} (tells : E → EndFacts) (keeps : Terms �
   by_how ending.NoMemory is connected = inl run
 
   by_ended : (o : Option ForwardEnding) → s.ended ≡ o → IsSome o → left.now.connected ≡ true
-      → Ends (status_ended o (note_of s) failed)
+      → Ends (outcome_ended o (note_of s) failed)
   by_ended None is some connected = absurd (false≢true some)
   by_ended (Some how) is some connected = by_how how is connected
 
@@ -245,7 +245,7 @@ module _ {E S : Type 0} {G : Ghosts E} (tells : E → EndFacts) (keeps : Terms �
   module _ (item : Item (ConnectNote ForwardNote)) (late : IsTimeout item.upcall
       → WasLate item.moment) where
     by_turn : LastTurn item left.now → item.answer ≡ Close
-        → Ends (status_closed item.note failed)
+        → Ends (outcome_closed item.note failed)
     unfolding by_ended unused waited none_bad
     by_turn (Served spoke front notes live connected) close =
         let turned = left.has_served.turned in
@@ -254,11 +254,11 @@ module _ {E S : Type 0} {G : Ghosts E} (tells : E → EndFacts) (keeps : Terms �
         (ends_in_close front (served item spoke) close) in
         let last = last_is (LeavesTurn s) front (served item spoke)
         (subst (λ (xs : List (Item ForwardNote)). LastIs (LeavesTurn s) xs) live turned.last) in
-        subst (λ (x : ConnectNote ForwardNote). Ends (status_closed x failed)) (sym notes)
-        (subst (λ (x : ForwardNote). Ends (status_ended x.ended x failed)) (sym last.notes)
+        subst (λ (x : ConnectNote ForwardNote). Ends (outcome_closed x failed)) (sym notes)
+        (subst (λ (x : ForwardNote). Ends (outcome_ended x.ended x failed)) (sym last.notes)
         (by_ended s.ended refl (turned.closed ends) connected))
     by_turn (Refused notes asked connected) close =
-        subst (λ (x : ConnectNote ForwardNote). Ends (status_closed x failed)) (sym notes) (
+        subst (λ (x : ConnectNote ForwardNote). Ends (outcome_closed x failed)) (sym notes) (
           run,
           record {
             failed = left.kept_end.finish_fault (left.dialled.last_finish ∙ asked);
@@ -268,7 +268,7 @@ module _ {E S : Type 0} {G : Ghosts E} (tells : E → EndFacts) (keeps : Terms �
     by_turn (TimedOut notes timed connected asked) close =
         let u = unused connected in
         let l = late timed in
-        subst (λ (x : ConnectNote ForwardNote). Ends (status_closed x failed)) (sym notes) (
+        subst (λ (x : ConnectNote ForwardNote). Ends (outcome_closed x failed)) (sym notes) (
           run,
           record {
             late = l.0;
@@ -305,7 +305,7 @@ module _ {E S : Type 0} {G : Ghosts E} (tells : E → EndFacts) (keeps : Terms �
     (late : IsTimeout item.upcall → (wait ≤ item.moment)
     × WhereTold (WasAnsweredAt item.moment) n.calls × (item.moment ≤ n.now)) where
   pub ends_closed : RunEnds tells most_input wait i (source (input_of (input_end end))) n
-      (status_closed item.note (failed_of (input_end end)))
+      (outcome_closed item.note (failed_of (input_end end)))
   ends_closed = by_turn tells keeps source i wait exact end (earlier ++ item ∷ []) why said n left
       took item late (last_turn earlier item left.now left.course goes_on close) close
 

@@ -61,12 +61,12 @@ use Rattle.forwarder.specs.declared.forward_net.ForwardNet.{ForwardNet}
 use Rattle.forwarder.specs.declared.note.ForwardNote.{ForwardNote}
 use Rattle.forwarder.specs.one_net.specs.OneEnd.{failed_of, input_of}
 use Rattle.cmd_forward.specs.Answers.{most_input}
-use Rattle.cmd_forward.specs.Endings.{HasEnded, MayEnd, status_closed}
+use Rattle.cmd_forward.specs.Endings.{HasEnded, MayEnd, outcome_closed}
 use Rattle.cmd_forward.specs.Runs.{MadeAtLeast, WasAnsweredAt, reports_in}
 use Rattle.cmd_forward.specs.Starting.{HasStarted, terms_of}
 use Rattle.cmd_forward.specs.Statuses.{RunEnds}
-use Rattle.cmd_forward.specs.declared.status.Status.{Status}
-use Rattle.cmd_forward.specs.declared.status.Status.TheVariants as status
+use Rattle.cmd_forward.specs.declared.outcome.Outcome.{Outcome}
+use Rattle.cmd_forward.specs.declared.outcome.Outcome.TheVariants as outcome
 use Rattle.cmd_forward.proofs.Alive.{made_enough, rests_so}
 use Rattle.cmd_forward.proofs.Closed.{ends_closed, notes_closing}
 use Rattle.cmd_forward.proofs.LastTurns.{asks_last, is_calm, none_asks}
@@ -373,9 +373,9 @@ module _ {H Q W V M S E : Type 0} {N : NetGhosts M E} {G : Ghosts E}
     abbrev n : NetFacts E
     n = facts (net_within parts.net)
 
-    abbrev Ends : {turns : List (Item (ConnectNote ForwardNote))} → One turns → Status → Type 0
-    Ends o status =
-        RunEnds tells most_input wait i (source (input_of (input_end o.end))) n status
+    abbrev Ends : {turns : List (Item (ConnectNote ForwardNote))} → One turns → Outcome → Type 0
+    Ends o outcome =
+        RunEnds tells most_input wait i (source (input_of (input_end o.end))) n outcome
 
     calls_are : (m.facts parts.net).calls ≡ n.calls
     calls_are = ap (λ (x : NetFacts (ForwardEnd E S G)). x.calls) (facts_are parts.net)
@@ -421,7 +421,7 @@ module _ {H Q W V M S E : Type 0} {N : NetGhosts M E} {G : Ghosts E}
 
     unfinished : NoneOpen h → (l : LeftSo ended.Over)
         → Ends (one_from (had (past_of h) 0) l.0.1.one l.0.1.stand.net_keeps)
-        status.Unfinished
+        outcome.Unfinished
     unfolding calls_are one_from
     unfinished none_open l =
         let o = one_from (had (past_of h) 0) l.0.1.one l.0.1.stand.net_keeps in
@@ -464,24 +464,24 @@ module _ {H Q W V M S E : Type 0} {N : NetGhosts M E} {G : Ghosts E}
         enough a none said (TurnsAway serial ∷ calls) are = absurd are.0
 
     -- the run ended so
-    pub ends_so : (how : Ended) (l : LeftSo how) (failed : Bool) (status : Status) (before : ℕ)
-        → NoneOpen h → HasEnded how parts.journal.entries failed status
+    pub ends_so : (how : Ended) (l : LeftSo how) (failed : Bool) (outcome : Outcome) (before : ℕ)
+        → NoneOpen h → HasEnded how parts.journal.entries failed outcome
         → failed ≡ failed_of (input_end (one_of how l).end) → HasCause how before n.failed_waits
-        → Ends (one_of how l) status
+        → Ends (one_of how l) outcome
     unfolding one_of one_from may_end closed_late unfinished
-    ends_so ended.Closed l failed status before none_open told is cause =
+    ends_so ended.Closed l failed outcome before none_open told is cause =
         let o = one_from (closed_turns l.0 l.1) l.1.one l.1.stand.net_keeps in
-        subst (λ (s : Status). Ends o s) (sym (told (may_end ended.Closed l)
-        ∙ ap (status_closed l.0.note) is))
+        subst (λ (s : Outcome). Ends o s) (sym (told (may_end ended.Closed l)
+        ∙ ap (outcome_closed l.0.note) is))
         (ends_closed tells keeps source i wait exact o.end l.1.earlier _ o.why o.said n o.left
         (took_back facts net_keeps (terms_of i) parts.net o.kept o.away o.end o.retired)
         l.1.goes_on refl (closed_late l.0 l.1))
-    ends_so ended.Over l failed status before none_open told is cause =
+    ends_so ended.Over l failed outcome before none_open told is cause =
         let o = one_from (had (past_of h) 0) l.0.1.one l.0.1.stand.net_keeps in
-        subst (λ (s : Status). Ends o s) (sym told) (unfinished none_open l)
-    ends_so ended.NetFault l failed status before none_open told is cause =
+        subst (λ (s : Outcome). Ends o s) (sym told) (unfinished none_open l)
+    ends_so ended.NetFault l failed outcome before none_open told is cause =
         let o = one_from (had (past_of h) 0) l.1.one l.1.stand.net_keeps in
-        subst (λ (s : Status). Ends o s) (sym told) (inl (
+        subst (λ (s : Outcome). Ends o s) (sym told) (inl (
           has_run tells keeps source i o.end (had (past_of h) 0) o.why o.said n o.left
               (took_back facts net_keeps (terms_of i) parts.net o.kept o.away o.end o.retired),
           risen before n.failed_waits cause,
@@ -489,8 +489,8 @@ module _ {H Q W V M S E : Type 0} {N : NetGhosts M E} {G : Ghosts E}
       where
         risen : (before now : ℕ) → Rose before now → 1 ≤ now
         risen before now rose = omega (arith, rose)
-    ends_so ended.NoMemory l failed status before none_open told is cause =
+    ends_so ended.NoMemory l failed outcome before none_open told is cause =
         let o = one_from (had (past_of h) 0) l.1.one l.1.stand.net_keeps in
-        subst (λ (s : Status). Ends o s) (sym told)
+        subst (λ (s : Outcome). Ends o s) (sym told)
         (inl (has_run tells keeps source i o.end (had (past_of h) 0) o.why o.said n o.left
         (took_back facts net_keeps (terms_of i) parts.net o.kept o.away o.end o.retired)))

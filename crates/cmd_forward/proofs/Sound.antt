@@ -16,13 +16,14 @@ use Rattle.forwarder.specs.cdr_record.specs.Decoding.{Clean, Malformed, Partial,
 use Rattle.forwarder.specs.cdr_record.proofs.Runs.{bad_ends}
 use Rattle.forwarder.specs.one_net.specs.bounded_input.specs.Input.{FaultsSince}
 use Rattle.forwarder.specs.one_net.specs.bounded_input.specs.Input.{TakesInput}
-use Rattle.cmd_forward.specs.Answers.{HasBegun, HasStatus, most_input}
+use Rattle.exit_status.specs.Statuses.{code_of}
+use Rattle.cmd_forward.specs.Answers.{HasBegun, HasOutcome, most_input}
 use Rattle.cmd_forward.specs.Laws.{HaveNoFaults, IsClean, IsSound, IsSoundNet}
 use Rattle.cmd_forward.specs.Runs.{HasRun, WasAnsweredAt}
-use Rattle.cmd_forward.specs.Statuses.{StopsAtRecord, code_of}
+use Rattle.cmd_forward.specs.Statuses.{StopsAtRecord, status_by}
 use Rattle.cmd_forward.specs.declared.command.Forwarded.{Forwarded}
-use Rattle.cmd_forward.specs.declared.status.Status.{Status}
-use Rattle.cmd_forward.specs.declared.status.Status.TheVariants as status
+use Rattle.cmd_forward.specs.declared.outcome.Outcome.{Outcome}
+use Rattle.cmd_forward.specs.declared.outcome.Outcome.TheVariants as outcome
 use Rattle.cmd_forward.specs.declared.words.ForwardOptions.{ForwardOptions}
 
 -- ---- what is told
@@ -131,41 +132,41 @@ module _ {M S K E : Type 0} (tells : E → EndFacts) (facts : M → NetFacts E)
       run.took_back.retired in
       (subst (HaveNoFaults tells) ends s.no_faults).0
 
-  pub sound : (told : Status) → left.status ≡ code_of told
-      → HasStatus tells facts source sink words before now input output left told
+  pub sound : (told : Outcome) → left.status ≡ code_of (status_by most_input told)
+      → HasOutcome tells facts source sink words before now input output left told
       → (left.status ≡ 0) ⊎ (left.status ≡ 6)
   unfolding net_of no_faults
-  sound (status.Done records bytes) code means = inl code
-  sound status.Usage code means = no_words is.options (sym means.refused ∙ is.called)
-  sound status.ReadFault code means =
+  sound (outcome.Done records bytes) code means = inl code
+  sound outcome.Usage code means = no_words is.options (sym means.refused ∙ is.called)
+  sound outcome.ReadFault code means =
       let run = means.so.1.0 in
       absurd (is.read (risen run.failed (source input).faults (source left.input).faults
       means.so.1.1.rose run.takes.faults))
-  sound status.WriteFault code means = absurd (is.wrote means.so.4.one_failed)
-  sound status.NetFault code means =
+  sound outcome.WriteFault code means = absurd (is.wrote means.so.4.one_failed)
+  sound outcome.NetFault code means =
       let net = net_of _ means in
       ⊎_elim (λ failed. none_some net.waits failed.1) (λ failed. none_some net.attaches failed.1)
       means.so.1
-  sound status.NoMemory code means = inr code
-  sound (status.BadRecord at) code means =
+  sound outcome.NoMemory code means = inr code
+  sound (outcome.BadRecord at) code means =
       let run = means.so.1.0 in
       absurd (no_stop (source input) (source left.input) run.failed run.taken run.extra run.takes
       at is.clean means.so.1.1.stops)
-  sound status.TooLong code means =
+  sound outcome.TooLong code means =
       let run = means.so.1.0 in
       absurd (none_behind (source input) (source left.input) run.failed run.taken run.extra
       run.takes is.clean means.so.1.1.more)
-  sound status.PeerFault code (inl failed) = absurd (is.dialled failed.rose)
-  sound status.PeerFault code (inr b) =
+  sound outcome.PeerFault code (inl failed) = absurd (is.dialled failed.rose)
+  sound outcome.PeerFault code (inr b) =
       none_some (no_faults (facts b.net) b.options.wait (net_of _ b) b.so.1.0) b.so.1.1.failed
-  sound (status.ConnectTimeout at) code means =
+  sound (outcome.ConnectTimeout at) code means =
       let net = net_of _ means in
       absurd (both (net.early at (at_told (WasAnsweredAt at) (facts means.net).calls net.calls
       net.told_calls means.so.1.1.waited)) means.so.1.1.late)
     where
       both : {n k : ℕ} → n < k → k ≤ n → ⊥
       both less more = omega (arith, less, more)
-  sound status.Unfinished code means =
+  sound outcome.Unfinished code means =
       let net = net_of _ means in
       absurd (net.goes_on (at_told LastWaitWasOver (facts means.net).calls net.calls net.told_calls
       means.so.1.1.over))

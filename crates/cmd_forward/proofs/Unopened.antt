@@ -21,13 +21,13 @@ use Rattle.cmd_forward.specs.Answers.{most_input}
 use Rattle.cmd_forward.specs.Runs.{HasNotRun}
 use Rattle.cmd_forward.specs.Starting.{IsLeftUnopened, terms_of}
 use Rattle.cmd_forward.specs.Statuses.{RunEnds}
-use Rattle.cmd_forward.specs.declared.status.Status.{Status}
-use Rattle.cmd_forward.specs.declared.status.Status.TheVariants as status
+use Rattle.cmd_forward.specs.declared.outcome.Outcome.{Outcome}
+use Rattle.cmd_forward.specs.declared.outcome.Outcome.TheVariants as outcome
 use Rattle.cmd_forward.proofs.Runs.{nothing_taken, took_none_back}
 
-abbrev pub status_refused : OpenRefused → Status
-status_refused refused.NotAttached = status.NetFault
-status_refused refused.NoMemory = status.NoMemory
+abbrev pub outcome_refused : OpenRefused → Outcome
+outcome_refused refused.NotAttached = outcome.NetFault
+outcome_refused refused.NoMemory = outcome.NoMemory
 
 risen : (before now : ℕ) → Rose before now → 1 ≤ now
 risen before now rose = omega (arith, rose)
@@ -48,7 +48,7 @@ module _ {M S E : Type 0} {N : NetGhosts M E} {G : Ghosts E} (facts : M → NetF
 
   pub ends_unopened : (why : OpenRefused) → left.why ≡ why
       → RunEnds tells most_input wait i (source (input_of (input_end left.end)))
-      (facts (net_within left.net)) (status_refused why)
+      (facts (net_within left.net)) (outcome_refused why)
   unfolding not_run
   ends_unopened refused.NotAttached is = inr (
     not_run,

@@ -5,19 +5,21 @@ use Rattle.ev_base.specs.End.{EndFacts}
 use Rattle.ev_base.specs.Net.{NetFacts}
 use Rattle.ev_base.specs.Sink.{SinkFacts}
 use Rattle.ev_base.specs.Source.{SourceFacts}
+use Rattle.exit_status.specs.Statuses.{code_of, number_of}
+use Rattle.exit_status.specs.declared.status.Status.TheVariants as status
 use Rattle.sink_buffer.specs.Written.{TookAll, TookFront}
 use Rattle.cmd_line.specs.Given.{Text}
 use Rattle.connector_run.specs.Waits.{AskedUntil}
 use Rattle.reactor_core.specs.Ends.{WhereTold}
 use Rattle.cmd_forward.specs.Runs.{HasRun}
-use Rattle.cmd_forward.specs.Statuses.{IsDone, RunEnds, code_of, number_of, totals_text}
+use Rattle.cmd_forward.specs.Statuses.{IsDone, RunEnds, status_by, totals_text}
 use Rattle.cmd_forward.specs.Words.{forward_of}
 use Rattle.cmd_forward.specs.declared.command.Forwarded.{Forwarded}
-use Rattle.cmd_forward.specs.declared.status.Status.{Status}
-use Rattle.cmd_forward.specs.declared.status.Status.TheVariants.{Done, Usage, ReadFault, WriteFault}
-use Rattle.cmd_forward.specs.declared.status.Status.TheVariants.{NetFault, NoMemory, BadRecord}
-use Rattle.cmd_forward.specs.declared.status.Status.TheVariants.{TooLong, PeerFault}
-use Rattle.cmd_forward.specs.declared.status.Status.TheVariants.{ConnectTimeout, Unfinished}
+use Rattle.cmd_forward.specs.declared.outcome.Outcome.{Outcome}
+use Rattle.cmd_forward.specs.declared.outcome.Outcome.TheVariants.{Done, Usage, ReadFault, WriteFault}
+use Rattle.cmd_forward.specs.declared.outcome.Outcome.TheVariants.{NetFault, NoMemory, BadRecord}
+use Rattle.cmd_forward.specs.declared.outcome.Outcome.TheVariants.{TooLong, PeerFault}
+use Rattle.cmd_forward.specs.declared.outcome.Outcome.TheVariants.{ConnectTimeout, Unfinished}
 use Rattle.cmd_forward.specs.declared.words.ForwardOptions.{ForwardOptions}
 
 -- how many bytes of the input are read at most
@@ -34,7 +36,7 @@ pub record IsUnbegun {M S K : Type 0} (source : S) (sink : K) (left : Forwarded 
 -- No port was dialled: there is no net, and the words call no command, or memory was wanting.
 pub record IsUndialled {M S K : Type 0} (words : List Text) (left : Forwarded M S K) : Type 0 where
   pub net : left.net ≡ None
-  pub why : (forward_of words ≡ None) ⊎ (left.status ≡ code_of NoMemory)
+  pub why : (forward_of words ≡ None) ⊎ (left.status ≡ code_of status.NoMemory)
 
 -- The ports that the dialler was asked for: that of the words, once, or none more.
 abbrev pub DialsPort : {M S K : Type 0} → List Text → List ℕ → List ℕ → Forwarded M S K → Type 0
@@ -81,9 +83,9 @@ module _ {M S K E : Type 0} (tells : E → EndFacts) (facts : M → NetFacts E)
     (source : S → SourceFacts) (sink : K → SinkFacts) (words : List Text) (before now : ℕ)
     (input : S) (output : K) (left : Forwarded M S K) where
   -- the run ended so, and nothing was written
-  abbrev pub RunsInto : Status → Type 0
-  RunsInto status = HasBegun words before now left (λ options net. (left.output ≡ output)
-      × RunEnds tells most_input options.wait (source input) (source left.input) (facts net) status)
+  abbrev pub RunsInto : Outcome → Type 0
+  RunsInto outcome = HasBegun words before now left (λ options net. (left.output ≡ output)
+      × RunEnds tells most_input options.wait (source input) (source left.input) (facts net) outcome)
 
   -- all was sent, and with these totals P holds
   abbrev pub SendsAll : (ℕ → ℕ → Type 0) → Type 0
@@ -92,24 +94,24 @@ module _ {M S K E : Type 0} (tells : E → EndFacts) (facts : M → NetFacts E)
       × IsDone run records bytes × P records bytes)
 
   -- what each status says
-  abbrev pub HasStatus : Status → Type 0
-  HasStatus (Done records bytes) = SendsAll (λ r b. (r ≡ records) × (b ≡ bytes)
+  abbrev pub HasOutcome : Outcome → Type 0
+  HasOutcome (Done records bytes) = SendsAll (λ r b. (r ≡ records) × (b ≡ bytes)
       × TookAll (sink output) (totals_text records bytes) (sink left.output))
-  HasStatus Usage = IsUsage words before now input output left
-  HasStatus ReadFault = RunsInto ReadFault
-  HasStatus WriteFault = SendsAll (λ records bytes.
+  HasOutcome Usage = IsUsage words before now input output left
+  HasOutcome ReadFault = RunsInto ReadFault
+  HasOutcome WriteFault = SendsAll (λ records bytes.
       TookFront (sink output) (totals_text records bytes) (sink left.output))
-  HasStatus NetFault = RunsInto NetFault
-  HasStatus NoMemory = ((now ≡ before) × IsUnbegun input output left) ⊎ RunsInto NoMemory
-  HasStatus (BadRecord at) = RunsInto (BadRecord at)
-  HasStatus TooLong = RunsInto TooLong
-  HasStatus PeerFault = IsDialFault words before now input output left ⊎ RunsInto PeerFault
-  HasStatus (ConnectTimeout at) = RunsInto (ConnectTimeout at)
-  HasStatus Unfinished = RunsInto Unfinished
+  HasOutcome NetFault = RunsInto NetFault
+  HasOutcome NoMemory = ((now ≡ before) × IsUnbegun input output left) ⊎ RunsInto NoMemory
+  HasOutcome (BadRecord at) = RunsInto (BadRecord at)
+  HasOutcome TooLong = RunsInto TooLong
+  HasOutcome PeerFault = IsDialFault words before now input output left ⊎ RunsInto PeerFault
+  HasOutcome (ConnectTimeout at) = RunsInto (ConnectTimeout at)
+  HasOutcome Unfinished = RunsInto Unfinished
 
   -- it answers the number of a status, with the number that goes with it, and what that says holds
   pub record HasAnswered : Type 0 where
-    pub status : Status
-    pub code : left.status ≡ code_of status
-    pub number : left.at ≡ number_of most_input status
-    pub means : HasStatus status
+    pub outcome : Outcome
+    pub code : left.status ≡ code_of (status_by most_input outcome)
+    pub number : left.at ≡ number_of (status_by most_input outcome)
+    pub means : HasOutcome outcome

@@ -11,8 +11,8 @@ use Rattle.forwarder.specs.declared.note.ForwardEnding.TheVariants as end
 use Rattle.forwarder.specs.declared.note.ForwardNote.{ForwardNote}
 use Rattle.reactor_model.specs.reactor_journal.specs.declared.entry.Entry.{Entry}
 use Rattle.reactor_model.specs.reactor_journal.specs.declared.entry.Entry.TheVariants.{Returned}
-use Rattle.cmd_forward.specs.declared.status.Status.{Status}
-use Rattle.cmd_forward.specs.declared.status.Status.TheVariants as status
+use Rattle.cmd_forward.specs.declared.outcome.Outcome.{Outcome}
+use Rattle.cmd_forward.specs.declared.outcome.Outcome.TheVariants as outcome
 
 -- For what the service ended. If its peer failed, that for which it would have ended is told,
 -- unless that was the end of the input.
@@ -26,28 +26,28 @@ cause_of stop end.PeerFailed = cause_when_failed stop
 cause_of stop how = how
 
 -- the status by that, and by whether a read of the input failed; with it the totals
-abbrev pub status_unless : Bool → Status → Status
-status_unless true other = status.ReadFault
-status_unless false other = other
+abbrev pub outcome_unless : Bool → Outcome → Outcome
+outcome_unless true other = outcome.ReadFault
+outcome_unless false other = other
 
-abbrev pub status_for : ForwardEnding → Bool → ℕ → ℕ → Status
-status_for end.End failed records bytes = status_unless failed (status.Done records bytes)
-status_for (end.BadRecord at) failed records bytes = status_unless failed (status.BadRecord at)
-status_for end.ReadFailed failed records bytes = status_unless failed status.TooLong
-status_for end.PeerFailed failed records bytes = status.PeerFault
-status_for end.NoMemory failed records bytes = status.NoMemory
+abbrev pub outcome_for : ForwardEnding → Bool → ℕ → ℕ → Outcome
+outcome_for end.End failed records bytes = outcome_unless failed (outcome.Done records bytes)
+outcome_for (end.BadRecord at) failed records bytes = outcome_unless failed (outcome.BadRecord at)
+outcome_for end.ReadFailed failed records bytes = outcome_unless failed outcome.TooLong
+outcome_for end.PeerFailed failed records bytes = outcome.PeerFault
+outcome_for end.NoMemory failed records bytes = outcome.NoMemory
 
 -- the status by a note of the service that ended, and by that of a connector that closed itself
-abbrev pub status_ended : Option ForwardEnding → ForwardNote → Bool → Status
-status_ended None said failed = status.NoMemory
-status_ended (Some how) said failed =
-    status_for (cause_of said.stop how) failed said.records said.bytes
+abbrev pub outcome_ended : Option ForwardEnding → ForwardNote → Bool → Outcome
+outcome_ended None said failed = outcome.NoMemory
+outcome_ended (Some how) said failed =
+    outcome_for (cause_of said.stop how) failed said.records said.bytes
 
-abbrev pub status_closed : ConnectNote ForwardNote → Bool → Status
-status_closed note.Failed failed = status.PeerFault
-status_closed (note.TimedOut now) failed = status.ConnectTimeout now
-status_closed (note.Live said) failed = status_ended said.ended said failed
-status_closed _ failed = status.NoMemory
+abbrev pub outcome_closed : ConnectNote ForwardNote → Bool → Outcome
+outcome_closed note.Failed failed = outcome.PeerFault
+outcome_closed (note.TimedOut now) failed = outcome.ConnectTimeout now
+outcome_closed (note.Live said) failed = outcome_ended said.ended said failed
+outcome_closed _ failed = outcome.NoMemory
 
 -- a connector closes itself with one of these
 abbrev pub Closes : ConnectNote ForwardNote → Type 0
@@ -73,9 +73,9 @@ MayEnd ended.Closed entries = EndsWith entries
 MayEnd _ entries = Unit {0}
 
 -- the status of a run, by how it ended
-abbrev pub HasEnded : Ended → List (Entry (ConnectNote ForwardNote)) → Bool → Status → Type 0
+abbrev pub HasEnded : Ended → List (Entry (ConnectNote ForwardNote)) → Bool → Outcome → Type 0
 HasEnded ended.Closed entries failed told =
-    (ends : EndsWith entries) → told ≡ status_closed ends.note failed
-HasEnded ended.Over entries failed told = told ≡ status.Unfinished
-HasEnded ended.NetFault entries failed told = told ≡ status.NetFault
-HasEnded ended.NoMemory entries failed told = told ≡ status.NoMemory
+    (ends : EndsWith entries) → told ≡ outcome_closed ends.note failed
+HasEnded ended.Over entries failed told = told ≡ outcome.Unfinished
+HasEnded ended.NetFault entries failed told = told ≡ outcome.NetFault
+HasEnded ended.NoMemory entries failed told = told ≡ outcome.NoMemory

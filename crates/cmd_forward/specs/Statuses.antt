@@ -5,6 +5,8 @@ use Rattle.ev_base.specs.End.{EndFacts}
 use Rattle.ev_base.specs.Net.{NetFacts}
 use Rattle.ev_base.specs.Source.{SourceFacts}
 use Rattle.ev_base.specs.declared.dial.Finish.TheVariants as finish
+use Rattle.exit_status.specs.declared.status.Status.{Status}
+use Rattle.exit_status.specs.declared.status.Status.TheVariants as status
 use Rattle.connector_run.specs.Leaving.{LastWaitWasOver}
 use Rattle.forwarder.specs.cdr_record.specs.Decoding.{Clean, Malformed, Partial, bad_of, decode}
 use Rattle.forwarder.specs.cdr_record.specs.Decoding.{taken_of}
@@ -13,34 +15,27 @@ use Rattle.forwarder.specs.one_net.specs.bounded_input.specs.Input.{IsReadToEnd}
 use Rattle.reactor_core.specs.Ends.{WhereTold}
 use Rattle.cmd_forward.specs.Runs.{HasNotRun, HasRested, HasRun, HasWaited, MadeAtLeast}
 use Rattle.cmd_forward.specs.Runs.{WasAnsweredAt, WroteNone, reports_in}
-use Rattle.cmd_forward.specs.declared.status.Status.{Status}
-use Rattle.cmd_forward.specs.declared.status.Status.TheVariants.{Done, Usage, ReadFault, WriteFault}
-use Rattle.cmd_forward.specs.declared.status.Status.TheVariants.{NetFault, NoMemory, BadRecord}
-use Rattle.cmd_forward.specs.declared.status.Status.TheVariants.{TooLong, PeerFault}
-use Rattle.cmd_forward.specs.declared.status.Status.TheVariants.{ConnectTimeout, Unfinished}
+use Rattle.cmd_forward.specs.declared.outcome.Outcome.{Outcome}
+use Rattle.cmd_forward.specs.declared.outcome.Outcome.TheVariants.{Done, Usage, ReadFault, WriteFault}
+use Rattle.cmd_forward.specs.declared.outcome.Outcome.TheVariants.{NetFault, NoMemory, BadRecord}
+use Rattle.cmd_forward.specs.declared.outcome.Outcome.TheVariants.{TooLong, PeerFault}
+use Rattle.cmd_forward.specs.declared.outcome.Outcome.TheVariants.{ConnectTimeout, Unfinished}
 
--- ---- numbers
+-- ---- statuses
 
--- the number of a status
-abbrev pub code_of : Status → ℕ
-code_of (Done records bytes) = 0
-code_of Usage = 1
-code_of ReadFault = 3
-code_of WriteFault = 4
-code_of NetFault = 5
-code_of NoMemory = 6
-code_of (BadRecord at) = 8
-code_of TooLong = 11
-code_of PeerFault = 13
-code_of (ConnectTimeout at) = 14
-code_of Unfinished = 15
-
--- the number that goes with a status
-abbrev pub number_of : ℕ → Status → ℕ
-number_of limit (BadRecord at) = at
-number_of limit TooLong = limit
-number_of limit (ConnectTimeout at) = at
-number_of limit _ = 0
+-- the status of each outcome, of a run in which so many bytes may be read
+abbrev pub status_by : ℕ → Outcome → Status
+status_by limit (Done records bytes) = status.Done
+status_by limit Usage = status.Usage
+status_by limit ReadFault = status.ReadFault
+status_by limit WriteFault = status.WriteFault
+status_by limit NetFault = status.NetFault
+status_by limit NoMemory = status.NoMemory
+status_by limit (BadRecord at) = status.BadRecord at
+status_by limit TooLong = status.TooLong limit
+status_by limit PeerFault = status.PeerFault
+status_by limit (ConnectTimeout at) = status.TimedOut at
+status_by limit Unfinished = status.Unfinished
 
 -- ---- the two lines of totals
 
@@ -127,7 +122,7 @@ IsNetFault tells limit i j n = (HasRun tells limit i j n × (1 ≤ n.failed_wait
 
 -- how a run ends that had its connection from a dialler, which waits so many milliseconds for it
 abbrev pub RunEnds : {E : Type 0} → (E → EndFacts) → ℕ → ℕ → SourceFacts → SourceFacts
-    → NetFacts E → Status → Type 0
+    → NetFacts E → Outcome → Type 0
 RunEnds tells limit wait i j n (Done records bytes) =
     (run : HasRun tells limit i j n) × IsDone run records bytes
 RunEnds tells limit wait i j n Usage = ⊥

@@ -9,8 +9,8 @@ ghost use Rattle.cmd_forward.specs.Answers.{DialsPort, HasAnswered, IsUnbegun, L
 ghost use Rattle.cmd_forward.specs.Telling.{HasNumbers, IsTold};
 ghost use Rattle.cmd_forward.specs.Words.{AreInRange, forward_of};
 
+use crate::outcome::Outcome;
 use crate::running::{Ran, forward};
-use crate::status::Status;
 use crate::totals::write_totals;
 use crate::words::ForwardOptions;
 use ev_base::{DialRefused, Dialer, NoMemory, Sink, Source};
@@ -20,7 +20,7 @@ use std::sync::Wait;
 /// What `forward_main` leaves.
 #[derive(Drop)]
 pub struct Forwarded<M, S, K> {
-    /// The number that the program ends with, that of a [`Status`].
+    /// The code with which the program ends.
     pub status: u8,
     /// The number that goes with it.
     pub at: u64,
@@ -62,8 +62,8 @@ where
 {
     match ForwardOptions::of(alloc, words) {
         Ok(Some(options)) => dial(rt, alloc, options, dialer, input, output),
-        Ok(None) => unbegun(Status::Usage, input, output),
-        Err(NoMemory) => unbegun(Status::NoMemory, input, output),
+        Ok(None) => unbegun(Outcome::Usage, input, output),
+        Err(NoMemory) => unbegun(Outcome::NoMemory, input, output),
     }
 }
 
@@ -88,16 +88,17 @@ where
 {
     match dialer.dial(alloc, options.port) {
         Ok((net, end)) => tell(forward(rt, alloc, net, end, input, options.wait), output),
-        Err(DialRefused::Failed) => unbegun(Status::PeerFault, input, output),
-        Err(DialRefused::NoMemory) => unbegun(Status::NoMemory, input, output),
+        Err(DialRefused::Failed) => unbegun(Outcome::PeerFault, input, output),
+        Err(DialRefused::NoMemory) => unbegun(Outcome::NoMemory, input, output),
     }
 }
 
 // What is left if no connection was begun.
-fn unbegun<M, S, K>(status: Status, input: S, output: K) -> Forwarded<M, S, K>
-    ensures numbers { HasNumbers status result }
+fn unbegun<M, S, K>(outcome: Outcome, input: S, output: K) -> Forwarded<M, S, K>
+    ensures numbers { HasNumbers outcome result }
     ensures unbegun { IsUnbegun input output result }
 {
+    let status = outcome.status();
     Forwarded {
         status: status.code(),
         at: status.number(),
@@ -111,14 +112,19 @@ fn unbegun<M, S, K>(status: Status, input: S, output: K) -> Forwarded<M, S, K>
 fn tell<M, S, K: Sink>(ran: Ran<M, S>, output: K) -> Forwarded<M, S, K>
     ensures { IsTold K.facts ran output result }
 {
-    let Ran { status, net, input } = ran;
-    let (status, output) = match status {
-        Status::Done { records, bytes } => match write_totals(output, records, bytes) {
-            (output, true) => (status, output),
-            (output, false) => (Status::WriteFault, output),
+    let Ran {
+        outcome,
+        net,
+        input,
+    } = ran;
+    let (outcome, output) = match outcome {
+        Outcome::Done { records, bytes } => match write_totals(output, records, bytes) {
+            (output, true) => (outcome, output),
+            (output, false) => (Outcome::WriteFault, output),
         },
-        _ => (status, output),
+        _ => (outcome, output),
     };
+    let status = outcome.status();
     Forwarded {
         status: status.code(),
         at: status.number(),

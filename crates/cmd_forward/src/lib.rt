@@ -4,11 +4,11 @@
 
 mod command;
 pub mod laws;
+mod outcome;
 mod running;
-mod status;
 mod totals;
 mod words;
 
 pub use command::{Forwarded, forward_main};
-pub use status::Status;
+pub use outcome::Outcome;
 pub use words::ForwardOptions;

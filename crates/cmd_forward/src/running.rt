@@ -10,7 +10,7 @@ ghost use Rattle.cmd_forward.specs.Answers.{most_input};
 ghost use Rattle.cmd_forward.specs.Statuses.{RunEnds};
 ghost use Rattle.cmd_forward.specs.Starting.{HasStarted, IsLeftUnopened};
 
-use crate::status::Status;
+use crate::outcome::Outcome;
 use connector_run::{ConnectCore, OpenRefused, Unopened, finish, open, run};
 use ev_base::{DialEnd, Net, Source};
 use forwarder::laws::totals_are_exact;
@@ -25,7 +25,7 @@ type ForwardCore<E, M, S> = ConnectCore<ForwardEnd<E, S>, Forwarder<E, S>, Forwa
 /// What a run leaves.
 pub(crate) struct Ran<M, S> {
     /// How it ended.
-    pub(crate) status: Status,
+    pub(crate) outcome: Outcome,
     /// The net that was handed in.
     pub(crate) net: M,
     /// The source that was handed in.
@@ -87,7 +87,7 @@ fn serve<R: Wait, E: DialEnd + Drop, M: Net<End = E>, S: Source>(
     let (net, end) = net.into_retired();
     totals_are_exact();
     Ran {
-        status: Status::of(ended, journal.as_slice(), end.has_failed()),
+        outcome: Outcome::of(ended, journal.as_slice(), end.has_failed()),
         net,
         input: end.into_input(),
     }
@@ -107,12 +107,12 @@ fn give_up<E: DialEnd + Drop, M: Net<End = E>, S: Source>(
 {
     let Unopened { why, net, end } = left;
     let (_, end) = end.into_parts();
-    let status = match why {
-        OpenRefused::NotAttached => Status::NetFault,
-        OpenRefused::NoMemory => Status::NoMemory,
+    let outcome = match why {
+        OpenRefused::NotAttached => Outcome::NetFault,
+        OpenRefused::NoMemory => Outcome::NoMemory,
     };
     Ran {
-        status,
+        outcome,
         net: net.close(),
         input: end.into_input(),
     }

@@ -43,10 +43,10 @@ use Rattle.one_run.specs.bounded_input.specs.Input.{IsReadToEnd, TakesInput}
 use Rattle.cmd_one.specs.Journals.{IsTold, IsTakenAndHeld, IsWholeRun, WroteUntilLast, BreaksLate}
 use Rattle.cmd_one.specs.Journals.{HasWritten, StandsFor, SomeJournal}
 use Rattle.cmd_one.specs.Statuses.{DecodesLeft, HasLines, IsDone, IsReadFault, IsNoMemory}
-use Rattle.cmd_one.specs.Statuses.{IsTooLong, IsVolumeFault, HasStatus, code_of}
-use Rattle.cmd_one.specs.Ran.{RunsOne, status_without_fault, status_of}
-use Rattle.cmd_one.specs.declared.status.Status.{Status}
-use Rattle.cmd_one.specs.declared.status.Status.TheVariants as status
+use Rattle.cmd_one.specs.Statuses.{IsTooLong, IsVolumeFault, EndsSo, code_by}
+use Rattle.cmd_one.specs.Ran.{RunsOne, end_without_fault, end_by}
+use Rattle.cmd_one.specs.declared.ending.OneEnd.{OneEnd}
+use Rattle.cmd_one.specs.declared.ending.OneEnd.TheVariants as one
 use Rattle.cmd_one.proofs.Journals.{finished_is_over, finished_refuses_none, none_handed_over}
 use Rattle.cmd_one.proofs.Journals.{end_is_over}
 
@@ -227,7 +227,7 @@ data CodeOf (too_long lost : Bool) (why : Option Halt) (n : ℕ) : Type 0 where
   Halted : n ≡ 12 → CodeOf too_long lost why n
 
 code_cases : (too_long lost : Bool) (why : Option Halt)
-    → CodeOf too_long lost why (code_of (status_without_fault too_long lost why))
+    → CodeOf too_long lost why (code_by most_input (end_without_fault too_long lost why))
 code_cases too_long true why = WithoutMemory refl
 code_cases too_long false (Some halt.NoMemory) = WithoutMemory refl
 code_cases true false None = TooLong refl refl
@@ -353,7 +353,7 @@ module _ (i : SourceFacts) (o : SinkFacts) (j : SourceFacts) (p : SinkFacts)
   }
 
   without_fault : (too_long lost : Bool) (why : Option Halt) → Knows false false too_long lost why
-      → HasStatus most_input i o j p before now (status_without_fault too_long lost why)
+      → EndsSo most_input i o j p before now (end_without_fault too_long lost why)
   without_fault too_long true why k = no_memory too_long true why k
   without_fault too_long false (Some halt.NoMemory) k =
       no_memory too_long false (Some halt.NoMemory) k
@@ -365,7 +365,7 @@ module _ (i : SourceFacts) (o : SinkFacts) (j : SourceFacts) (p : SinkFacts)
 
   pub has_status : (failed broken too_long lost : Bool) (why : Option Halt)
       → Knows failed broken too_long lost why
-      → HasStatus most_input i o j p before now (status_of failed broken too_long lost why)
+      → EndsSo most_input i o j p before now (end_by failed broken too_long lost why)
   has_status true broken too_long lost why k = read_fault broken too_long lost why k
   has_status false true too_long lost why k =
       record {
@@ -378,7 +378,7 @@ module _ (i : SourceFacts) (o : SinkFacts) (j : SourceFacts) (p : SinkFacts)
   -- ---- what the journal says
 
   not_four : (too_long lost : Bool) (why : Option Halt)
-      → code_of (status_without_fault too_long lost why) ≡ 4 → ⊥
+      → code_by most_input (end_without_fault too_long lost why) ≡ 4 → ⊥
   not_four too_long lost why q = elim (code_cases too_long lost why) [
     | WithoutMemory e ↦ omega (arith, q, e)
     | TooLong e long ↦ omega (arith, q, e)
@@ -388,7 +388,7 @@ module _ (i : SourceFacts) (o : SinkFacts) (j : SourceFacts) (p : SinkFacts)
   ]
 
   not_three : (too_long lost : Bool) (why : Option Halt)
-      → code_of (status_without_fault too_long lost why) ≡ 3 → ⊥
+      → code_by most_input (end_without_fault too_long lost why) ≡ 3 → ⊥
   not_three too_long lost why q = elim (code_cases too_long lost why) [
     | WithoutMemory e ↦ omega (arith, q, e)
     | TooLong e long ↦ omega (arith, q, e)
@@ -400,7 +400,7 @@ module _ (i : SourceFacts) (o : SinkFacts) (j : SourceFacts) (p : SinkFacts)
   -- with status 0 it ended as reading stops
   at_zero : (failed broken too_long lost : Bool) (why : Option Halt)
       (k : Knows failed broken too_long lost why)
-      → code_of (status_of failed broken too_long lost why) ≡ 0 → EndsAsRead k.run
+      → code_by most_input (end_by failed broken too_long lost why) ≡ 0 → EndsAsRead k.run
   at_zero true broken too_long lost why k q = absurd (omega (arith, q))
   at_zero false true too_long lost why k q = absurd (omega (arith, q))
   at_zero false false too_long lost why k q =
@@ -414,7 +414,7 @@ module _ (i : SourceFacts) (o : SinkFacts) (j : SourceFacts) (p : SinkFacts)
   -- with status 11 a byte was met past the limit
   at_eleven : (failed broken too_long lost : Bool) (why : Option Halt)
       (k : Knows failed broken too_long lost why)
-      → code_of (status_of failed broken too_long lost why) ≡ 11 → k.run.extra ≢ []
+      → code_by most_input (end_by failed broken too_long lost why) ≡ 11 → k.run.extra ≢ []
   at_eleven true broken too_long lost why k q = absurd (omega (arith, q))
   at_eleven false true too_long lost why k q = absurd (omega (arith, q))
   at_eleven false false too_long lost why k q =
@@ -427,13 +427,13 @@ module _ (i : SourceFacts) (o : SinkFacts) (j : SourceFacts) (p : SinkFacts)
 
   -- a read failed with status 3 and with no other
   at_three : (failed broken too_long lost : Bool) (why : Option Halt)
-      → code_of (status_of failed broken too_long lost why) ≡ 3 → failed ≡ true
+      → code_by most_input (end_by failed broken too_long lost why) ≡ 3 → failed ≡ true
   at_three true broken too_long lost why q = refl
   at_three false true too_long lost why q = absurd (omega (arith, q))
   at_three false false too_long lost why q = absurd (not_three too_long lost why q)
 
   at_others : (failed broken too_long lost : Bool) (why : Option Halt)
-      → code_of (status_of failed broken too_long lost why) ≢ 3 → failed ≡ false
+      → code_by most_input (end_by failed broken too_long lost why) ≢ 3 → failed ≡ false
   at_others true broken too_long lost why other = absurd (other refl)
   at_others false broken too_long lost why other = refl
 
@@ -443,7 +443,7 @@ module _ (i : SourceFacts) (o : SinkFacts) (j : SourceFacts) (p : SinkFacts)
   pub stands_for : (f : IsFinished h) → Legal h 1
       → (failed broken too_long lost : Bool) (why : Option Halt)
       → Knows failed broken too_long lost why
-      → StandsFor most_input i o j p (code_of (status_of failed broken too_long lost why)) h
+      → StandsFor most_input i o j p (code_by most_input (end_by failed broken too_long lost why)) h
   stands_for f legal failed broken too_long lost why k = record {
     over = inr (finished_is_over h legal f);
     some = λ code. not_empty first_entry h f.served f.is;
@@ -472,14 +472,14 @@ module _ (i : SourceFacts) (o : SinkFacts) (j : SourceFacts) (p : SinkFacts)
       either false w = inl w
 
       all : (failed broken : Bool) → HasWritten broken o h p
-          → code_of (status_of failed broken too_long lost why) ≢ 3
-          → code_of (status_of failed broken too_long lost why) ≢ 4 → TookAll o (journal_lines h) p
+          → code_by most_input (end_by failed broken too_long lost why) ≢ 3
+          → code_by most_input (end_by failed broken too_long lost why) ≢ 4 → TookAll o (journal_lines h) p
       all failed false w a b = w
       all true true w a b = absurd (a refl)
       all false true w a b = absurd (b refl)
 
       front : (failed broken : Bool) → HasWritten broken o h p
-          → code_of (status_of failed broken too_long lost why) ≡ 4 → BreaksLate o h p
+          → code_by most_input (end_by failed broken too_long lost why) ≡ 4 → BreaksLate o h p
       front failed true w code = w
       front true false w code = absurd (omega (arith, code))
       front false false w code = absurd (not_four too_long lost why code)
@@ -487,9 +487,9 @@ module _ (i : SourceFacts) (o : SinkFacts) (j : SourceFacts) (p : SinkFacts)
 -- ---- a run that could not begin
 
 -- its status: whether a write failed
-abbrev pub status_unbegun : Bool → Status
-status_unbegun true = status.WriteFault
-status_unbegun false = status.NoMemory
+abbrev pub end_unbegun : Bool → OneEnd
+end_unbegun true = one.WriteFault
+end_unbegun false = one.NoMemory
 
 abbrev IsSame : Option (List ℕ) → Option (List ℕ) → Type 0
 IsSame old new = (start : List ℕ) → old ≡ Some start → new ≡ Some start
@@ -523,7 +523,7 @@ nothing_written o p false same faults = nothing_whole o p same faults
 unbegun_status : (i : SourceFacts) (o : SinkFacts) (j : SourceFacts) (p : SinkFacts)
     (before now : ℕ) (broken : Bool) → j.bytes ≡ i.bytes → j.gave ≡ i.gave → j.faults ≡ i.faults
     → IsWritten broken o [] p
-    → HasStatus most_input i o j p before now (status_unbegun broken)
+    → EndsSo most_input i o j p before now (end_unbegun broken)
 unbegun_status i o j p before now true bytes gave faults written =
     record {
       text = [];
@@ -580,13 +580,13 @@ unbegun_stands : (i : SourceFacts) (o : SinkFacts) (j : SourceFacts) (p : SinkFa
     (journal : List (Entry ServerNote)) (broken : Bool) → j.bytes ≡ i.bytes → j.gave ≡ i.gave
     → j.faults ≡ i.faults → IsWritten broken o [] p
     → (journal ≡ []) ⊎ (journal ≡ Ended ∷ [])
-    → StandsFor most_input i o j p (code_of (status_unbegun broken)) journal
+    → StandsFor most_input i o j p (code_by most_input (end_unbegun broken)) journal
 unbegun_stands i o j p journal broken bytes gave faults written entries =
     by broken (subst (λ (text : List ℕ). IsWritten broken o text p) (sym (no_lines journal entries))
     written)
   where
     by : (broken : Bool) → IsWritten broken o (journal_lines journal) p
-        → StandsFor most_input i o j p (code_of (status_unbegun broken)) journal
+        → StandsFor most_input i o j p (code_by most_input (end_unbegun broken)) journal
     by true w = record {
       over = over_at_once journal entries;
       some = λ code. absurd (omega (arith, code));
@@ -630,37 +630,37 @@ held_is v held journal (inl by) = by_taken v.taken by
 
 pub unbegun : {S K V : Type 0} (source : S → SourceFacts) (sink : K → SinkFacts)
     (volumes : V → VolumesFacts ServerNote) (input : S) (output : K) (left : Unopened S K V)
-    (status : Status) → status ≡ status_unbegun left.broken
+    (end : OneEnd) → end ≡ end_unbegun left.broken
     → LeavesUnopened source sink input output left
     → RunsOne source sink volumes most_input (source input) (sink output) (volumes left.volumes)
     (record {
-      status = status;
+      end = end;
       journal = left.journal;
       first = 0;
       input = left.input;
       output = left.output;
       volumes = left.volumes;
     })
-unbegun source sink volumes input output left status is leaves = record {
-  status = subst (λ (status : Status).
-      HasStatus most_input (source input) (sink output) (source left.input) (sink left.output)
-      (volumes left.volumes).faults (volumes left.volumes).faults status) (sym is)
+unbegun source sink volumes input output left end is leaves = record {
+  status = subst (λ (end : OneEnd).
+      EndsSo most_input (source input) (sink output) (source left.input) (sink left.output)
+      (volumes left.volumes).faults (volumes left.volumes).faults end) (sym is)
       (unbegun_status (source input) (sink output) (source left.input) (sink left.output)
       (volumes left.volumes).faults (volumes left.volumes).faults left.broken leaves.bytes
       leaves.gave leaves.faults written);
-  journal = λ journal told. subst (λ (status : Status).
+  journal = λ journal told. subst (λ (end : OneEnd).
       StandsFor most_input (source input) (sink output) (source left.input) (sink left.output)
-      (code_of status) journal) (sym is)
+      (code_by most_input end) journal) (sym is)
       (subst (λ (entries : List (Entry ServerNote)).
       StandsFor most_input (source input) (sink output) (source left.input) (sink left.output)
-      (code_of (status_unbegun left.broken)) entries)
+      (code_by most_input (end_unbegun left.broken)) entries)
       (sym (held_is (volumes left.volumes) left.journal.entries journal told))
       (unbegun_stands (source input) (sink output) (source left.input) (sink left.output)
       left.journal.entries left.broken leaves.bytes leaves.gave leaves.faults written
       leaves.journal));
-  some_journal = subst (λ (status : Status).
+  some_journal = subst (λ (end : OneEnd).
       SomeJournal most_input (source input) (sink output) (source left.input) (sink left.output)
-      (code_of status) 0 left.journal.entries) (sym is) (record {
+      (code_by most_input end) 0 left.journal.entries) (sym is) (record {
         journal = left.journal.entries;
         within = omega arith;
         is_held = refl;

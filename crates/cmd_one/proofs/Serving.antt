@@ -33,10 +33,10 @@ use Rattle.one_run.proofs.Growing.{whole-more}
 use Rattle.one_run.proofs.Begins.{starts}
 use Rattle.one_run.proofs.Leaves.{RetiresOne, retires_one}
 use Rattle.cmd_one.specs.Journals.{IsTakenAndHeld, AreHandedOver, StandsFor}
-use Rattle.cmd_one.specs.Statuses.{HasStatus, code_of}
-use Rattle.cmd_one.specs.Ran.{RunsOne, status_of}
+use Rattle.cmd_one.specs.Statuses.{EndsSo, code_by}
+use Rattle.cmd_one.specs.Ran.{RunsOne, end_by}
 use Rattle.cmd_one.specs.declared.connection.Ran.{Ran}
-use Rattle.cmd_one.specs.declared.status.Status.{Status}
+use Rattle.cmd_one.specs.declared.ending.OneEnd.{OneEnd}
 use Rattle.cmd_one.proofs.Journals.{told_is, handed_over}
 use Rattle.cmd_one.proofs.Outcome.{Became, became}
 use Rattle.cmd_one.proofs.Endings.{Known, wrote, has_status, stands_for}
@@ -162,22 +162,22 @@ module _ {S K V : Type 0} (G : Ghosts (OneEnd S)) (source : S → SourceFacts) (
         not_met = not_met;
       }
 
-      pub runs : (status : Status) (input : S) (output : K)
-          → status ≡ status_of (failed_of last) broken too_long lost why → input ≡ input_of last
+      pub runs : (end : OneEnd) (input : S) (output : K)
+          → end ≡ end_by (failed_of last) broken too_long lost why → input ≡ input_of last
           → output ≡ sink_of parts.watch
           → RunsOne source sink volumes most_input i o v
           (record {
-            status = status;
+            end = end;
             journal = parts.journal;
             first = parts.first;
             input = input;
             output = output;
             volumes = parts.volumes;
           })
-      runs status input output is is_input is_output =
-          subst (λ (status : Status). RunsOne source sink volumes most_input i o v
+      runs end input output is is_input is_output =
+          subst (λ (end : OneEnd). RunsOne source sink volumes most_input i o v
           (record {
-            status = status;
+            end = end;
             journal = parts.journal;
             first = parts.first;
             input = input;
@@ -186,7 +186,7 @@ module _ {S K V : Type 0} (G : Ghosts (OneEnd S)) (source : S → SourceFacts) (
           })) (sym is)
           (subst (λ (input : S). RunsOne source sink volumes most_input i o v
           (record {
-            status = status_of (failed_of last) broken too_long lost why;
+            end = end_by (failed_of last) broken too_long lost why;
             journal = parts.journal;
             first = parts.first;
             input = input;
@@ -195,7 +195,7 @@ module _ {S K V : Type 0} (G : Ghosts (OneEnd S)) (source : S → SourceFacts) (
           })) (sym is_input)
           (subst (λ (output : K). RunsOne source sink volumes most_input i o v
           (record {
-            status = status_of (failed_of last) broken too_long lost why;
+            end = end_by (failed_of last) broken too_long lost why;
             journal = parts.journal;
             first = parts.first;
             input = input_of last;
@@ -209,7 +209,7 @@ module _ {S K V : Type 0} (G : Ghosts (OneEnd S)) (source : S → SourceFacts) (
             journal = λ journal told.
                 subst (λ (entries : List (Entry ServerNote)).
                 StandsFor most_input i o (source (input_of last)) (sink (sink_of parts.watch))
-                (code_of (status_of (failed_of last) broken too_long lost why)) entries)
+                (code_by most_input (end_by (failed_of last) broken too_long lost why)) entries)
                 (sym (told_is (terms_of_run i o v) v (volumes parts.volumes) left.first parts.first
                 parts.journal.entries left.journal journal refl left.stand.volumes
                 left.stand.first left.stand.journal told))
@@ -237,8 +237,8 @@ pub runs_with : {S K V : Type 0} (source : S → SourceFacts) (sink : K → Sink
     → RunsOne source sink volumes most_input i o w ran
     → RunsOne source sink volumes most_input i o v ran
 runs_with source sink volumes i o v w ran nothing runs = record {
-  status = subst (λ (before : ℕ). HasStatus most_input i o (source ran.input) (sink ran.output)
-      before (volumes ran.volumes).faults ran.status) nothing.faults runs.status;
+  status = subst (λ (before : ℕ). EndsSo most_input i o (source ran.input) (sink ran.output)
+      before (volumes ran.volumes).faults ran.end) nothing.faults runs.status;
   journal = λ journal told. runs.journal journal
       (subst (λ (taken : Option (List (Entry ServerNote))).
       IsTakenAndHeld taken (volumes ran.volumes).taken ran.journal.entries journal

@@ -1,10 +1,13 @@
--- What the statuses of `one` say. The input told the facts i before and tells j now, the output o
+-- What the endings of `one` say. The input told the facts i before and tells j now, the output o
 -- and p, the volumes v and w; `limit` is how many bytes may be read.
 use Rattle.std.specs.Prelude.{◌≡◌, ◌⊎◌, ℕ, true, false, List, [], ◌∷◌, Option, Some, None}
 use Rattle.ev_base.specs.Counts.{Rose}
 use Rattle.ev_base.specs.Bytes.{ReaderBytes}
 use Rattle.ev_base.specs.Source.{SourceFacts}
 use Rattle.ev_base.specs.Sink.{SinkFacts}
+use Rattle.exit_status.specs.Statuses.{code_of}
+use Rattle.exit_status.specs.declared.status.Status.{Status}
+use Rattle.exit_status.specs.declared.status.Status.TheVariants as status
 use Rattle.log_handler.specs.cdr_record.specs.Decoding.{decode}
 use Rattle.one_run.specs.bounded_input.specs.Input.{TakesInput, IsReadToEnd}
 use Rattle.log_handler.specs.log_lines.specs.declared.end_kind.EndKind.{EndKind}
@@ -12,9 +15,9 @@ use Rattle.log_handler.specs.log_lines.specs.declared.end_kind.EndKind.TheVarian
 use Rattle.log_handler.specs.Connection.{end_of}
 use Rattle.log_handler.specs.sink_buffer.specs.Written.{TookAll, TookFront}
 use Rattle.cmd_one.specs.Outcome.{IsClosedWith, IsMalformed, lines_of}
-use Rattle.cmd_one.specs.declared.status.Status.{Status}
-use Rattle.cmd_one.specs.declared.status.Status.TheVariants.{Done, ReadFault, WriteFault, NoMemory}
-use Rattle.cmd_one.specs.declared.status.Status.TheVariants.{TooLong, VolumeFault}
+use Rattle.cmd_one.specs.declared.ending.OneEnd.{OneEnd}
+use Rattle.cmd_one.specs.declared.ending.OneEnd.TheVariants.{Done, ReadFault, WriteFault, NoMemory}
+use Rattle.cmd_one.specs.declared.ending.OneEnd.TheVariants.{TooLong, VolumeFault}
 
 -- if the bytes are told, all that were left are read as these are
 abbrev pub DecodesLeft : Option ReaderBytes → List ℕ → Type 0
@@ -89,26 +92,25 @@ pub record IsVolumeFault (limit : ℕ) (i : SourceFacts) (o : SinkFacts) (j : So
   pub written : TookAll o text p
   pub rose : Rose before now
 
--- what each status says; the volumes' count of faults was this before and is this now
-abbrev pub HasStatus : ℕ → SourceFacts → SinkFacts → SourceFacts → SinkFacts → ℕ → ℕ → Status
+-- what each ending says; the volumes' count of faults was this before and is this now
+abbrev pub EndsSo : ℕ → SourceFacts → SinkFacts → SourceFacts → SinkFacts → ℕ → ℕ → OneEnd
     → Type 0
-HasStatus limit i o j p before now Done = IsDone limit i o j p before now
-HasStatus limit i o j p before now ReadFault = IsReadFault limit i o j p
-HasStatus limit i o j p before now WriteFault = IsWriteFault limit i o j p
-HasStatus limit i o j p before now NoMemory = IsNoMemory limit i o j p
-HasStatus limit i o j p before now TooLong = IsTooLong limit i o j p
-HasStatus limit i o j p before now VolumeFault = IsVolumeFault limit i o j p before now
+EndsSo limit i o j p before now Done = IsDone limit i o j p before now
+EndsSo limit i o j p before now ReadFault = IsReadFault limit i o j p
+EndsSo limit i o j p before now WriteFault = IsWriteFault limit i o j p
+EndsSo limit i o j p before now NoMemory = IsNoMemory limit i o j p
+EndsSo limit i o j p before now TooLong = IsTooLong limit i o j p
+EndsSo limit i o j p before now VolumeFault = IsVolumeFault limit i o j p before now
 
--- the number of a status
-abbrev pub code_of : Status → ℕ
-code_of Done = 0
-code_of ReadFault = 3
-code_of WriteFault = 4
-code_of NoMemory = 6
-code_of TooLong = 11
-code_of VolumeFault = 12
+-- the status of each ending, of a run in which so many bytes may be read
+abbrev pub status_by : ℕ → OneEnd → Status
+status_by limit Done = status.Done
+status_by limit ReadFault = status.ReadFault
+status_by limit WriteFault = status.WriteFault
+status_by limit NoMemory = status.NoMemory
+status_by limit TooLong = status.TooLong limit
+status_by limit VolumeFault = status.VolumeFault
 
--- the number that goes with a status
-abbrev pub number_of : ℕ → Status → ℕ
-number_of limit TooLong = limit
-number_of limit _ = 0
+-- its code
+abbrev pub code_by : ℕ → OneEnd → ℕ
+code_by limit how = code_of (status_by limit how)

@@ -8,7 +8,7 @@ ghost use Rattle.one_run.specs.Opening.{LeavesUnopened, terms_of_run};
 ghost use Rattle.one_run.specs.Running.{one_meaning, StandsIn};
 ghost use Rattle.cmd_one.specs.Ran.{RunsOne};
 
-use crate::status::{Faults, Status};
+use crate::ending::{Faults, OneEnd};
 use ev_base::{Sink, Source};
 use log_handler::ServerNote;
 use log_handler::laws::courses_account;
@@ -21,7 +21,7 @@ use std::alloc::Global;
 #[derive(Drop)]
 pub struct Ran<S, K, V> {
     /// How it ended.
-    pub status: Status,
+    pub end: OneEnd,
     /// The entries of the reactor's journal that were not handed over to the volumes, from number
     /// `first` on.
     pub journal: Journal<ServerNote>,
@@ -60,12 +60,12 @@ fn give_up<S: Source, K: Sink, V: Volumes<ServerNote>>(left: Unopened<S, K, V>) 
         → RunsOne S.facts K.facts V.facts (2 ^ 40) (S.facts input) (K.facts output)
         (V.facts left.volumes) result }
 {
-    let status = match left.broken {
-        true => Status::WriteFault,
-        false => Status::NoMemory,
+    let end = match left.broken {
+        true => OneEnd::WriteFault,
+        false => OneEnd::NoMemory,
     };
     Ran {
-        status,
+        end,
         journal: left.journal,
         first: 0,
         input: left.input,
@@ -101,7 +101,7 @@ fn serve<S: Source, K: Sink, V: Volumes<ServerNote>>(core: OneCore<S, K, V>) -> 
     };
     courses_account();
     Ran {
-        status: Status::least(faults, ending),
+        end: OneEnd::least(faults, ending),
         journal,
         first,
         input: end.into_input(),

@@ -3,7 +3,7 @@
 #![tactic(auto)]
 
 mod connection;
-mod status;
+mod ending;
 
 pub use connection::{Ran, one};
-pub use status::Status;
+pub use ending::OneEnd;

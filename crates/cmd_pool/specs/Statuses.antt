@@ -3,6 +3,9 @@ use Rattle.std.specs.Prelude.{◌≡◌, ℕ, List, [], ◌∷◌, ◌++◌, Non
 use Rattle.ev_base.specs.Sink.{SinkFacts}
 use Rattle.server_run.specs.log_handler.specs.declared.note.ServerNote.{ServerNote}
 use Rattle.server_run.specs.reactor_core.specs.Stands.{Meaning}
+use Rattle.exit_status.specs.Statuses.{code_of}
+use Rattle.exit_status.specs.declared.status.Status.{Status}
+use Rattle.exit_status.specs.declared.status.Status.TheVariants as status
 use Rattle.cmd_pool.specs.Leaving.{LeavesPool, ListensSo}
 use Rattle.cmd_pool.specs.Starting.{asked_by, pool_terms}
 use Rattle.cmd_pool.specs.declared.ending.PoolEnd.{PoolEnd}
@@ -12,17 +15,17 @@ use Rattle.cmd_pool.specs.declared.top.Pooled.{Pooled}
 use Rattle.cmd_pool.specs.declared.words.PoolOptions.{PoolOptions}
 
 -- the status of each ending
-abbrev pub status_of : PoolEnd → ℕ
-status_of end.Done = 0
-status_of end.WriteFault = 4
-status_of end.NetFault = 5
-status_of end.NoMemory = 6
-status_of end.ListenFault = 7
+abbrev pub status_by : PoolEnd → Status
+status_by end.Done = status.Done
+status_by end.WriteFault = status.WriteFault
+status_by end.NetFault = status.NetFault
+status_by end.NoMemory = status.NoMemory
+status_by end.ListenFault = status.ListenFault
 
 -- what the top call answers for what a run left
 abbrev pub pooled_by : {M K : Type 0} → PoolServed M K → Pooled M K
 pooled_by served = record {
-  status = status_of served.end;
+  status = code_of (status_by served.end);
   net = served.net;
   journal = served.journal;
   output = served.output;

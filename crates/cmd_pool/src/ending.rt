@@ -2,12 +2,13 @@
 ghost use Rattle.std.specs.Prelude.{◌≡◌, [], Some};
 ghost use Rattle.grouped_lines.specs.laws_script_runs.specs.Connections.{lines_by_connection};
 ghost use Rattle.cmd_pool.specs.Leaving.{WritesKept, end_by, unwritten_end};
-ghost use Rattle.cmd_pool.specs.Statuses.{status_of};
+ghost use Rattle.cmd_pool.specs.Statuses.{status_by};
 
 use crate::line::Lines;
 use crate::made::MadeLines;
 use chosen_timers::ChosenTimers;
 use ev_base::Sink;
+use exit_status::Status;
 use grouped_lines::write_given_by_connection;
 use server_run::{DropVolumes, Ending, Entry, Journal, NoWatch, Parts, Served, ServerNote};
 use std::alloc::Global;
@@ -63,15 +64,15 @@ impl PoolEnd {
     }
 
     /// Its status.
-    pub(crate) fn status(self) -> u8
-        ensures { result ≡ status_of self }
+    pub(crate) fn status(self) -> Status
+        ensures { result ≡ status_by self }
     {
         match self {
-            PoolEnd::Done => 0,
-            PoolEnd::WriteFault => 4,
-            PoolEnd::NetFault => 5,
-            PoolEnd::NoMemory => 6,
-            PoolEnd::ListenFault => 7,
+            PoolEnd::Done => Status::Done,
+            PoolEnd::WriteFault => Status::WriteFault,
+            PoolEnd::NetFault => Status::NetFault,
+            PoolEnd::NoMemory => Status::NoMemory,
+            PoolEnd::ListenFault => Status::ListenFault,
         }
     }
 }

@@ -1,6 +1,7 @@
 //! The top call of the command.
 ghost use Rattle.std.specs.Prelude.{◌≡◌, ◌⊎◌, [], None, Some, map};
 ghost use Rattle.std.specs.String.{string_bytes};
+ghost use Rattle.exit_status.specs.Statuses.{code_of};
 ghost use Rattle.cmd_pool.specs.Statuses.{HasNoRun, RunsCommand, pooled_by};
 ghost use Rattle.cmd_pool.specs.Words.{pool_of};
 ghost use Rattle.cmd_pool.specs.declared.words.PoolOptions.{PoolOptions as OptionsOf};
@@ -9,16 +10,11 @@ use crate::ending::PoolServed;
 use crate::read_words;
 use crate::serving::{PoolCore, serve_host};
 use ev_base::{Host, Sink};
+use exit_status::Status;
 use server_run::{Journal, Means, ServerNote};
 use std::alloc::Global;
 use std::sync::Wait;
 use std::thread::Threads;
-
-/// The status of words that do not call the command.
-const USAGE: u8 = 1;
-
-/// The status of want of memory.
-const OUT_OF_MEMORY: u8 = 6;
 
 /// What the command leaves.
 #[derive(Drop)]
@@ -67,8 +63,8 @@ where
 {
     match read_words(alloc, words) {
         Ok(Some(options)) => answer(serve_host(rt, alloc, options, host, output)),
-        Ok(None) => idle(alloc, USAGE, output),
-        Err(_) => idle(alloc, OUT_OF_MEMORY, output),
+        Ok(None) => idle(alloc, Status::Usage, output),
+        Err(_) => idle(alloc, Status::NoMemory, output),
     }
 }
 
@@ -83,7 +79,7 @@ fn answer<M, K>(served: PoolServed<M, K>) -> Pooled<M, K>
         output,
     } = served;
     Pooled {
-        status: end.status(),
+        status: end.status().code(),
         net,
         journal,
         output,
@@ -91,14 +87,14 @@ fn answer<M, K>(served: PoolServed<M, K>) -> Pooled<M, K>
 }
 
 /// What is answered if no run was begun.
-fn idle<M, K>(alloc: Global, status: u8, output: K) -> Pooled<M, K>
-    ensures status { result.status ≡ status }
+fn idle<M, K>(alloc: Global, status: Status, output: K) -> Pooled<M, K>
+    ensures status { result.status ≡ code_of status }
     ensures net { result.net ≡ None }
     ensures journal { result.journal.entries ≡ [] }
     ensures output { result.output ≡ output }
 {
     Pooled {
-        status,
+        status: status.code(),
         net: None,
         journal: Journal::new(alloc),
         output,

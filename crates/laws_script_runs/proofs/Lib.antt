@@ -6,6 +6,7 @@ pub mod Glue
 pub mod Handles
 pub mod Settling
 pub mod Notes
+pub mod OwnLines
 pub mod Turns
 pub mod Winding
 pub mod Taking

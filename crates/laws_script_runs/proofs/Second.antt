@@ -44,6 +44,7 @@ use Rattle.laws_script_runs.specs.Steps.{EachStep}
 use Rattle.laws_script_runs.specs.Laws.{RunsOver}
 use Rattle.laws_script_runs.proofs.Handles.{IsBegun, Offered, offered}
 use Rattle.laws_script_runs.proofs.Numbering.{IsNumbered}
+use Rattle.laws_script_runs.proofs.OwnLines as own
 use Rattle.laws_script_runs.proofs.Turns as turns
 use Rattle.laws_script_runs.proofs.Settling.{opened_later}
 use Rattle.laws_script_runs.proofs.Winding as winding
@@ -175,13 +176,13 @@ module _ {H E : Type 0} (means : Handling H E ServerNote) (t : Terms) (groups : 
   -- ---- each connection
 
   back_is : (c : ℕ) (past : List (Entry ServerNote))
-      → back c past ≡ turns.back_lines most steps None all legal begun left closed c past
+      → back c past ≡ own.back_lines c past
   unfolding back
   back_is c [] = refl
   back_is c (e ∷ past) = ap (λ (l : List ℕ). l ++ lines_in c e) (back_is c past)
 
   lines_back : (c : ℕ) → lines_of c journal
-      ≡ turns.back_lines most steps None all legal begun left closed c all
+      ≡ own.back_lines c all
   lines_back c = ap (lines_of c) (sym (reverse-reverse journal))
       ∙ ap (λ (p : List (Entry ServerNote)). lines_of c (reverse p)) all_is ∙ lines_reverse c all
       ∙ back_is c all
@@ -219,8 +220,7 @@ module _ {H E : Type 0} (means : Handling H E ServerNote) (t : Terms) (groups : 
   ended_so : (c : ℕ) (handle : Handle) (later before : List (Entry ServerNote)) (said : ServerNote)
       → all ≡ later ++ Closed handle said ∷ before → handle.0 ≡ suc c
       → was_opened run (suc c) ≡ true
-      → lines_of c journal ≡ turns.recorded most steps None all legal begun left closed c
-      (had all (suc c)) ++ note_lines said → EndsHere c
+      → lines_of c journal ≡ own.recorded c (had all (suc c)) ++ note_lines said → EndsHere c
   ended_so c handle later before said is mine o lines =
       let talks = turns.talks_at most steps None all legal begun left closed numbers c later handle
       said before is mine in
@@ -258,7 +258,7 @@ module _ {H E : Type 0} (means : Handling H E ServerNote) (t : Terms) (groups : 
         taken_in = not_refused before (suc c) through.now.kept through.word
             (no_refused_end _ through.now account.ended) through.closing;
         says = lines ∙ ap (λ (s : ServerNote).
-            turns.recorded most steps None all legal begun left closed c (had all (suc c))
+            own.recorded c (had all (suc c))
             ++ note_lines s) through.notes;
       }
     where
@@ -294,9 +294,9 @@ module _ {H E : Type 0} (means : Handling H E ServerNote) (t : Terms) (groups : 
       shut : was_closed all (suc c) ≡ true
       shut = closed (suc c) (opened_later wound (Ended ∷ run) (suc c) o)
 
-      by_lines : turns.Lines most steps None all legal begun left closed c all → EndsHere c
-      by_lines (turns.going open_ lines) = absurd (both_ways _ open_ shut)
-      by_lines (turns.ended_by later handle said before is mine h lines) =
+      by_lines : own.Lines c all → EndsHere c
+      by_lines (own.going open_ lines) = absurd (both_ways _ open_ shut)
+      by_lines (own.ended_by later handle said before is mine h lines) =
           ended_so c handle later before said is mine o (lines_back c ∙ lines)
 
   pub second_law : lines_by_connection journal ≡ grouped (steps_of groups)

@@ -45,11 +45,10 @@ use Rattle.log_handler.specs.declared.note.ServerNote.TheVariants as note
 use Rattle.log_handler.specs.Laws.{IsPieceOf}
 use Rattle.log_handler.proofs.Accounts.{accounts}
 use Rattle.laws_script_turns.specs.event_script.specs.Script.{ScriptStep}
-use Rattle.log_handler.specs.log_lines.specs.Texts.{record_lines, record_line, closing_line}
+use Rattle.log_handler.specs.log_lines.specs.Texts.{record_lines}
 use Rattle.log_handler.specs.Notes.{note_lines}
-use Rattle.log_handler.specs.Laws.{records_in, records_of_note}
+use Rattle.log_handler.specs.Laws.{records_of_note}
 use Rattle.reactor_model.specs.reactor_journal.proofs.Closing.{Gone, closed_gone}
-use Rattle.reactor_model.specs.reactor_journal.specs.Past.{closes}
 use Rattle.laws_script_runs.specs.Connections.{lines_in, SaysLast, LeavesOffered, ListensThrough}
 use Rattle.laws_script_runs.specs.Connections.{TalksThrough, IsLeft, AreLeft, accepted}
 use Rattle.std.specs.List.{list_any}
@@ -60,6 +59,9 @@ use Rattle.laws_script_runs.proofs.Handles.{origin_first, offered}
 use Rattle.laws_script_runs.proofs.Notes.{Listens, is_listening, course_listens, all_last}
 use Rattle.laws_script_runs.proofs.Notes.{number_next, of_none}
 use Rattle.laws_script_runs.proofs.Numbering.{IsNumbered, NumberedNote}
+use Rattle.laws_script_runs.proofs.OwnLines.{Lines, recorded, recorded_more, going}
+use Rattle.laws_script_runs.proofs.OwnLines.{ended_by, lines_same, piece_lines, own_lines}
+use Rattle.laws_script_runs.proofs.OwnLines.{finished_lines, own_closing}
 use Rattle.laws_script_runs.proofs.Offering.{RefusedOffers}
 use Rattle.laws_script_runs.proofs.Settling as settling
 use Rattle.laws_script_runs.proofs.Settling.{each_front, opened_later, origin_still, offered_note}
@@ -431,67 +433,10 @@ module _ (most : ℕ) (steps : List ScriptStep) (idle : Option ℕ) (all : List 
 
   -- ---- the lines of a connection
 
-  abbrev pub back_lines : ℕ → List (Entry ServerNote) → List ℕ
-  back_lines c [] = []
-  back_lines c (e ∷ past) = back_lines c past ++ lines_in c e
-
-  abbrev pub recorded : ℕ → List (Item ServerNote) → List ℕ
-  recorded c items = record_lines c (flat_map records_in items)
-
-  recorded_more : (c : ℕ) (items : List (Item ServerNote)) (item : Item ServerNote)
-      → recorded c (items ++ item ∷ []) ≡ recorded c items ++ record_lines c (records_in item)
-  recorded_more c items item =
-      ap (record_lines c) (flat_map-append records_in items (item ∷ [])
-      ∙ ap (λ (r : List _). flat_map records_in items ++ r) (append-nil (records_in item)))
-      ∙ flat_map-append (record_line c) (flat_map records_in items) (records_in item)
-
   pub left_front : (later past : List (Entry ServerNote)) → AreLeft steps idle (later ++ past)
       → AreLeft steps idle past
   left_front [] past h = h
   left_front (e ∷ later) past h = left_front later past h.1
-
-  -- how the lines stand: those of the turns so far, and once the connection was closed that of its
-  -- closing
-  pub data Lines (c : ℕ) (past : List (Entry ServerNote)) : Type 0 where
-    going : was_closed past (suc c) ≡ false → back_lines c past ≡ recorded c (had past (suc c))
-        → Lines c past
-    ended_by : (later : List (Entry ServerNote)) (handle : Handle) (said : ServerNote)
-        (before : List (Entry ServerNote)) → past ≡ later ++ Closed handle said ∷ before
-        → handle.0 ≡ suc c → was_closed past (suc c) ≡ true
-        → back_lines c past ≡ recorded c (had past (suc c)) ++ note_lines said → Lines c past
-
-  -- an entry that neither closes the connection nor is of it changes nothing
-  lines_same : (c : ℕ) (e : Entry ServerNote) (past : List (Entry ServerNote))
-      → closes (suc c) e ≡ false → items_made past (suc c) e ≡ [] → lines_in c e ≡ [] → Lines c past
-      → Lines c (e ∷ past)
-  lines_same c e past stays_ none quiet (going open_ is) =
-      going (ap (λ (b : Bool). b || was_closed past (suc c)) stays_ ∙ open_)
-      (ap (λ (l : List ℕ). back_lines c past ++ l) quiet ∙ append-nil (back_lines c past) ∙ is
-      ∙ sym (ap (λ (i : List (Item ServerNote)). recorded c (had past (suc c) ++ i)) none
-      ∙ ap (recorded c) (append-nil (had past (suc c)))))
-  lines_same c e past stays_ none quiet (ended_by later handle said before is mine shut lines) =
-      ended_by (e ∷ later) handle said before (ap (λ (p : List (Entry ServerNote)). e ∷ p) is) mine
-      (ap (λ (b : Bool). b || was_closed past (suc c)) stays_ ∙ shut)
-      (ap (λ (l : List ℕ). back_lines c past ++ l) quiet ∙ append-nil (back_lines c past) ∙ lines
-      ∙ ap (λ (l : List ℕ). l ++ note_lines said)
-      (sym (ap (λ (i : List (Item ServerNote)). recorded c (had past (suc c) ++ i)) none
-      ∙ ap (recorded c) (append-nil (had past (suc c))))))
-
-  piece_lines : (c k : ℕ) (event : ℕ) (answer : Answer) (said : ServerNote) (took : ℕ)
-      (records : List _) → said ≡ note.Piece k took records → (k == c) ≡ false
-      → lines_in c (Returned event answer said) ≡ []
-  piece_lines c k event answer said took records is other =
-      ap (λ (s : ServerNote). lines_in c (Returned event answer s)) is
-      ∙ ap (λ (b : Bool). cond b (record_lines k records) []) other
-
-  own_lines : (c k : ℕ) (event : ℕ) (answer : Answer) (said : ServerNote) (took : ℕ)
-      (records : List _) → said ≡ note.Piece k took records → k ≡ c
-      → lines_in c (Returned event answer said) ≡ record_lines c (records_of_note said)
-  own_lines c k event answer said took records is same =
-      ap (λ (s : ServerNote). lines_in c (Returned event answer s)) is
-      ∙ ap (λ (b : Bool). cond b (record_lines k records) []) (eq-eqb k c same)
-      ∙ ap (λ (n : ℕ). record_lines n records) same
-      ∙ sym (ap (λ (s : ServerNote). record_lines c (records_of_note s)) is)
 
   -- each connection has the number of its handle
   abbrev pub AreNumbered : Type 0
@@ -637,19 +582,6 @@ module _ (most : ℕ) (steps : List ScriptStep) (idle : Option ℕ) (all : List 
             through.notes ∙ ap (λ (n : ℕ). note.Finished n through.word)
                 (numbers d (subst (λ (x : ℕ). was_opened all x ≡ true) e now_all)),
           )
-
-  finished_lines : (c d : ℕ) (handle : Handle) (said : ServerNote) (word : _)
-      → said ≡ note.Finished d word → (d == c) ≡ false → lines_in c (Closed handle said) ≡ []
-  finished_lines c d handle said word is other =
-      ap (λ (s : ServerNote). lines_in c (Closed handle s)) is
-      ∙ ap (λ (b : Bool). cond b (closing_line d word) []) other
-
-  own_closing : (c : ℕ) (handle : Handle) (said : ServerNote) (word : _)
-      → said ≡ note.Finished c word → lines_in c (Closed handle said) ≡ note_lines said
-  own_closing c handle said word is =
-      ap (λ (s : ServerNote). lines_in c (Closed handle s)) is
-      ∙ ap (λ (b : Bool). cond b (closing_line c word) []) (eq-eqb c c refl)
-      ∙ sym (ap note_lines is)
 
   lines_closed : (numbers : AreNumbered) (c : ℕ) (later past : List (Entry ServerNote))
       (handle : Handle) (said : ServerNote) → all ≡ later ++ Closed handle said ∷ past

@@ -13,8 +13,9 @@ use Rattle.cmd_line.specs.declared.command.Command.{Command}
 use Rattle.cmd_line.specs.declared.command.Command.TheVariants.{One, Replay, Serve, Display, Audit}
 use Rattle.cmd_line.specs.declared.command.Command.TheVariants.{Generate}
 use Rattle.cmd_line.specs.declared.options.Options.{Options}
+use Rattle.exit_status.specs.Statuses.{code_of, number_of}
 use Rattle.cmd_one.specs.Ran.{RunsOne}
-use Rattle.cmd_one.specs.Statuses.{code_of, number_of}
+use Rattle.cmd_one.specs.Statuses.{status_by}
 use Rattle.cmd_one.specs.declared.connection.Ran.{Ran}
 use Rattle.cmd_display.specs.declared.showing.DisplayEnd.{DisplayEnd}
 use Rattle.cmd_display.specs.Displays.{Displays}
@@ -62,14 +63,14 @@ module _ {S K V M : Type 0} (source : S → SourceFacts) (sink : K → SinkFacts
     pub ran : Ran S K V
     pub runs : RunsOne source sink facts (2 ^ 40) (source input) (sink output) (facts volumes) ran
     pub is : served ≡ record {
-      status = code_of ran.status;
+      status = code_of (status_by (2 ^ 40) ran.end);
       journal = ran.journal;
       first = ran.first;
       input = ran.input;
       output = ran.output;
       net = None;
       volumes = ran.volumes;
-      at = number_of (2 ^ 40) ran.status;
+      at = number_of (status_by (2 ^ 40) ran.end);
     }
 
   -- The records of the input were displayed, and it ended so.

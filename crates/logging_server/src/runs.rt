@@ -29,13 +29,14 @@ pub(crate) fn run_one<M, S: Source, K: Sink, V: Volumes<ServerNote>>(
     ensures { HasRun S.facts K.facts V.facts input output volumes result }
 {
     let Ran {
-        status,
+        end,
         journal,
         first,
         input,
         output,
         volumes,
     } = one(alloc, input, output, volumes);
+    let status = end.status();
     Served {
         status: status.code(),
         journal,

@@ -1,7 +1,7 @@
 use Rattle.std.proofs.Common.{inl, subst}
 use Rattle.reactor_core.specs.Ends.{WhereTold}
 use Rattle.connector_run.specs.Waits.{AskedUntil}
-use Rattle.cmd_forward.specs.declared.status.Status.TheVariants as status
+use Rattle.cmd_forward.specs.declared.outcome.Outcome.TheVariants as outcome
 use Rattle.cmd_forward.proofs.Answering.{answers, no_net, same_net}
 use Rattle.cmd_forward.proofs.command.dial.Goals as goal
 
@@ -13,7 +13,7 @@ returns-in-Ok-clause-answers g c words called =
 
 pub returns-in-Err-Failed-clause-answers : goal.returns-in-Err-Failed-clause-answers
 returns-in-Err-Failed-clause-answers g c words called = record {
-  status = status.PeerFault;
+  outcome = outcome.PeerFault;
   code = c.unbegun.ensures.numbers.code;
   number = c.unbegun.ensures.numbers.number;
   means = inl (record {
@@ -26,7 +26,7 @@ returns-in-Err-Failed-clause-answers g c words called = record {
 
 pub returns-in-Err-NoMemory-clause-answers : goal.returns-in-Err-NoMemory-clause-answers
 returns-in-Err-NoMemory-clause-answers g c words called = record {
-  status = status.NoMemory;
+  outcome = outcome.NoMemory;
   code = c.unbegun-in-Err-NoMemory.ensures.numbers.code;
   number = c.unbegun-in-Err-NoMemory.ensures.numbers.number;
   means = inl (

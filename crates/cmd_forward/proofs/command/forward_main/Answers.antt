@@ -3,7 +3,7 @@ use Rattle.reactor_core.specs.Ends.{WhereTold}
 use Rattle.connector_run.specs.Waits.{AskedUntil}
 use Rattle.cmd_forward.specs.declared.words.ForwardOptions.{ForwardOptions}
 use Rattle.cmd_forward.proofs.Answering.{no_net, same_net}
-use Rattle.cmd_forward.specs.declared.status.Status.TheVariants as status
+use Rattle.cmd_forward.specs.declared.outcome.Outcome.TheVariants as outcome
 use Rattle.cmd_forward.proofs.command.forward_main.Goals as goal
 
 pub returns-in-Ok-Some-clause-dials : goal.returns-in-Ok-Some-clause-dials
@@ -15,7 +15,7 @@ returns-in-Ok-Some-clause-dials g c = inr (
 
 pub returns-in-Ok-None-clause-answers : goal.returns-in-Ok-None-clause-answers
 returns-in-Ok-None-clause-answers g c = record {
-  status = status.Usage;
+  outcome = outcome.Usage;
   code = c.unbegun.ensures.numbers.code;
   number = c.unbegun.ensures.numbers.number;
   means = record {
@@ -36,7 +36,7 @@ returns-in-Ok-None-clause-dials g c = inl (
 
 pub returns-in-Err-clause-answers : goal.returns-in-Err-clause-answers
 returns-in-Err-clause-answers g c = record {
-  status = status.NoMemory;
+  outcome = outcome.NoMemory;
   code = c.unbegun-in-Err.ensures.numbers.code;
   number = c.unbegun-in-Err.ensures.numbers.number;
   means = inl (refl, c.unbegun-in-Err.ensures.unbegun);

@@ -21,19 +21,19 @@ returns-clause-ends g c i leaves wait =
     let facts = g.M.Net.facts in
     let left = c.args.left in
     let ends : RunEnds tells most_input wait i (source (input_of (input_end left.end)))
-    (facts (net_within left.net)) c.match-why.status =
+    (facts (net_within left.net)) c.match-why.outcome =
     elim c.match-why.branch [
-      | in-NotAttached w ↦ subst (λ status. RunEnds tells most_input wait i
-          (source (input_of (input_end left.end))) (facts (net_within left.net)) status)
-          (sym w.status-is) (ends_unopened facts g.M.Net.keeps tells g.E.PeerEnd.keeps source i
+      | in-NotAttached w ↦ subst (λ outcome. RunEnds tells most_input wait i
+          (source (input_of (input_end left.end))) (facts (net_within left.net)) outcome)
+          (sym w.outcome-is) (ends_unopened facts g.M.Net.keeps tells g.E.PeerEnd.keeps source i
           wait left leaves _ w.in-NotAttached.is)
-      | in-NoMemory w ↦ subst (λ status. RunEnds tells most_input wait i
-          (source (input_of (input_end left.end))) (facts (net_within left.net)) status)
-          (sym w.status-is) (ends_unopened facts g.M.Net.keeps tells g.E.PeerEnd.keeps source i
+      | in-NoMemory w ↦ subst (λ outcome. RunEnds tells most_input wait i
+          (source (input_of (input_end left.end))) (facts (net_within left.net)) outcome)
+          (sym w.outcome-is) (ends_unopened facts g.M.Net.keeps tells g.E.PeerEnd.keeps source i
           wait left leaves _ w.in-NoMemory.is)
     ] in
     subst (λ net. RunEnds tells most_input wait i (source c.into_input.result) (facts net)
-    c.match-why.status) (sym c.close.ensures)
+    c.match-why.outcome) (sym c.close.ensures)
     (subst (λ input. RunEnds tells most_input wait i (source input)
-    (facts (net_within left.net)) c.match-why.status)
+    (facts (net_within left.net)) c.match-why.outcome)
     (sym (c.into_input.ensures ∙ ap (λ parts. input_of parts.1) c.into_parts-end.ensures)) ends)

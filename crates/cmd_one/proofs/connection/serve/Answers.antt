@@ -4,7 +4,7 @@ use Rattle.one_run.proofs.Begins.{starts}
 use Rattle.one_run.proofs.Finishing.{ended_can}
 use Rattle.one_run.proofs.Leaves.{one_came_back}
 use Rattle.one_run.specs.Running.{VolumesSince}
-use Rattle.cmd_one.specs.Ran.{status_of}
+use Rattle.cmd_one.specs.Ran.{end_by}
 use Rattle.cmd_one.proofs.Serving.{left_of, runs}
 use Rattle.cmd_one.proofs.connection.serve.Goals as goal
 
@@ -55,6 +55,6 @@ returns g c i o stands =
     c.into_retired-end.ensures
     c.broken.result c.is_too_long.result c.broken.ensures c.is_too_long.ensures.met
     c.is_too_long.ensures.not_met c.least.result c.into_input.result c.into_output.result
-    (c.least.ensures ∙ ap (λ failed. status_of failed c.broken.result c.is_too_long.result
+    (c.least.ensures ∙ ap (λ failed. end_by failed c.broken.result c.is_too_long.result
     c.run-ending.result.lost c.run-ending.result.halt) c.has_failed.ensures)
     c.into_input.ensures c.into_output.ensures

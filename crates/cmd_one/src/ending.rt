@@ -1,8 +1,9 @@
 //! How a run ends.
 ghost use Rattle.std.specs.Prelude.{◌≡◌, ◌^◌};
-ghost use Rattle.cmd_one.specs.Statuses.{code_of, number_of};
-ghost use Rattle.cmd_one.specs.Ran.{status_of};
+ghost use Rattle.cmd_one.specs.Statuses.{status_by};
+ghost use Rattle.cmd_one.specs.Ran.{end_by};
 
+use exit_status::Status;
 use one_run::{Ending, Halt};
 
 /// How many bytes are read at most: 2^40.
@@ -10,7 +11,7 @@ const MOST_INPUT: u64 = 1 << 40;
 
 /// How a run ended. Of several faults the first in this order is told.
 #[derive(Clone, Copy, PartialEq, Eq, Debug)]
-pub enum Status {
+pub enum OneEnd {
     /// The connection closed itself where reading stops, and all was written.
     Done,
     /// A read failed, for which the connection was closed.
@@ -36,47 +37,37 @@ pub(crate) struct Faults {
     pub too_long: bool,
 }
 
-impl Status {
-    /// The number that the program ends with.
-    pub fn code(self) -> u8
-        ensures { result ≡ code_of self }
+impl OneEnd {
+    /// Its status.
+    pub fn status(self) -> Status
+        ensures { result ≡ status_by (2 ^ 40) self }
     {
         match self {
-            Status::Done => 0,
-            Status::ReadFault => 3,
-            Status::WriteFault => 4,
-            Status::NoMemory => 6,
-            Status::TooLong => 11,
-            Status::VolumeFault => 12,
-        }
-    }
-
-    /// The number that goes with it: how many bytes were read, if there were too many, else 0.
-    pub fn number(self) -> u64
-        ensures { result ≡ number_of (2 ^ 40) self }
-    {
-        match self {
-            Status::TooLong => MOST_INPUT,
-            _ => 0,
+            OneEnd::Done => Status::Done,
+            OneEnd::ReadFault => Status::ReadFault,
+            OneEnd::WriteFault => Status::WriteFault,
+            OneEnd::NoMemory => Status::NoMemory,
+            OneEnd::TooLong => Status::TooLong { limit: MOST_INPUT },
+            OneEnd::VolumeFault => Status::VolumeFault,
         }
     }
 
     /// The least of those of a run's faults.
-    pub(crate) fn least(faults: Faults, ending: Ending) -> Status
-        ensures { result ≡ status_of faults.failed faults.broken faults.too_long ending.lost
+    pub(crate) fn least(faults: Faults, ending: Ending) -> OneEnd
+        ensures { result ≡ end_by faults.failed faults.broken faults.too_long ending.lost
             ending.halt }
     {
         if faults.failed {
-            return Status::ReadFault;
+            return OneEnd::ReadFault;
         }
         if faults.broken {
-            return Status::WriteFault;
+            return OneEnd::WriteFault;
         }
         match (ending.lost, ending.halt) {
-            (true, _) | (false, Some(Halt::NoMemory)) => Status::NoMemory,
-            _ if faults.too_long => Status::TooLong,
-            (false, None) => Status::Done,
-            _ => Status::VolumeFault,
+            (true, _) | (false, Some(Halt::NoMemory)) => OneEnd::NoMemory,
+            _ if faults.too_long => OneEnd::TooLong,
+            (false, None) => OneEnd::Done,
+            _ => OneEnd::VolumeFault,
         }
     }
 }

@@ -1,10 +1,11 @@
 //! How a run ends.
 ghost use Rattle.std.specs.Prelude.{◌≡◌, ◌^◌, IsSome};
-ghost use Rattle.cmd_forward.specs.Statuses.{code_of, number_of};
+ghost use Rattle.cmd_forward.specs.Statuses.{status_by};
 ghost use Rattle.cmd_forward.specs.Endings.{Closes, EndsWith, HasEnded, MayEnd, cause_of};
-ghost use Rattle.cmd_forward.specs.Endings.{status_closed, status_ended};
+ghost use Rattle.cmd_forward.specs.Endings.{outcome_closed, outcome_ended};
 
 use connector_run::Ended;
+use exit_status::Status;
 use forwarder::{ConnectNote, ForwardEnding, ForwardNote};
 use reactor_model::Entry;
 
@@ -13,7 +14,7 @@ const MOST_INPUT: u64 = 1 << 40;
 
 /// How a run of `forward` ended. Of several faults the first in this order is told.
 #[derive(Clone, Copy, PartialEq, Eq, Debug)]
-pub enum Status {
+pub enum Outcome {
     /// The input was read to its end, and all was sent.
     Done {
         /// How many records were sent.
@@ -49,35 +50,23 @@ pub enum Status {
     Unfinished,
 }
 
-impl Status {
-    /// The number that the program ends with.
-    pub fn code(self) -> u8
-        ensures { result ≡ code_of self }
+impl Outcome {
+    /// Its status. A run that stopped at a byte too many tells how many may be read.
+    pub fn status(self) -> Status
+        ensures { result ≡ status_by (2 ^ 40) self }
     {
         match self {
-            Status::Done { .. } => 0,
-            Status::Usage => 1,
-            Status::ReadFault => 3,
-            Status::WriteFault => 4,
-            Status::NetFault => 5,
-            Status::NoMemory => 6,
-            Status::BadRecord { .. } => 8,
-            Status::TooLong => 11,
-            Status::PeerFault => 13,
-            Status::ConnectTimeout { .. } => 14,
-            Status::Unfinished => 15,
-        }
-    }
-
-    /// The number that goes with it: the offset of a bad record, how many bytes were read if
-    /// there were too many, the moment at which a connection timed out, else 0.
-    pub fn number(self) -> u64
-        ensures { result ≡ number_of (2 ^ 40) self }
-    {
-        match self {
-            Status::BadRecord { at } | Status::ConnectTimeout { at } => at,
-            Status::TooLong => MOST_INPUT,
-            _ => 0,
+            Outcome::Done { .. } => Status::Done,
+            Outcome::Usage => Status::Usage,
+            Outcome::ReadFault => Status::ReadFault,
+            Outcome::WriteFault => Status::WriteFault,
+            Outcome::NetFault => Status::NetFault,
+            Outcome::NoMemory => Status::NoMemory,
+            Outcome::BadRecord { at } => Status::BadRecord { at },
+            Outcome::TooLong => Status::TooLong { limit: MOST_INPUT },
+            Outcome::PeerFault => Status::PeerFault,
+            Outcome::ConnectTimeout { at } => Status::TimedOut { at },
+            Outcome::Unfinished => Status::Unfinished,
         }
     }
 
@@ -87,23 +76,23 @@ impl Status {
         ended: Ended,
         entries: &[Entry<ConnectNote<ForwardNote>>],
         failed: bool,
-    ) -> Status
+    ) -> Outcome
         requires { MayEnd ended entries.now }
         ensures { HasEnded ended entries.now failed result }
     {
         match ended {
             Ended::Closed => closed(entries, failed),
-            Ended::Over => Status::Unfinished,
-            Ended::NetFault => Status::NetFault,
-            Ended::NoMemory => Status::NoMemory,
+            Ended::Over => Outcome::Unfinished,
+            Ended::NetFault => Outcome::NetFault,
+            Ended::NoMemory => Outcome::NoMemory,
         }
     }
 }
 
 // The status of a run whose connector closed itself, which the last turn of its journal notes.
-fn closed(entries: &[Entry<ConnectNote<ForwardNote>>], failed: bool) -> Status
+fn closed(entries: &[Entry<ConnectNote<ForwardNote>>], failed: bool) -> Outcome
     requires { EndsWith entries.now }
-    ensures { (ends : EndsWith entries.now) → result ≡ status_closed ends.note failed }
+    ensures { (ends : EndsWith entries.now) → result ≡ outcome_closed ends.note failed }
 {
     match entries {
         [.., Entry::Returned { note, .. }, _, _] => by_note(note, failed),
@@ -112,13 +101,13 @@ fn closed(entries: &[Entry<ConnectNote<ForwardNote>>], failed: bool) -> Status
 }
 
 // The status by the note with which the connector closed itself.
-fn by_note(note: &ConnectNote<ForwardNote>, failed: bool) -> Status
+fn by_note(note: &ConnectNote<ForwardNote>, failed: bool) -> Outcome
     requires { Closes note.now }
-    ensures { result ≡ status_closed note.now failed }
+    ensures { result ≡ outcome_closed note.now failed }
 {
     match note {
-        ConnectNote::Failed => Status::PeerFault,
-        ConnectNote::TimedOut { now } => Status::ConnectTimeout { at: *now },
+        ConnectNote::Failed => Outcome::PeerFault,
+        ConnectNote::TimedOut { now } => Outcome::ConnectTimeout { at: *now },
         ConnectNote::Live(said) => by_service(*said, failed),
         ConnectNote::Waiting | ConnectNote::Connected | ConnectNote::Shut => {
             unreachable!("it did not close itself so")
@@ -127,23 +116,23 @@ fn by_note(note: &ConnectNote<ForwardNote>, failed: bool) -> Status
 }
 
 // The status by what the service noted as it ended.
-fn by_service(said: ForwardNote, failed: bool) -> Status
+fn by_service(said: ForwardNote, failed: bool) -> Outcome
     requires { IsSome said.ended }
-    ensures { result ≡ status_ended said.ended said failed }
+    ensures { result ≡ outcome_ended said.ended said failed }
 {
     let Some(how) = said.ended else {
         unreachable!("it ended")
     };
     match cause_of(said.stop, how) {
-        ForwardEnding::NoMemory => Status::NoMemory,
-        ForwardEnding::PeerFailed => Status::PeerFault,
-        _ if failed => Status::ReadFault,
-        ForwardEnding::End => Status::Done {
+        ForwardEnding::NoMemory => Outcome::NoMemory,
+        ForwardEnding::PeerFailed => Outcome::PeerFault,
+        _ if failed => Outcome::ReadFault,
+        ForwardEnding::End => Outcome::Done {
             records: said.records,
             bytes: said.bytes,
         },
-        ForwardEnding::BadRecord { at } => Status::BadRecord { at },
-        ForwardEnding::ReadFailed => Status::TooLong,
+        ForwardEnding::BadRecord { at } => Outcome::BadRecord { at },
+        ForwardEnding::ReadFailed => Outcome::TooLong,
     }
 }
 
