@@ -1,3 +1,3 @@
 pub mod Lines
 pub mod Watch
-pub mod Faults
+pub use Rattle.line_sink

@@ -6,4 +6,4 @@ mod line;
 mod watch;
 
 pub use line::put_connection_line;
-pub use watch::ConnectionLines;
+pub use watch::{AioLines, ConnectionLines};

@@ -1,4 +1,3 @@
-pub mod Lines
 pub mod Courses
 pub mod Serving
 pub mod Accounts

@@ -3,9 +3,9 @@ pub mod Notes
 pub mod LineSink
 pub mod Connection
 pub mod Connections
-pub mod Faults
 pub mod Steps
 pub mod Laws
+pub use Rattle.line_sink
 pub use Rattle.log_lines
 pub use Rattle.sink_buffer
 pub use Rattle.cdr_record

@@ -1,42 +1,36 @@
--- What a sink of lines stands for.
-use Rattle.std.specs.Prelude.{◌≡◌, ◌≤◌, ◌^◌, ◌-◌, ℕ, min, Bool, true, false, List, length, take}
-use Rattle.std.specs.Prelude.{Some}
+-- What the sink of the server's lines stands for.
+use Rattle.std.specs.Prelude.{ℕ, Bool, List}
 use Rattle.ev_base.specs.Terms.{Terms}
 use Rattle.ev_base.specs.Sink.{SinkFacts}
-use Rattle.sink_buffer.specs.Written.{IsPrefixOf}
-use Rattle.sink_buffer.specs.Direct.{HasWritten, output_of, is_broken as output_broke}
 use Rattle.reactor_model.specs.reactor_journal.specs.declared.entry.Entry.{Entry}
+use Rattle.line_sink.specs.declared.sink.LineSink.{LineSink as SinkOf}
+use Rattle.line_sink.specs.LineSink as any
 use Rattle.log_handler.specs.declared.note.ServerNote.{ServerNote}
-use Rattle.log_handler.specs.declared.line_sink.LineSink.{LineSink}
-use Rattle.log_handler.specs.Notes.{journal_lines}
+use Rattle.log_handler.specs.declared.lines.ServerLines.{ServerLines}
+use Rattle.log_handler.specs.Notes.{entry_lines}
+
+-- the sink that writes the lines of the server's notes
+abbrev pub LineSink : Type 0 → Type 0
+LineSink K = SinkOf K ServerLines
 
 -- the sink below it
 abbrev pub sink_of : {K : Type 0} → LineSink K → K
-sink_of sink = output_of sink.output
+sink_of sink = any.sink_of sink
 
 -- whether a write failed
 abbrev pub is_broken : {K : Type 0} → LineSink K → Bool
-is_broken sink = output_broke sink.output
+is_broken sink = any.is_broken sink
 
 -- how many entries it has seen, from the first on, without a failed write
 abbrev pub whole_of : {K : Type 0} → LineSink K → ℕ
-whole_of sink = sink.whole
+whole_of sink = any.whole_of sink
 
--- It has seen these entries: since its sink told what it tells at the start, the sink took their
--- lines; or, once a write failed, it took a front of them, in which are all lines of the entries
--- that it saw before that. The text and the count of faults at the start are those of the terms,
--- if these have them.
-pub record PutsLines {K : Type 0} (facts : K → SinkFacts) (t : Terms) (sink : LineSink K)
-    (h : List (Entry ServerNote)) : Type 0 where
-  pub start : SinkFacts
-  pub opening : (text : List ℕ) → t.opening ≡ Some text → start.text ≡ Some text
-  pub faults : (n : ℕ) → t.output_faults ≡ Some n → start.faults ≡ n
-  pub put : HasWritten facts start sink.output (journal_lines h)
-  pub all_whole : is_broken sink ≡ false → whole_of sink ≡ length h
-  pub seen : whole_of sink ≤ length h
-  pub kept : (broken : is_broken sink ≡ true)
-      → IsPrefixOf (journal_lines (take (whole_of sink) h)) (put.front broken).front
+-- it has seen these entries, and its sink took the lines of their notes, or a front of them once a
+-- write failed
+abbrev pub PutsLines : {K : Type 0} → (K → SinkFacts) → Terms → LineSink K → List (Entry ServerNote)
+    → Type 0
+PutsLines facts t sink h = any.PutsLines entry_lines facts t sink h
 
 -- how often its sink failed, up to the end at which counts stand still
 abbrev pub line_sink_faults : {K : Type 0} → (K → SinkFacts) → LineSink K → ℕ
-line_sink_faults facts sink = min ((facts (sink_of sink)).faults) (2 ^ 64 - 1)
+line_sink_faults facts sink = any.line_sink_faults facts sink

@@ -4,13 +4,13 @@
 
 mod connection;
 pub mod laws;
-mod line_sink;
+mod lines;
 mod logged;
 mod note;
 mod peer;
 
 pub use connection::LogConnection;
-pub use line_sink::{LineSink, put_entry_lines};
+pub use lines::{LineSink, ServerLines, put_entry_lines};
 pub use log_lines::EndKind;
 pub use logged::LoggedRecords;
 pub use note::ServerNote;

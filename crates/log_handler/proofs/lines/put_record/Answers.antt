@@ -1,5 +1,5 @@
 use Rattle.std.proofs.Common.{[]}
-use Rattle.log_handler.proofs.line_sink.put_record.Goals as goal
+use Rattle.log_handler.proofs.lines.put_record.Goals as goal
 
 pub returns-in-Some : goal.returns-in-Some
 returns-in-Some g c = λ since text h.

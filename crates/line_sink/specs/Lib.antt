@@ -1,0 +1,2 @@
+pub mod LineSink
+pub mod Faults
