@@ -7,8 +7,7 @@ use Rattle.ev_base.specs.Terms.{Terms}
 use Rattle.sink_buffer.specs.Written.{TookAll}
 use Rattle.reactor_model.specs.reactor_journal.specs.declared.entry.Entry.{Entry}
 use Rattle.aio_lines.specs.Lines.{journal_lines}
-use Rattle.aio_lines.specs.Watch.{PutsLines, is_broken, sink_of}
-use Rattle.aio_lines.specs.declared.watch.ConnectionLines.{ConnectionLines}
+use Rattle.aio_lines.specs.Watch.{ConnectionLines, PutsLines, is_broken, sink_of}
 use Rattle.proactor.specs.declared.service.AioNote.{AioNote}
 use Rattle.cmd_aio.specs.Finishing.{TookLines}
 

@@ -26,10 +26,9 @@ use Rattle.reactor_model.specs.reactor_journal.specs.Follow.{Legal}
 use Rattle.reactor_model.specs.Volumes.{VolumesFacts}
 use Rattle.log_handler.specs.declared.note.ServerNote.{ServerNote}
 use Rattle.log_handler.specs.declared.note.ServerNote.TheVariants as note
-use Rattle.log_handler.specs.declared.line_sink.LineSink.{LineSink}
 use Rattle.log_handler.specs.Notes.{entry_lines, journal_lines}
 use Rattle.log_handler.specs.Connection.{end_of}
-use Rattle.log_handler.specs.LineSink.{PutsLines, is_broken, sink_of, whole_of}
+use Rattle.log_handler.specs.LineSink.{LineSink, PutsLines, is_broken, sink_of, whole_of}
 use Rattle.one_run.specs.one_net.specs.OneKeeps.{most_input}
 use Rattle.log_handler.specs.sink_buffer.specs.Written.{IsPrefixOf, TookAll, TookFront}
 use Rattle.one_run.specs.Phases.{first_entry, IsFinished, is_return}

@@ -14,8 +14,7 @@ use Rattle.reactor_core.specs.declared.reactor.Core.{Core}
 use Rattle.reactor_core.specs.declared.reactor.Parts.{Parts}
 use Rattle.log_handler.specs.declared.note.ServerNote.{ServerNote}
 use Rattle.log_handler.specs.declared.connection.LogConnection.{LogConnection}
-use Rattle.log_handler.specs.declared.line_sink.LineSink.{LineSink}
-use Rattle.log_handler.specs.LineSink.{is_broken, sink_of, whole_of}
+use Rattle.log_handler.specs.LineSink.{LineSink, is_broken, sink_of, whole_of}
 use Rattle.log_handler.specs.Connections.{ConnectionGone}
 use Rattle.log_handler.specs.Laws.{CoursesAccount}
 use Rattle.one_run.specs.one_net.specs.declared.one_end.OneEnd.{OneEnd}

@@ -9,7 +9,7 @@ use Rattle.server_run.specs.sink_buffer.specs.Written.{TakesAll, BreaksOff, Took
 use Rattle.server_run.specs.sink_buffer.specs.Gathers.{HoldsBack}
 use Rattle.server_run.specs.reactor_journal.specs.declared.entry.Entry.{Entry}
 use Rattle.server_run.specs.log_handler.specs.declared.note.ServerNote.{ServerNote}
-use Rattle.server_run.specs.log_handler.specs.declared.line_sink.LineSink.{LineSink}
+use Rattle.server_run.specs.log_handler.specs.LineSink.{LineSink}
 use Rattle.server_run.specs.log_handler.specs.LineSink as lines
 use Rattle.server_run.specs.log_handler.specs.Notes.{journal_lines}
 use Rattle.journal_text.specs.declared.journal_sink.JournalSink.{JournalSink}

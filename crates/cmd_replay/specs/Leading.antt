@@ -10,7 +10,7 @@ use Rattle.chosen_timers.specs.declared.ChosenTimers.{ChosenTimers}
 use Rattle.journal_text.specs.JournalSink as text
 use Rattle.journal_text.specs.declared.journal_sink.JournalSink.{JournalSink}
 use Rattle.server_run.specs.log_handler.specs.LineSink as lines
-use Rattle.server_run.specs.log_handler.specs.declared.line_sink.LineSink.{LineSink}
+use Rattle.server_run.specs.log_handler.specs.LineSink.{LineSink}
 use Rattle.server_run.specs.log_handler.specs.declared.note.ServerNote.{ServerNote}
 use Rattle.server_run.specs.reactor_core.specs.Stands.{Meaning, meaning}
 use Rattle.server_run.specs.reactor_state.specs.State.{HasPlaces, IsPlaced, Shows}

@@ -9,7 +9,7 @@ use Rattle.ev_base.specs.Terms.{Terms}
 use Rattle.server_run.specs.sink_buffer.specs.Written.{IsPrefixOf, TakesAll, BreaksOff, WritesAll}
 use Rattle.server_run.specs.sink_buffer.specs.Written.{TookAll, TookFront}
 use Rattle.server_run.specs.log_handler.specs.Notes.{journal_lines}
-use Rattle.server_run.specs.log_handler.specs.declared.line_sink.LineSink.{LineSink}
+use Rattle.server_run.specs.log_handler.specs.LineSink.{LineSink}
 use Rattle.server_run.specs.log_handler.specs.declared.note.ServerNote.{ServerNote}
 use Rattle.server_run.specs.reactor_journal.specs.declared.entry.Entry.{Entry}
 use Rattle.server_run.specs.reactor_model.specs.Handling.{Handling}

@@ -15,9 +15,8 @@ use Rattle.server_run.specs.reactor_model.specs.Volumes.{VolumesFacts}
 use Rattle.server_run.specs.reactor_core.specs.Calls.{AreCalls}
 use Rattle.server_run.specs.reactor_core.specs.Ends.{WhereTold}
 use Rattle.server_run.specs.reactor_core.specs.Stands.{HasTaken, Meaning, NetStands}
-use Rattle.server_run.specs.log_handler.specs.LineSink.{PutsLines, is_broken, sink_of}
+use Rattle.server_run.specs.log_handler.specs.LineSink.{LineSink, PutsLines, is_broken, sink_of}
 use Rattle.server_run.specs.log_handler.specs.Notes.{journal_lines}
-use Rattle.server_run.specs.log_handler.specs.declared.line_sink.LineSink.{LineSink}
 use Rattle.server_run.specs.log_handler.specs.declared.note.ServerNote.{ServerNote}
 use Rattle.cmd_line.specs.declared.options.Options.{Options}
 use Rattle.server_run.specs.reactor_desk.specs.Desks.{FillsVolume}

@@ -5,8 +5,7 @@ use Rattle.ev_base.specs.Terms.{Terms}
 use Rattle.server_run.specs.reactor_journal.specs.declared.entry.Entry.{Entry}
 use Rattle.server_run.specs.reactor_core.specs.Stands.{Meaning, meaning}
 use Rattle.server_run.specs.log_handler.specs.LineSink.{PutsLines, is_broken, line_sink_faults}
-use Rattle.server_run.specs.log_handler.specs.LineSink.{whole_of}
-use Rattle.server_run.specs.log_handler.specs.declared.line_sink.LineSink.{LineSink}
+use Rattle.server_run.specs.log_handler.specs.LineSink.{LineSink, whole_of}
 use Rattle.server_run.specs.log_handler.specs.declared.note.ServerNote.{ServerNote}
 use Rattle.server_run.specs.Served.{HasLed}
 use Rattle.server_run.specs.declared.asked.Asked.{Asked}

@@ -11,9 +11,8 @@ use Rattle.server_run.specs.reactor_journal.specs.declared.entry.Entry.{Entry}
 use Rattle.server_run.specs.reactor_journal.specs.declared.entry.Entry.TheVariants.{Ended}
 use Rattle.server_run.specs.reactor_core.specs.Ends.{WhereTold}
 use Rattle.server_run.specs.reactor_core.specs.Stands.{HasTaken, Meaning, NetStands}
-use Rattle.server_run.specs.log_handler.specs.LineSink.{is_broken, sink_of}
+use Rattle.server_run.specs.log_handler.specs.LineSink.{LineSink, is_broken, sink_of}
 use Rattle.server_run.specs.log_handler.specs.Notes.{journal_lines}
-use Rattle.server_run.specs.log_handler.specs.declared.line_sink.LineSink.{LineSink}
 use Rattle.server_run.specs.log_handler.specs.declared.note.ServerNote.{ServerNote}
 use Rattle.server_run.specs.reactor_desk.specs.Desks.{FillsVolume}
 use Rattle.server_run.specs.Journals.{IsRun}

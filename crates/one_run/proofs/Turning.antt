@@ -47,7 +47,7 @@ use Rattle.reactor_core.specs.declared.job.Done.{Done}
 use Rattle.reactor_core.specs.declared.acting.Settled.{Settled}
 use Rattle.log_handler.specs.declared.note.ServerNote.{ServerNote}
 use Rattle.log_handler.specs.declared.connection.LogConnection.{LogConnection}
-use Rattle.log_handler.specs.declared.line_sink.LineSink.{LineSink}
+use Rattle.log_handler.specs.LineSink.{LineSink}
 use Rattle.log_handler.specs.Connections.{connections}
 use Rattle.one_net.specs.declared.one_end.OneEnd.{OneEnd}
 use Rattle.one_net.specs.declared.one_net.OneNet.{OneNet}

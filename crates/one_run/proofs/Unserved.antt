@@ -15,8 +15,7 @@ use Rattle.reactor_core.specs.Removing.{Stops}
 use Rattle.reactor_core.specs.Stands.{Meaning, Stands}
 use Rattle.reactor_core.specs.declared.reactor.Core.{Core}
 use Rattle.log_handler.specs.declared.note.ServerNote.{ServerNote}
-use Rattle.log_handler.specs.declared.line_sink.LineSink.{LineSink}
-use Rattle.log_handler.specs.LineSink.{PutsLines, is_broken, sink_of}
+use Rattle.log_handler.specs.LineSink.{LineSink, PutsLines, is_broken, sink_of}
 use Rattle.one_run.specs.Opening.{CountsWrite}
 
 -- if nothing was put the text is what it was

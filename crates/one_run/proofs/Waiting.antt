@@ -32,7 +32,7 @@ use Rattle.reactor_core.specs.declared.reactor.Core.{Core}
 use Rattle.reactor_core.specs.declared.polling.Polled.{Polled as Found}
 use Rattle.log_handler.specs.declared.note.ServerNote.{ServerNote}
 use Rattle.log_handler.specs.declared.connection.LogConnection.{LogConnection}
-use Rattle.log_handler.specs.declared.line_sink.LineSink.{LineSink}
+use Rattle.log_handler.specs.LineSink.{LineSink}
 use Rattle.one_net.specs.declared.one_end.OneEnd.{OneEnd}
 use Rattle.one_net.specs.declared.one_net.OneNet.{OneNet}
 use Rattle.one_net.specs.OneNet.{one_net_facts, last_answer, masks_of}

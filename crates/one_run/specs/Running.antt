@@ -23,9 +23,8 @@ use Rattle.log_handler.specs.log_lines.specs.declared.end_kind.EndKind.TheVarian
 use Rattle.log_handler.specs.declared.note.ServerNote.{ServerNote}
 use Rattle.log_handler.specs.declared.note.ServerNote.TheVariants as note
 use Rattle.log_handler.specs.declared.connection.LogConnection.{LogConnection}
-use Rattle.log_handler.specs.declared.line_sink.LineSink.{LineSink}
 use Rattle.log_handler.specs.Connections.{connections}
-use Rattle.log_handler.specs.LineSink.{PutsLines, line_sink_faults, is_broken, whole_of}
+use Rattle.log_handler.specs.LineSink.{LineSink, PutsLines, line_sink_faults, is_broken, whole_of}
 use Rattle.one_net.specs.declared.one_end.OneEnd.{OneEnd}
 use Rattle.one_net.specs.declared.one_net.OneNet.{OneNet}
 use Rattle.one_net.specs.OneEnd.{one_end_facts}

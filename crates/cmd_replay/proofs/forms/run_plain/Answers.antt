@@ -1,7 +1,7 @@
 use denote.Exit.{no}
 use denote.Param.Send.{param_send, param_sync, arg_send}
 use Rattle.std.proofs.Common.{rules, ◌≡◌, ◌+◌, ◌∙◌, ap, sym, subst, refl}
-use Rattle.server_run.specs.log_handler.proofs.line_sink.LineSink.TheSendSync as sends
+use Rattle.server_run.specs.log_handler.specs.line_sink.proofs.sink.LineSink.TheSendSync as sends
 use Rattle.server_run.specs.log_handler.specs.LineSink as lines
 use Rattle.cmd_line.specs.declared.options.Form.TheVariants.{Plain}
 use Rattle.cmd_replay.specs.Leading.{with_lines}
@@ -32,7 +32,7 @@ play-served-requires g c κs within =
         (
           search rules,
           (
-            param_send _ _ (arg_send _ no _ (sends.the_send _ c.type_bounds.send-K)),
+            param_send _ _ (arg_send _ no _ (sends.the_send _ _ c.type_bounds.send-K)),
             (
               param_send _ _ c.type_bounds.send-V,
               (param_sync _ _ c.type_bounds.sync-R, (c.requires.fine, (can, (refl, unlimited)))),

@@ -2,7 +2,7 @@ use denote.Exit.{no}
 use denote.Param.Send.{arg_send, param_send, param_sync, sendable}
 use Rattle.std.proofs.Common.{rules, refl}
 use Rattle.chosen_timers.proofs.ChosenTimers.TheSendSync as timers
-use Rattle.server_run.specs.log_handler.proofs.line_sink.LineSink.TheSendSync as lines
+use Rattle.server_run.specs.log_handler.specs.line_sink.proofs.sink.LineSink.TheSendSync as lines
 use Rattle.cmd_serve.specs.Starting.{asked_by}
 use Rattle.cmd_serve.proofs.Begins.{can-start, faults-are, fine, opening-is}
 use Rattle.cmd_serve.proofs.Leaves.{leaves-host, leaves-net, sized, under}
@@ -47,7 +47,7 @@ serve-requires g c κs within =
                       (
                         search (timers.the_send, sendable) depth 20,
                         (
-                          param_send _ _ (arg_send _ no _ (lines.the_send _
+                          param_send _ _ (arg_send _ no _ (lines.the_send _ _
                               (param_send _ _ bounds.1.1.0))),
                           (
                             param_send _ _ bounds.1.1.1.0,
