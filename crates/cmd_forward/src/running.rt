@@ -48,7 +48,7 @@ pub(crate) fn forward<R: Wait, E: DialEnd + Drop, M: Net<End = E>, S: Source>(
     requires given { GivesEnd M.facts E.tells (net, end) }
     requires kept { (t : Terms) → LeavesDialOpen t → M.keeps t net × E.keeps t end }
     ensures ends { RunEnds E.tells most_input wait (S.facts input) (S.facts result.input)
-        (M.facts result.net) result.status }
+        (M.facts result.net) result.outcome }
     ensures asked { WhereTold (AskedUntil wait) (M.facts result.net).calls }
 {
     let end = ForwardEnd::new(end, input);
@@ -69,7 +69,7 @@ fn serve<R: Wait, E: DialEnd + Drop, M: Net<End = E>, S: Source>(
     ensures ends { (i : SourceFacts) (wait : _)
         → HasStarted ⟦<ForwardCore<E, M, S> as Means>⟧.m i wait core
         → RunEnds E.tells most_input wait i (S.facts result.input) (M.facts result.net)
-        result.status }
+        result.outcome }
     ensures asked { (i : SourceFacts) (wait : _)
         → HasStarted ⟦<ForwardCore<E, M, S> as Means>⟧.m i wait core
         → WhereTold (AskedUntil wait) (M.facts result.net).calls }
@@ -100,7 +100,7 @@ fn give_up<E: DialEnd + Drop, M: Net<End = E>, S: Source>(
     requires { (i : SourceFacts) × IsLeftUnopened M.facts M.keeps E.tells E.keeps S.facts i left }
     ensures ends { (i : SourceFacts) → IsLeftUnopened M.facts M.keeps E.tells E.keeps S.facts i left
         → (wait : _) → RunEnds E.tells most_input wait i (S.facts result.input)
-        (M.facts result.net) result.status }
+        (M.facts result.net) result.outcome }
     ensures asked { (i : SourceFacts)
         → IsLeftUnopened M.facts M.keeps E.tells E.keeps S.facts i left
         → WhereTold (λ calls. calls ≡ []) (M.facts result.net).calls }

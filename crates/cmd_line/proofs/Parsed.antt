@@ -9,7 +9,7 @@ use Rattle.clap.proofs.FaultLemmas.{leaf_fault}
 use Rattle.cmd_line.specs.Given.{Entry, Line, given, has_flag, has_name, text_of}
 use Rattle.cmd_line.specs.Options.{◌>>=◌, form_of, options_of}
 use Rattle.cmd_line.specs.Lines.{replay_by, replay_line, replay_of, serve_by, serve_line, serve_of}
-use Rattle.cmd_line.specs.Lines.{port_of}
+use Rattle.cmd_line.specs.Lines.{Texts, port_of}
 use Rattle.cmd_line.specs.Parse.{are_taken, parser_of, rows_on}
 use Rattle.cmd_line.specs.declared.command.Command.{Command}
 use Rattle.cmd_line.specs.declared.command.Command.TheVariants.{Replay, Serve}
@@ -69,6 +69,47 @@ parsed app top line words is are =
     parsed_by app top line words (given line words) is
     ((agrees top line words are).0 [] None [] (record { settles = refl; shows = refl }))
 
+-- ---- what is made of the texts of any line's options
+
+-- the options of a line can't tell these texts apart
+pub record AreAlike (line : Line) (f g : Texts) : Type 0 where
+  pub texts : (name : Text) → has_name name line.flags ≡ false → f name ≡ g name
+  pub flags : (name : Text) → has_flag (f name) ≡ has_flag (g name)
+
+no_both : (a : Bool) → a ≡ true → a ≡ false → ⊥
+no_both a is other = cc
+
+module _ {A : Type 0} (top : Text) (line : Line) (by : Texts → Option A)
+    (parser : IsParser (parser_of top line) top line)
+    (same : (f g : Texts) → AreAlike line f g → by f ≡ by g) where
+  -- if the parser takes the words it finds the texts that they give
+  pub taken : (words : List Text) (rows : List Row) → AreWords words
+      → are_taken (parser_of top line) words ≡ true → rows ≡ rows_on (parser_of top line) words
+      → by (λ name. first_of name rows) ≡ given line words >>= λ entries. by (text_of entries)
+  taken words rows are all is =
+      ap (λ (rs : List Row). by (λ name. first_of name rs)) is
+      ∙ go (given line words) (parsed (parser_of top line) top line words parser are)
+    where
+      go : (read : Option (List Entry)) → Parsed (parser_of top line) line words read
+          → by (λ name. first_of name (rows_on (parser_of top line) words))
+          ≡ read >>= λ entries. by (text_of entries)
+      go None none = absurd (no_both (are_taken (parser_of top line) words) all none)
+      go (Some entries) found =
+          same (λ name. first_of name (rows_on (parser_of top line) words)) (text_of entries)
+          (record { texts = found.1; flags = found.2 })
+
+  -- words that it refuses say nothing
+  pub refused : (words : List Text) → AreWords words → are_taken (parser_of top line) words ≡ false
+      → None ≡ given line words >>= λ entries. by (text_of entries)
+  refused words are none =
+      go (given line words) (parsed (parser_of top line) top line words parser are)
+    where
+      go : (read : Option (List Entry)) → Parsed (parser_of top line) line words read
+          → None ≡ read >>= λ entries. by (text_of entries)
+      go None found = refl
+      go (Some entries) found =
+          absurd (no_both (are_taken (parser_of top line) words) found.0 none)
+
 -- ---- `replay`
 
 abbrev pub replay_app : App
@@ -86,61 +127,39 @@ replay_with grouped journal workers most idle until timers =
     form_of grouped journal >>= λ form.
     options_of workers most idle until timers form >>= λ options. Some (Replay options)
 
-replay_same : (f g : Text → Option Text)
-    → ((name : Text) → has_name name replay_line.flags ≡ false → f name ≡ g name)
-    → ((name : Text) → has_flag (f name) ≡ has_flag (g name)) → replay_by f ≡ replay_by g
-replay_same f g texts flags =
+replay_same : (f g : Texts) → AreAlike replay_line f g → replay_by f ≡ replay_by g
+replay_same f g alike =
     ap (λ x. replay_with x (has_flag (f (codes "journal"))) (f (codes "workers")) (f (codes "most"))
-    (f (codes "idle")) (f (codes "until")) (f (codes "timers"))) (flags (codes "grouped"))
+    (f (codes "idle")) (f (codes "until")) (f (codes "timers"))) (alike.flags (codes "grouped"))
     ∙ ap (λ x. replay_with (has_flag (g (codes "grouped"))) x (f (codes "workers"))
     (f (codes "most")) (f (codes "idle")) (f (codes "until")) (f (codes "timers")))
-    (flags (codes "journal"))
+    (alike.flags (codes "journal"))
     ∙ ap (λ x. replay_with (has_flag (g (codes "grouped"))) (has_flag (g (codes "journal"))) x
     (f (codes "most")) (f (codes "idle")) (f (codes "until")) (f (codes "timers")))
-    (texts (codes "workers") refl)
+    (alike.texts (codes "workers") refl)
     ∙ ap (λ x. replay_with (has_flag (g (codes "grouped"))) (has_flag (g (codes "journal")))
     (g (codes "workers")) x (f (codes "idle")) (f (codes "until")) (f (codes "timers")))
-    (texts (codes "most") refl)
+    (alike.texts (codes "most") refl)
     ∙ ap (λ x. replay_with (has_flag (g (codes "grouped"))) (has_flag (g (codes "journal")))
     (g (codes "workers")) (g (codes "most")) x (f (codes "until")) (f (codes "timers")))
-    (texts (codes "idle") refl)
+    (alike.texts (codes "idle") refl)
     ∙ ap (λ x. replay_with (has_flag (g (codes "grouped"))) (has_flag (g (codes "journal")))
     (g (codes "workers")) (g (codes "most")) (g (codes "idle")) x (f (codes "timers")))
-    (texts (codes "until") refl)
+    (alike.texts (codes "until") refl)
     ∙ ap (λ x. replay_with (has_flag (g (codes "grouped"))) (has_flag (g (codes "journal")))
     (g (codes "workers")) (g (codes "most")) (g (codes "idle")) (g (codes "until")) x)
-    (texts (codes "timers") refl)
-
-no_both : (a : Bool) → a ≡ true → a ≡ false → ⊥
-no_both a is other = cc
+    (alike.texts (codes "timers") refl)
 
 pub replay_taken : (words : List Text) (rows : List Row) → AreWords words
     → are_taken replay_app words ≡ true → rows ≡ rows_on replay_app words
     → replay_by (λ name. first_of name rows) ≡ replay_of words
 unfolding replay_of
-replay_taken words rows are taken is =
-    ap (λ (rs : List Row). replay_by (λ name. first_of name rs)) is
-    ∙ go (given replay_line words) (parsed replay_app (codes "replay") replay_line words
-    replay_parser are)
-  where
-    go : (read : Option (List Entry)) → Parsed replay_app replay_line words read
-        → replay_by (λ name. first_of name (rows_on replay_app words))
-        ≡ read >>= λ entries. replay_by (text_of entries)
-    go None refused = absurd (no_both (are_taken replay_app words) taken refused)
-    go (Some entries) found = replay_same (λ name. first_of name (rows_on replay_app words))
-        (text_of entries) found.1 found.2
+replay_taken = taken (codes "replay") replay_line replay_by replay_parser replay_same
 
 pub replay_refused : (words : List Text) → AreWords words → are_taken replay_app words ≡ false
     → None ≡ replay_of words
 unfolding replay_of
-replay_refused words are refused =
-    go (given replay_line words) (parsed replay_app (codes "replay") replay_line words replay_parser
-    are)
-  where
-    go : (read : Option (List Entry)) → Parsed replay_app replay_line words read
-        → None ≡ read >>= λ entries. replay_by (text_of entries)
-    go None found = refl
-    go (Some entries) found = absurd (no_both (are_taken replay_app words) found.0 refused)
+replay_refused = refused (codes "replay") replay_line replay_by replay_parser replay_same
 
 -- ---- `serve`
 
@@ -158,46 +177,28 @@ serve_with port workers most idle until timers =
     port_of port >>= λ port. options_of workers most idle until timers Plain >>= λ options.
     Some (Serve port options)
 
-serve_same : (f g : Text → Option Text)
-    → ((name : Text) → has_name name serve_line.flags ≡ false → f name ≡ g name)
-    → serve_by f ≡ serve_by g
-serve_same f g texts =
+serve_same : (f g : Texts) → AreAlike serve_line f g → serve_by f ≡ serve_by g
+serve_same f g alike =
     ap (λ x. serve_with x (f (codes "workers")) (f (codes "most")) (f (codes "idle"))
-    (f (codes "until")) (f (codes "timers"))) (texts (codes "port") refl)
+    (f (codes "until")) (f (codes "timers"))) (alike.texts (codes "port") refl)
     ∙ ap (λ x. serve_with (g (codes "port")) x (f (codes "most")) (f (codes "idle"))
-    (f (codes "until")) (f (codes "timers"))) (texts (codes "workers") refl)
+    (f (codes "until")) (f (codes "timers"))) (alike.texts (codes "workers") refl)
     ∙ ap (λ x. serve_with (g (codes "port")) (g (codes "workers")) x (f (codes "idle"))
-    (f (codes "until")) (f (codes "timers"))) (texts (codes "most") refl)
+    (f (codes "until")) (f (codes "timers"))) (alike.texts (codes "most") refl)
     ∙ ap (λ x. serve_with (g (codes "port")) (g (codes "workers")) (g (codes "most")) x
-    (f (codes "until")) (f (codes "timers"))) (texts (codes "idle") refl)
+    (f (codes "until")) (f (codes "timers"))) (alike.texts (codes "idle") refl)
     ∙ ap (λ x. serve_with (g (codes "port")) (g (codes "workers")) (g (codes "most"))
-    (g (codes "idle")) x (f (codes "timers"))) (texts (codes "until") refl)
+    (g (codes "idle")) x (f (codes "timers"))) (alike.texts (codes "until") refl)
     ∙ ap (λ x. serve_with (g (codes "port")) (g (codes "workers")) (g (codes "most"))
-    (g (codes "idle")) (g (codes "until")) x) (texts (codes "timers") refl)
+    (g (codes "idle")) (g (codes "until")) x) (alike.texts (codes "timers") refl)
 
 pub serve_taken : (words : List Text) (rows : List Row) → AreWords words
     → are_taken serve_app words ≡ true → rows ≡ rows_on serve_app words
     → serve_by (λ name. first_of name rows) ≡ serve_of words
 unfolding serve_of
-serve_taken words rows are taken is =
-    ap (λ (rs : List Row). serve_by (λ name. first_of name rs)) is
-    ∙ go (given serve_line words) (parsed serve_app (codes "serve") serve_line words
-    serve_parser are)
-  where
-    go : (read : Option (List Entry)) → Parsed serve_app serve_line words read
-        → serve_by (λ name. first_of name (rows_on serve_app words))
-        ≡ read >>= λ entries. serve_by (text_of entries)
-    go None refused = absurd (no_both (are_taken serve_app words) taken refused)
-    go (Some entries) found = serve_same (λ name. first_of name (rows_on serve_app words))
-        (text_of entries) found.1
+serve_taken = taken (codes "serve") serve_line serve_by serve_parser serve_same
 
 pub serve_refused : (words : List Text) → AreWords words → are_taken serve_app words ≡ false
     → None ≡ serve_of words
 unfolding serve_of
-serve_refused words are refused = go (given serve_line words)
-    (parsed serve_app (codes "serve") serve_line words serve_parser are)
-  where
-    go : (read : Option (List Entry)) → Parsed serve_app serve_line words read
-        → None ≡ read >>= λ entries. serve_by (text_of entries)
-    go None found = refl
-    go (Some entries) found = absurd (no_both (are_taken serve_app words) found.0 refused)
+serve_refused = refused (codes "serve") serve_line serve_by serve_parser serve_same

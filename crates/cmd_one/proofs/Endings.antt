@@ -44,8 +44,8 @@ use Rattle.cmd_one.specs.Journals.{HasWritten, StandsFor, SomeJournal}
 use Rattle.cmd_one.specs.Statuses.{DecodesLeft, HasLines, IsDone, IsReadFault, IsNoMemory}
 use Rattle.cmd_one.specs.Statuses.{IsTooLong, IsVolumeFault, EndsSo, code_by}
 use Rattle.cmd_one.specs.Ran.{RunsOne, end_without_fault, end_by}
-use Rattle.cmd_one.specs.declared.ending.OneEnd.{OneEnd}
-use Rattle.cmd_one.specs.declared.ending.OneEnd.TheVariants as one
+use Rattle.cmd_one.specs.declared.ending.OneEnding.{OneEnding}
+use Rattle.cmd_one.specs.declared.ending.OneEnding.TheVariants as one
 use Rattle.cmd_one.proofs.Journals.{finished_is_over, finished_refuses_none, none_handed_over}
 use Rattle.cmd_one.proofs.Journals.{end_is_over}
 
@@ -486,7 +486,7 @@ module _ (i : SourceFacts) (o : SinkFacts) (j : SourceFacts) (p : SinkFacts)
 -- ---- a run that could not begin
 
 -- its status: whether a write failed
-abbrev pub end_unbegun : Bool → OneEnd
+abbrev pub end_unbegun : Bool → OneEnding
 end_unbegun true = one.WriteFault
 end_unbegun false = one.NoMemory
 
@@ -629,7 +629,7 @@ held_is v held journal (inl by) = by_taken v.taken by
 
 pub unbegun : {S K V : Type 0} (source : S → SourceFacts) (sink : K → SinkFacts)
     (volumes : V → VolumesFacts ServerNote) (input : S) (output : K) (left : Unopened S K V)
-    (end : OneEnd) → end ≡ end_unbegun left.broken
+    (end : OneEnding) → end ≡ end_unbegun left.broken
     → LeavesUnopened source sink input output left
     → RunsOne source sink volumes most_input (source input) (sink output) (volumes left.volumes)
     (record {
@@ -641,13 +641,13 @@ pub unbegun : {S K V : Type 0} (source : S → SourceFacts) (sink : K → SinkFa
       volumes = left.volumes;
     })
 unbegun source sink volumes input output left end is leaves = record {
-  status = subst (λ (end : OneEnd).
+  status = subst (λ (end : OneEnding).
       EndsSo most_input (source input) (sink output) (source left.input) (sink left.output)
       (volumes left.volumes).faults (volumes left.volumes).faults end) (sym is)
       (unbegun_status (source input) (sink output) (source left.input) (sink left.output)
       (volumes left.volumes).faults (volumes left.volumes).faults left.broken leaves.bytes
       leaves.gave leaves.faults written);
-  journal = λ journal told. subst (λ (end : OneEnd).
+  journal = λ journal told. subst (λ (end : OneEnding).
       StandsFor most_input (source input) (sink output) (source left.input) (sink left.output)
       (code_by most_input end) journal) (sym is)
       (subst (λ (entries : List (Entry ServerNote)).
@@ -657,7 +657,7 @@ unbegun source sink volumes input output left end is leaves = record {
       (unbegun_stands (source input) (sink output) (source left.input) (sink left.output)
       left.journal.entries left.broken leaves.bytes leaves.gave leaves.faults written
       leaves.journal));
-  some_journal = subst (λ (end : OneEnd).
+  some_journal = subst (λ (end : OneEnding).
       SomeJournal most_input (source input) (sink output) (source left.input) (sink left.output)
       (code_by most_input end) 0 left.journal.entries) (sym is) (record {
         journal = left.journal.entries;

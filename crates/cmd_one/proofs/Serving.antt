@@ -35,7 +35,7 @@ use Rattle.cmd_one.specs.Journals.{IsTakenAndHeld, AreHandedOver, StandsFor}
 use Rattle.cmd_one.specs.Statuses.{EndsSo, code_by}
 use Rattle.cmd_one.specs.Ran.{RunsOne, end_by}
 use Rattle.cmd_one.specs.declared.connection.Ran.{Ran}
-use Rattle.cmd_one.specs.declared.ending.OneEnd.{OneEnd}
+use Rattle.cmd_one.specs.declared.ending.OneEnding.{OneEnding}
 use Rattle.cmd_one.proofs.Journals.{told_is, handed_over}
 use Rattle.cmd_one.proofs.Outcome.{Became, became}
 use Rattle.cmd_one.proofs.Endings.{Known, wrote, has_status, stands_for}
@@ -161,7 +161,7 @@ module _ {S K V : Type 0} (G : Ghosts (OneEnd S)) (source : S → SourceFacts) (
         not_met = not_met;
       }
 
-      pub runs : (end : OneEnd) (input : S) (output : K)
+      pub runs : (end : OneEnding) (input : S) (output : K)
           → end ≡ end_by (failed_of last) broken too_long lost why → input ≡ input_of last
           → output ≡ sink_of parts.watch
           → RunsOne source sink volumes most_input i o v
@@ -174,7 +174,7 @@ module _ {S K V : Type 0} (G : Ghosts (OneEnd S)) (source : S → SourceFacts) (
             volumes = parts.volumes;
           })
       runs end input output is is_input is_output =
-          subst (λ (end : OneEnd). RunsOne source sink volumes most_input i o v
+          subst (λ (end : OneEnding). RunsOne source sink volumes most_input i o v
           (record {
             end = end;
             journal = parts.journal;

@@ -10,21 +10,21 @@ use Rattle.one_run.specs.declared.serving.Halt.TheVariants as halt
 use Rattle.cmd_one.specs.Journals.{IsTold, AreHandedOver, StandsFor, SomeJournal}
 use Rattle.cmd_one.specs.Statuses.{EndsSo, code_by}
 use Rattle.cmd_one.specs.declared.connection.Ran.{Ran}
-use Rattle.cmd_one.specs.declared.ending.OneEnd.{OneEnd}
-use Rattle.cmd_one.specs.declared.ending.OneEnd.TheVariants.{Done, ReadFault, WriteFault, NoMemory}
-use Rattle.cmd_one.specs.declared.ending.OneEnd.TheVariants.{TooLong, VolumeFault}
+use Rattle.cmd_one.specs.declared.ending.OneEnding.{OneEnding}
+use Rattle.cmd_one.specs.declared.ending.OneEnding.TheVariants.{Done, ReadFault, WriteFault, NoMemory}
+use Rattle.cmd_one.specs.declared.ending.OneEnding.TheVariants.{TooLong, VolumeFault}
 
 -- The status of a run whose connection was opened, the least of those of its faults: whether a read
 -- failed, whether a write failed, whether a byte was met past the limit, why it was halted, and
 -- whether the connection was closed for want of memory.
-abbrev pub end_without_fault : Bool → Bool → Option Halt → OneEnd
+abbrev pub end_without_fault : Bool → Bool → Option Halt → OneEnding
 end_without_fault too_long true why = NoMemory
 end_without_fault too_long false (Some halt.NoMemory) = NoMemory
 end_without_fault true false why = TooLong
 end_without_fault false false None = Done
 end_without_fault false false (Some why) = VolumeFault
 
-abbrev pub end_by : Bool → Bool → Bool → Bool → Option Halt → OneEnd
+abbrev pub end_by : Bool → Bool → Bool → Bool → Option Halt → OneEnding
 end_by true broken too_long lost why = ReadFault
 end_by false true too_long lost why = WriteFault
 end_by false false too_long lost why = end_without_fault too_long lost why

@@ -15,9 +15,9 @@ use Rattle.log_handler.specs.log_lines.specs.declared.end_kind.EndKind.TheVarian
 use Rattle.log_handler.specs.Connection.{end_of}
 use Rattle.log_handler.specs.sink_buffer.specs.Written.{TookAll, TookFront}
 use Rattle.cmd_one.specs.Outcome.{IsClosedWith, IsMalformed, lines_of}
-use Rattle.cmd_one.specs.declared.ending.OneEnd.{OneEnd}
-use Rattle.cmd_one.specs.declared.ending.OneEnd.TheVariants.{Done, ReadFault, WriteFault, NoMemory}
-use Rattle.cmd_one.specs.declared.ending.OneEnd.TheVariants.{TooLong, VolumeFault}
+use Rattle.cmd_one.specs.declared.ending.OneEnding.{OneEnding}
+use Rattle.cmd_one.specs.declared.ending.OneEnding.TheVariants.{Done, ReadFault, WriteFault, NoMemory}
+use Rattle.cmd_one.specs.declared.ending.OneEnding.TheVariants.{TooLong, VolumeFault}
 
 -- if the bytes are told, all that were left are read as these are
 abbrev pub DecodesLeft : Option ReaderBytes → List ℕ → Type 0
@@ -93,7 +93,7 @@ pub record IsVolumeFault (limit : ℕ) (i : SourceFacts) (o : SinkFacts) (j : So
   pub rose : Rose before now
 
 -- what each ending says; the volumes' count of faults was this before and is this now
-abbrev pub EndsSo : ℕ → SourceFacts → SinkFacts → SourceFacts → SinkFacts → ℕ → ℕ → OneEnd
+abbrev pub EndsSo : ℕ → SourceFacts → SinkFacts → SourceFacts → SinkFacts → ℕ → ℕ → OneEnding
     → Type 0
 EndsSo limit i o j p before now Done = IsDone limit i o j p before now
 EndsSo limit i o j p before now ReadFault = IsReadFault limit i o j p
@@ -103,7 +103,7 @@ EndsSo limit i o j p before now TooLong = IsTooLong limit i o j p
 EndsSo limit i o j p before now VolumeFault = IsVolumeFault limit i o j p before now
 
 -- the status of each ending, of a run in which so many bytes may be read
-abbrev pub status_by : ℕ → OneEnd → Status
+abbrev pub status_by : ℕ → OneEnding → Status
 status_by limit Done = status.Done
 status_by limit ReadFault = status.ReadFault
 status_by limit WriteFault = status.WriteFault
@@ -112,5 +112,5 @@ status_by limit TooLong = status.TooLong limit
 status_by limit VolumeFault = status.VolumeFault
 
 -- its code
-abbrev pub code_by : ℕ → OneEnd → ℕ
+abbrev pub code_by : ℕ → OneEnding → ℕ
 code_by limit how = code_of (status_by limit how)

@@ -8,7 +8,7 @@ ghost use Rattle.one_run.specs.Opening.{LeavesUnopened, terms_of_run};
 ghost use Rattle.one_run.specs.Running.{one_meaning, StandsIn};
 ghost use Rattle.cmd_one.specs.Ran.{RunsOne};
 
-use crate::ending::{Faults, OneEnd};
+use crate::ending::{Faults, OneEnding};
 use ev_base::{Sink, Source};
 use log_handler::ServerNote;
 use log_handler::laws::courses_account;
@@ -21,7 +21,7 @@ use std::alloc::Global;
 #[derive(Drop)]
 pub struct Ran<S, K, V> {
     /// How it ended.
-    pub end: OneEnd,
+    pub end: OneEnding,
     /// The entries of the reactor's journal that were not handed over to the volumes, from number
     /// `first` on.
     pub journal: Journal<ServerNote>,
@@ -61,8 +61,8 @@ fn give_up<S: Source, K: Sink, V: Volumes<ServerNote>>(left: Unopened<S, K, V>) 
         (V.facts left.volumes) result }
 {
     let end = match left.broken {
-        true => OneEnd::WriteFault,
-        false => OneEnd::NoMemory,
+        true => OneEnding::WriteFault,
+        false => OneEnding::NoMemory,
     };
     Ran {
         end,
@@ -101,7 +101,7 @@ fn serve<S: Source, K: Sink, V: Volumes<ServerNote>>(core: OneCore<S, K, V>) -> 
     };
     courses_account();
     Ran {
-        end: OneEnd::least(faults, ending),
+        end: OneEnding::least(faults, ending),
         journal,
         first,
         input: end.into_input(),

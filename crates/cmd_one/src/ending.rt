@@ -11,7 +11,7 @@ const MOST_INPUT: u64 = 1 << 40;
 
 /// How a run ended. Of several faults the first in this order is told.
 #[derive(Clone, Copy, PartialEq, Eq, Debug)]
-pub enum OneEnd {
+pub enum OneEnding {
     /// The connection closed itself where reading stops, and all was written.
     Done,
     /// A read failed, for which the connection was closed.
@@ -37,37 +37,37 @@ pub(crate) struct Faults {
     pub too_long: bool,
 }
 
-impl OneEnd {
+impl OneEnding {
     /// Its status.
     pub fn status(self) -> Status
         ensures { result ≡ status_by (2 ^ 40) self }
     {
         match self {
-            OneEnd::Done => Status::Done,
-            OneEnd::ReadFault => Status::ReadFault,
-            OneEnd::WriteFault => Status::WriteFault,
-            OneEnd::NoMemory => Status::NoMemory,
-            OneEnd::TooLong => Status::TooLong { limit: MOST_INPUT },
-            OneEnd::VolumeFault => Status::VolumeFault,
+            OneEnding::Done => Status::Done,
+            OneEnding::ReadFault => Status::ReadFault,
+            OneEnding::WriteFault => Status::WriteFault,
+            OneEnding::NoMemory => Status::NoMemory,
+            OneEnding::TooLong => Status::TooLong { limit: MOST_INPUT },
+            OneEnding::VolumeFault => Status::VolumeFault,
         }
     }
 
     /// The least of those of a run's faults.
-    pub(crate) fn least(faults: Faults, ending: Ending) -> OneEnd
+    pub(crate) fn least(faults: Faults, ending: Ending) -> OneEnding
         ensures { result ≡ end_by faults.failed faults.broken faults.too_long ending.lost
             ending.halt }
     {
         if faults.failed {
-            return OneEnd::ReadFault;
+            return OneEnding::ReadFault;
         }
         if faults.broken {
-            return OneEnd::WriteFault;
+            return OneEnding::WriteFault;
         }
         match (ending.lost, ending.halt) {
-            (true, _) | (false, Some(Halt::NoMemory)) => OneEnd::NoMemory,
-            _ if faults.too_long => OneEnd::TooLong,
-            (false, None) => OneEnd::Done,
-            _ => OneEnd::VolumeFault,
+            (true, _) | (false, Some(Halt::NoMemory)) => OneEnding::NoMemory,
+            _ if faults.too_long => OneEnding::TooLong,
+            (false, None) => OneEnding::Done,
+            _ => OneEnding::VolumeFault,
         }
     }
 }

@@ -6,4 +6,4 @@ mod connection;
 mod ending;
 
 pub use connection::{Ran, one};
-pub use ending::OneEnd;
+pub use ending::OneEnding;

@@ -1,16 +1,15 @@
 -- That the parser of the command takes the same words as its line, with the same meaning.
-use Rattle.std.proofs.Common.{◌≡◌, ◌∙◌, Bool, true, false, List, Option, Some, None, refl}
+use Rattle.std.proofs.Common.{◌≡◌, ◌∙◌, true, false, List, Option, Some, None, refl}
 use Rattle.std.proofs.Common.{ap, codes}
 use Rattle.clap.specs.Words.{App, Row, Text, first_of}
 use Rattle.clap.specs.Walk.{nothing_held}
 use Rattle.clap.specs.Simple.{built}
 use Rattle.clap.proofs.FaultLemmas.{leaf_fault}
-use Rattle.cmd_line.specs.Given.{Entry, given, has_name, text_of}
-use Rattle.cmd_line.specs.Lines.{port_of}
+use Rattle.cmd_line.specs.Lines.{Texts, port_of}
 use Rattle.cmd_line.specs.Numbers.{number_in}
 use Rattle.cmd_line.specs.Options.{◌>>=◌, value_if, value_or}
 use Rattle.cmd_line.specs.Parse.{are_taken, parser_of, rows_on}
-use Rattle.cmd_line.proofs.Parsed.{IsParser, Parsed, parsed}
+use Rattle.cmd_line.proofs.Parsed.{AreAlike, IsParser, refused, taken}
 use Rattle.cmd_line.proofs.Readings.{AreWords}
 use Rattle.cmd_pool.specs.Words.{options_by, options_of, pool_line}
 use Rattle.cmd_pool.specs.declared.words.PoolOptions.{PoolOptions}
@@ -31,47 +30,26 @@ options_with port workers writers until =
     value_if (number_in 1 4294967295) until >>= λ until.
     Some (record { port = port; workers = workers; writers = writers; until = until })
 
-options_same : (f g : Text → Option Text)
-    → ((name : Text) → has_name name pool_line.flags ≡ false → f name ≡ g name)
-    → options_by f ≡ options_by g
-options_same f g texts =
+options_same : (f g : Texts) → AreAlike pool_line f g → options_by f ≡ options_by g
+options_same f g alike =
     ap (λ x. options_with x (f (codes "workers")) (f (codes "writers")) (f (codes "until")))
-    (texts (codes "port") refl)
+    (alike.texts (codes "port") refl)
     ∙ ap (λ x. options_with (g (codes "port")) x (f (codes "writers")) (f (codes "until")))
-    (texts (codes "workers") refl)
+    (alike.texts (codes "workers") refl)
     ∙ ap (λ x. options_with (g (codes "port")) (g (codes "workers")) x (f (codes "until")))
-    (texts (codes "writers") refl)
+    (alike.texts (codes "writers") refl)
     ∙ ap (λ x. options_with (g (codes "port")) (g (codes "workers")) (g (codes "writers")) x)
-    (texts (codes "until") refl)
-
-no_both : (a : Bool) → a ≡ true → a ≡ false → ⊥
-no_both a is other = cc
+    (alike.texts (codes "until") refl)
 
 -- of words that it takes the options have the texts that were found
 pub options_taken : (words : List Text) (rows : List Row) → AreWords words
     → are_taken pool_app words ≡ true → rows ≡ rows_on pool_app words
     → options_by (λ name. first_of name rows) ≡ options_of words
 unfolding options_of
-options_taken words rows are taken is =
-    ap (λ (rs : List Row). options_by (λ name. first_of name rs)) is
-    ∙ go (given pool_line words)
-    (parsed pool_app (codes "pool") pool_line words pool_parser are)
-  where
-    go : (read : Option (List Entry)) → Parsed pool_app pool_line words read
-        → options_by (λ name. first_of name (rows_on pool_app words))
-        ≡ read >>= λ entries. options_by (text_of entries)
-    go None refused = absurd (no_both (are_taken pool_app words) taken refused)
-    go (Some entries) found = options_same (λ name. first_of name (rows_on pool_app words))
-        (text_of entries) found.1
+options_taken = taken (codes "pool") pool_line options_by pool_parser options_same
 
 -- words that it refuses ask for nothing
 pub options_refused : (words : List Text) → AreWords words → are_taken pool_app words ≡ false
     → None ≡ options_of words
 unfolding options_of
-options_refused words are refused = go (given pool_line words)
-    (parsed pool_app (codes "pool") pool_line words pool_parser are)
-  where
-    go : (read : Option (List Entry)) → Parsed pool_app pool_line words read
-        → None ≡ read >>= λ entries. options_by (text_of entries)
-    go None found = refl
-    go (Some entries) found = absurd (no_both (are_taken pool_app words) found.0 refused)
+options_refused = refused (codes "pool") pool_line options_by pool_parser options_same
