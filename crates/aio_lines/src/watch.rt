@@ -2,7 +2,7 @@
 ghost use Rattle.aio_lines.specs.Lines.{entry_lines};
 
 use crate::line::put_entry_lines;
-use line_sink::{EntryLines, LineSink};
+use line_sink::{JournalLines, LineSink};
 use proactor::AioNote;
 use reactor_model::Entry;
 use sink_buffer::TextOut;
@@ -17,7 +17,7 @@ pub struct AioLines;
 /// failed.
 pub type ConnectionLines<K> = LineSink<K, AioLines>;
 
-impl EntryLines for AioLines {
+impl JournalLines for AioLines {
     type Note = AioNote;
 
     ghost lines = { entry_lines };

@@ -2,8 +2,8 @@
 //! is a parameter.
 #![tactic(auto)]
 
-mod entry_lines;
+mod journal_lines;
 mod sink;
 
-pub use entry_lines::EntryLines;
+pub use journal_lines::JournalLines;
 pub use sink::LineSink;

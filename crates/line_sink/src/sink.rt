@@ -3,7 +3,7 @@ ghost use Rattle.std.specs.Prelude.{◌≡◌, ◌≤◌, ◌++◌, ◌∷◌, �
 ghost use Rattle.ev_base.specs.Counts.{Rose};
 ghost use Rattle.ev_base.specs.Terms.{Terms};
 
-use crate::EntryLines;
+use crate::JournalLines;
 use ev_base::Sink;
 use ghost_log::Tally;
 use reactor_model::{Entry, Watch};
@@ -21,7 +21,7 @@ pub struct LineSink<K, P> {
     lines: PhantomData<P>,
 }
 
-impl<K: Sink, P: EntryLines> LineSink<K, P> {
+impl<K: Sink, P: JournalLines> LineSink<K, P> {
     ghost use Rattle.line_sink.specs.LineSink.{PutsLines, is_broken, sink_of};
 
     /// A watch that has seen nothing, over this sink.
@@ -48,7 +48,7 @@ impl<K: Sink, P: EntryLines> LineSink<K, P> {
     }
 }
 
-impl<K: Sink, P: EntryLines> Watch<P::Note> for LineSink<K, P> {
+impl<K: Sink, P: JournalLines> Watch<P::Note> for LineSink<K, P> {
     ghost use Rattle.reactor_model.specs.reactor_journal.specs.declared.entry.Entry.{Entry};
     ghost use Rattle.line_sink.specs.LineSink.{PutsLines, line_sink_faults, is_broken, sink_of};
     ghost use Rattle.line_sink.specs.LineSink.{whole_of};

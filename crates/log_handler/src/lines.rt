@@ -7,7 +7,7 @@ ghost use Rattle.log_handler.specs.Notes.{note_lines, entry_lines};
 
 use crate::{LoggedRecords, ServerNote};
 use cdr_record::RecordRef;
-use line_sink::EntryLines;
+use line_sink::JournalLines;
 use log_lines::{EndKind, put_borrowed_line, put_closing_line};
 use packed_records::Unpacked;
 use reactor_model::Entry;
@@ -24,7 +24,7 @@ pub struct ServerLines;
 /// and writes nothing more once a write failed.
 pub type LineSink<K> = line_sink::LineSink<K, ServerLines>;
 
-impl EntryLines for ServerLines {
+impl JournalLines for ServerLines {
     type Note = ServerNote;
 
     ghost lines = { entry_lines };

@@ -4,12 +4,12 @@ use Rattle.line_sink.proofs.sink.LineSinkWatchNote.saw.Goals as goal
 
 pub returns-then-is_broken-clause-stands : goal.returns-then-is_broken-clause-stands
 returns-then-is_broken-clause-stands g c t h p =
-    saw-broken g.P.EntryLines.lines g.K.Sink.facts t c.args.self.now h c.args.entry.now p
+    saw-broken g.P.JournalLines.lines g.K.Sink.facts t c.args.self.now h c.args.entry.now p
     (sym c.is_broken.ensures ∙ c.if-is_broken.true)
 
 pub returns-then-is_broken-2-clause-stands : goal.returns-then-is_broken-2-clause-stands
 returns-then-is_broken-2-clause-stands g c t h p =
-    saw-failed g.P.EntryLines.lines g.K.Sink.facts t c.args.self.now h c.args.entry.now p _
+    saw-failed g.P.JournalLines.lines g.K.Sink.facts t c.args.self.now h c.args.entry.now p _
     (sym c.is_broken.ensures ∙ c.if-is_broken.false) c.put.ensures
     (sym c.is_broken-2.ensures ∙ c.if-is_broken-2.true) refl
 
@@ -25,7 +25,7 @@ returns-then-is_broken-2-clause-breaks g c = λ sound broken.
 
 pub returns-clause-stands : goal.returns-clause-stands
 returns-clause-stands g c t h p =
-    saw-whole g.P.EntryLines.lines g.K.Sink.facts t c.args.self.now h c.args.entry.now p _
+    saw-whole g.P.JournalLines.lines g.K.Sink.facts t c.args.self.now h c.args.entry.now p _
     (sym c.is_broken.ensures ∙ c.if-is_broken.false) c.put.ensures
     (sym c.is_broken-2.ensures ∙ c.if-is_broken-2.false) c.add.ensures
 

@@ -1,4 +1,4 @@
-//! The lines of an entry.
+//! The lines of a journal.
 ghost use Rattle.std.specs.Prelude.{List, ℕ};
 ghost use Rattle.reactor_model.specs.reactor_journal.specs.declared.entry.Entry.{Entry};
 ghost use Rattle.sink_buffer.specs.Texts.{Puts};
@@ -8,7 +8,7 @@ use sink_buffer::TextOut;
 
 /// Which lines the entries of a journal have. A type that implements it stands for its lines and
 /// holds nothing.
-pub trait EntryLines {
+pub trait JournalLines {
     /// What the handlers of the journal note.
     type Note;
 
