@@ -9,7 +9,7 @@ work=$(mktemp -d) || exit 1
 trap 'rm -rf "$work"' EXIT
 cc -O2 -o "$work/plain" "$root/bench/plain_forward.c" || exit 1
 c++ -O2 -o "$work/ace" "$root/bench/ace_forward.cpp" -lACE 2>/dev/null || echo "ACE is not here (libace-dev), or its forwarder does not compile: its lines are left out"
-"$root/bin/logd" one </dev/null >/dev/null || exit 1
+[ -n "$LOGD" ] || "$root/bin/logd" one </dev/null >/dev/null || exit 1
 python3 - "$work" "${LOGD:-$root/crates/logd/out/logd}" <<'P'
 import os, select, socket, statistics, struct, subprocess, sys, threading, time
 work, logd = sys.argv[1:]

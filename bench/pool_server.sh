@@ -10,7 +10,7 @@ trap 'rm -rf "$work"' EXIT
 cc -O2 -pthread -o "$work/plain" "$root/bench/plain_epoll.c" || exit 1
 cc -O2 -pthread -o "$work/load" "$root/bench/serve_load.c" || exit 1
 c++ -O2 -o "$work/ace" "$root/bench/ace_pool.cpp" -lACE 2>/dev/null || echo "ACE is not here (libace-dev), or its server does not compile: its lines are left out"
-"$root/bin/logd" one </dev/null >/dev/null || exit 1
+[ -n "$LOGD" ] || "$root/bin/logd" one </dev/null >/dev/null || exit 1
 ulimit -n "$(ulimit -Hn)"
 python3 - "$work" "${LOGD:-$root/crates/logd/out/logd}" <<'P'
 import os, socket, statistics, subprocess, sys, time

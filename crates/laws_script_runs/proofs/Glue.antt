@@ -28,14 +28,15 @@ use Rattle.reactor_model.specs.Handling.{NoClose, GoesOn}
 use Rattle.laws_script_told.specs.laws_reports.specs.Laws.{rests, reports_input, holds_back}
 use Rattle.laws_script_told.specs.laws_reports.specs.Laws.{is_again}
 use Rattle.laws_script_told.specs.laws_reports.proofs.Turns.{answered}
-use Rattle.log_handler.specs.log_lines.specs.declared.end_kind.EndKind.{EndKind}
-use Rattle.log_handler.specs.log_lines.specs.declared.end_kind.EndKind.TheVariants as end
-use Rattle.log_handler.specs.log_lines.specs.Texts.{record_lines, closing_line}
-use Rattle.log_handler.specs.declared.note.ServerNote.{ServerNote}
-use Rattle.log_handler.specs.Connection as connection
-use Rattle.log_handler.specs.Connections.{IsClosing}
-use Rattle.log_handler.specs.Laws.{records_in}
-use Rattle.log_handler.proofs.Courses.{course-goes}
+use Rattle.laws_script_told.specs.log_handler.specs.log_lines.specs.declared.end_kind.EndKind.{EndKind}
+use Rattle.laws_script_told.specs.log_handler.specs.log_lines.specs.declared.end_kind.EndKind.TheVariants as end
+use Rattle.laws_script_told.specs.log_handler.specs.log_lines.specs.Texts.{record_lines}
+use Rattle.laws_script_told.specs.log_handler.specs.log_lines.specs.Texts.{closing_line}
+use Rattle.laws_script_told.specs.log_handler.specs.declared.note.ServerNote.{ServerNote}
+use Rattle.laws_script_told.specs.log_handler.specs.Connection as connection
+use Rattle.laws_script_told.specs.log_handler.specs.Connections.{IsClosing}
+use Rattle.laws_script_told.specs.log_handler.specs.Laws.{records_in}
+use Rattle.laws_script_told.specs.log_handler.proofs.Courses.{course-goes}
 use Rattle.laws_script_turns.specs.acceptor.specs.Accepting as accepting
 use Rattle.laws_script_turns.specs.event_script.specs.Script.{ScriptStep, Opens, Brings, Shuts}
 use Rattle.laws_script_turns.specs.event_script.specs.Script.{Fails, ListenerFails, ScriptGroup}
@@ -113,7 +114,7 @@ kept_turn item h = by_both item.upcall item.answer h
     by_answer Close h = absurd (false≢true h)
 
     by_both : (u : Upcall) (a : Answer) → stays a ≡ true
-        → (Rattle.log_handler.specs.Laws.is_input u
+        → (Rattle.laws_script_told.specs.log_handler.specs.Laws.is_input u
         && Rattle.laws_script_turns.specs.Laws.is_keep a)
         ≡ (Rattle.laws_script_told.specs.laws_reports.specs.Laws.is_input u && not (is_again a))
     by_both Input a h = by_answer a h

@@ -17,7 +17,7 @@ use Rattle.reactor_model.specs.reactor_journal.proofs.Basics.{may_fits}
 use Rattle.reactor_model.specs.reactor_journal.proofs.Closing.{Gone, closed_gone}
 use Rattle.reactor_model.specs.reactor_journal.proofs.HadLaw.{quiet, returned_is_open}
 use Rattle.laws_script_turns.specs.acceptor.specs.Servers.{read_alone}
-use Rattle.log_handler.specs.declared.note.ServerNote.{ServerNote}
+use Rattle.laws_script_told.specs.log_handler.specs.declared.note.ServerNote.{ServerNote}
 use Rattle.laws_script_runs.specs.Steps.{EachStep}
 use Rattle.laws_script_runs.specs.Runs.{first_handle}
 

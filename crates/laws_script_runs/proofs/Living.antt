@@ -27,7 +27,7 @@ use Rattle.laws_turns.proofs.Turns.{Last, ended_last}
 use Rattle.reactor_model.specs.Handling.{Handling}
 use Rattle.laws_script_turns.specs.acceptor.specs.Accepting as accepting
 use Rattle.laws_script_turns.specs.acceptor.proofs.Accounts as acceptor_accounts
-use Rattle.log_handler.specs.declared.note.ServerNote.{ServerNote}
+use Rattle.laws_script_told.specs.log_handler.specs.declared.note.ServerNote.{ServerNote}
 use Rattle.laws_script_turns.specs.event_script.specs.Script.{ScriptStep, ScriptGroup, steps_of}
 use Rattle.laws_script_runs.specs.Connections.{accepted, accepts, AreLeft, ListensThrough}
 use Rattle.laws_script_runs.specs.Steps.{EachStep}

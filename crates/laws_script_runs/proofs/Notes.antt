@@ -9,8 +9,8 @@ use Rattle.reactor_model.specs.ev_types.specs.declared.upcall.Upcall.TheVariants
 use Rattle.reactor_model.specs.ev_types.specs.declared.upcall.Upcall.TheVariants.{Except, Timeout}
 use Rattle.reactor_model.specs.ev_types.specs.declared.upcall.Upcall.TheVariants.{Notice}
 use Rattle.reactor_model.specs.reactor_journal.specs.Event.{Item}
-use Rattle.log_handler.specs.declared.note.ServerNote.{ServerNote}
-use Rattle.log_handler.specs.declared.note.ServerNote.TheVariants as note
+use Rattle.laws_script_told.specs.log_handler.specs.declared.note.ServerNote.{ServerNote}
+use Rattle.laws_script_told.specs.log_handler.specs.declared.note.ServerNote.TheVariants as note
 use Rattle.laws_script_turns.specs.acceptor.specs.Accepting.{Progress, Course, ServesUpcall}
 use Rattle.laws_script_turns.specs.acceptor.specs.Accepting.{ServesAccept, ServesInput, OneEnd}
 use Rattle.laws_script_turns.specs.acceptor.specs.Accepting.{NoEnd, Failure, Gives}

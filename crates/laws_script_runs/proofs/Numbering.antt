@@ -27,10 +27,10 @@ use Rattle.reactor_model.specs.reactor_journal.specs.Past.{count, opened}
 use Rattle.reactor_model.specs.reactor_journal.specs.Follow.{follows_ready}
 use Rattle.reactor_model.specs.Handling.{Deed}
 use Rattle.laws_script_turns.specs.acceptor.specs.Servers.{read_alone, is_accepted as says_accepted}
-use Rattle.log_handler.specs.declared.note.ServerNote.{ServerNote}
-use Rattle.log_handler.specs.declared.note.ServerNote.TheVariants as note
+use Rattle.laws_script_told.specs.log_handler.specs.declared.note.ServerNote.{ServerNote}
+use Rattle.laws_script_told.specs.log_handler.specs.declared.note.ServerNote.TheVariants as note
 use Rattle.reactor_model.specs.ev_base.specs.Playing.{end_of_serial}
-use Rattle.log_handler.specs.Connections.{accepted_in}
+use Rattle.laws_script_told.specs.log_handler.specs.Connections.{accepted_in}
 use Rattle.laws_script_told.specs.Told.{end_offered}
 use Rattle.laws_script_runs.specs.Connections.{accepted}
 use Rattle.laws_script_runs.specs.Runs.{note_settled, is_accepted, is_refusal}

@@ -18,8 +18,8 @@ use Rattle.reactor_model.specs.reactor_journal.proofs.Turning.{is_legal-front}
 use Rattle.reactor_model.specs.Handling.{Handling}
 use Rattle.laws_script_turns.specs.acceptor.specs.Laws.{number_in}
 use Rattle.laws_script_turns.specs.acceptor.specs.Servers.{ServerMay, is_accepted as says_accepted}
-use Rattle.log_handler.specs.declared.note.ServerNote.{ServerNote}
-use Rattle.log_handler.specs.declared.note.ServerNote.TheVariants as note
+use Rattle.laws_script_told.specs.log_handler.specs.declared.note.ServerNote.{ServerNote}
+use Rattle.laws_script_told.specs.log_handler.specs.declared.note.ServerNote.TheVariants as note
 use Rattle.laws_script_turns.specs.event_script.specs.Script.{ScriptStep, ScriptGroup, steps_of}
 use Rattle.laws_script_runs.specs.Connections.{AreLeft, accepted}
 use Rattle.laws_script_runs.specs.Runs.{is_refusal, note_settled}

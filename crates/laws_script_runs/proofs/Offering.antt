@@ -8,8 +8,8 @@ use Rattle.reactor_model.specs.reactor_journal.specs.Event.{Origin}
 use Rattle.reactor_model.specs.reactor_journal.specs.declared.entry.Entry.{Entry}
 use Rattle.reactor_model.specs.reactor_journal.specs.declared.entry.Entry.TheVariants.{Refused}
 use Rattle.laws_script_turns.specs.acceptor.specs.Servers.{ServerMay, is_accepted as says_accepted}
-use Rattle.log_handler.specs.declared.note.ServerNote.{ServerNote}
-use Rattle.log_handler.specs.declared.note.ServerNote.TheVariants as note
+use Rattle.laws_script_told.specs.log_handler.specs.declared.note.ServerNote.{ServerNote}
+use Rattle.laws_script_told.specs.log_handler.specs.declared.note.ServerNote.TheVariants as note
 use Rattle.laws_script_turns.specs.event_script.specs.Script.{ScriptStep}
 use Rattle.laws_script_runs.specs.Connections.{AreLeft, SaysLast, LeavesOffered}
 use Rattle.laws_script_runs.specs.Runs.{is_accepted, note_settled}

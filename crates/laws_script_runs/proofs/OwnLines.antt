@@ -12,11 +12,13 @@ use Rattle.reactor_model.specs.reactor_journal.specs.declared.entry.Entry.{Entry
 use Rattle.reactor_model.specs.reactor_journal.specs.declared.entry.Entry.TheVariants.{Returned}
 use Rattle.reactor_model.specs.reactor_journal.specs.declared.entry.Entry.TheVariants.{Closed}
 use Rattle.reactor_model.specs.reactor_journal.specs.Past.{closes, had, items_made, was_closed}
-use Rattle.log_handler.specs.declared.note.ServerNote.{ServerNote}
-use Rattle.log_handler.specs.declared.note.ServerNote.TheVariants as note
-use Rattle.log_handler.specs.log_lines.specs.Texts.{record_lines, record_line, closing_line}
-use Rattle.log_handler.specs.Notes.{note_lines}
-use Rattle.log_handler.specs.Laws.{records_in, records_of_note}
+use Rattle.laws_script_told.specs.log_handler.specs.declared.note.ServerNote.{ServerNote}
+use Rattle.laws_script_told.specs.log_handler.specs.declared.note.ServerNote.TheVariants as note
+use Rattle.laws_script_told.specs.log_handler.specs.log_lines.specs.Texts.{record_lines}
+use Rattle.laws_script_told.specs.log_handler.specs.log_lines.specs.Texts.{record_line}
+use Rattle.laws_script_told.specs.log_handler.specs.log_lines.specs.Texts.{closing_line}
+use Rattle.laws_script_told.specs.log_handler.specs.Notes.{note_lines}
+use Rattle.laws_script_told.specs.log_handler.specs.Laws.{records_in, records_of_note}
 use Rattle.laws_script_runs.specs.Connections.{lines_in}
 
 -- those of all entries

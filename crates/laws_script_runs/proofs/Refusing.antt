@@ -32,7 +32,7 @@ use Rattle.reactor_model.specs.Handling.{Handling}
 use Rattle.laws_script_turns.specs.acceptor.specs.Accepting as accepting
 use Rattle.laws_script_turns.specs.acceptor.specs.Servers.{ServerMay, is_accepted as says_accepted}
 use Rattle.laws_script_turns.specs.acceptor.proofs.Accounts as acceptor_accounts
-use Rattle.log_handler.specs.declared.note.ServerNote.{ServerNote}
+use Rattle.laws_script_told.specs.log_handler.specs.declared.note.ServerNote.{ServerNote}
 use Rattle.laws_script_turns.specs.event_script.specs.Script.{ScriptGroup, steps_of}
 use Rattle.laws_script_turns.specs.event_script.specs.Script as script
 use Rattle.laws_script_runs.specs.Connections.{accepts, accepted}

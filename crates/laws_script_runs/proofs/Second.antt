@@ -24,16 +24,16 @@ use Rattle.reactor_model.specs.reactor_journal.proofs.Turning.{is_legal-front}
 use Rattle.laws_turns.proofs.Turns.{Last, ended_last, own_reason}
 use Rattle.reactor_model.specs.Handling.{Handling, EndsInClose, IsClose}
 use Rattle.laws_script_turns.specs.acceptor.specs.Accepting as accepting
-use Rattle.log_handler.specs.log_lines.specs.declared.end_kind.EndKind.{EndKind}
-use Rattle.log_handler.specs.log_lines.specs.declared.end_kind.EndKind.TheVariants as end
-use Rattle.log_handler.specs.declared.note.ServerNote.{ServerNote}
-use Rattle.log_handler.specs.declared.note.ServerNote.TheVariants as note
-use Rattle.log_handler.specs.Connection as connection
-use Rattle.log_handler.specs.Connections.{IsClosing}
-use Rattle.log_handler.specs.Laws.{EndedSo}
-use Rattle.log_handler.specs.Notes.{note_lines}
-use Rattle.log_handler.proofs.Courses.{course-closed}
-use Rattle.log_handler.proofs.Accounts.{accounts}
+use Rattle.laws_script_told.specs.log_handler.specs.log_lines.specs.declared.end_kind.EndKind.{EndKind}
+use Rattle.laws_script_told.specs.log_handler.specs.log_lines.specs.declared.end_kind.EndKind.TheVariants as end
+use Rattle.laws_script_told.specs.log_handler.specs.declared.note.ServerNote.{ServerNote}
+use Rattle.laws_script_told.specs.log_handler.specs.declared.note.ServerNote.TheVariants as note
+use Rattle.laws_script_told.specs.log_handler.specs.Connection as connection
+use Rattle.laws_script_told.specs.log_handler.specs.Connections.{IsClosing}
+use Rattle.laws_script_told.specs.log_handler.specs.Laws.{EndedSo}
+use Rattle.laws_script_told.specs.log_handler.specs.Notes.{note_lines}
+use Rattle.laws_script_told.specs.log_handler.proofs.Courses.{course-closed}
+use Rattle.laws_script_told.specs.log_handler.proofs.Accounts.{accounts}
 use Rattle.laws_script_turns.specs.event_script.specs.Script.{ScriptStep, ScriptGroup, groups_told}
 use Rattle.laws_script_turns.specs.event_script.specs.Script.{steps_of}
 use Rattle.laws_script_turns.specs.Grouped.{grouped}

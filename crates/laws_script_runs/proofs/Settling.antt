@@ -21,7 +21,7 @@ use Rattle.reactor_model.specs.reactor_journal.proofs.HadLaw.{returned_is_open}
 use Rattle.reactor_model.specs.reactor_journal.proofs.Steps.{open_is_event}
 use Rattle.reactor_model.specs.reactor_journal.proofs.Turning.{is_legal-front}
 use Rattle.laws_turns.specs.reactor_summary.proofs.Opened.{open_opened}
-use Rattle.log_handler.specs.declared.note.ServerNote.{ServerNote}
+use Rattle.laws_script_told.specs.log_handler.specs.declared.note.ServerNote.{ServerNote}
 use Rattle.laws_script_runs.specs.Runs.{note_settled}
 use Rattle.laws_script_runs.specs.Steps.{EachStep}
 use Rattle.laws_script_runs.proofs.Handles.{had_grows}

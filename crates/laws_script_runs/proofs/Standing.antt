@@ -29,9 +29,9 @@ use Rattle.reactor_model.specs.reactor_journal.specs.Past.{opened, offered_here}
 use Rattle.reactor_model.specs.reactor_journal.specs.Follow.{may_follow, is_legal}
 use Rattle.reactor_model.specs.reactor_journal.proofs.Basics.{may_fits}
 use Rattle.laws_script_turns.specs.acceptor.specs.Servers.{read_alone}
-use Rattle.log_handler.specs.declared.note.ServerNote.{ServerNote}
-use Rattle.log_handler.specs.declared.note.ServerNote.TheVariants as note
-use Rattle.log_handler.specs.Connections.{accepted_in}
+use Rattle.laws_script_told.specs.log_handler.specs.declared.note.ServerNote.{ServerNote}
+use Rattle.laws_script_told.specs.log_handler.specs.declared.note.ServerNote.TheVariants as note
+use Rattle.laws_script_told.specs.log_handler.specs.Connections.{accepted_in}
 use Rattle.laws_script_told.specs.Laws.{StandsOnlyAt}
 use Rattle.laws_script_told.specs.Told.{end_offered, number_accepted}
 use Rattle.laws_script_runs.specs.Connections.{accepted}

@@ -40,14 +40,14 @@ use Rattle.reactor_model.specs.reactor_journal.proofs.HadLaw.{returned_is_open}
 use Rattle.reactor_model.specs.reactor_journal.proofs.Turning.{is_legal-front}
 use Rattle.laws_script_turns.specs.acceptor.specs.Laws.{number_in, number_accepted}
 use Rattle.laws_script_turns.specs.acceptor.proofs.Accounts as acceptor_accounts
-use Rattle.log_handler.specs.declared.note.ServerNote.{ServerNote}
-use Rattle.log_handler.specs.declared.note.ServerNote.TheVariants as note
-use Rattle.log_handler.specs.Laws.{IsPieceOf}
-use Rattle.log_handler.proofs.Accounts.{accounts}
+use Rattle.laws_script_told.specs.log_handler.specs.declared.note.ServerNote.{ServerNote}
+use Rattle.laws_script_told.specs.log_handler.specs.declared.note.ServerNote.TheVariants as note
+use Rattle.laws_script_told.specs.log_handler.specs.Laws.{IsPieceOf}
+use Rattle.laws_script_told.specs.log_handler.proofs.Accounts.{accounts}
 use Rattle.laws_script_turns.specs.event_script.specs.Script.{ScriptStep}
-use Rattle.log_handler.specs.log_lines.specs.Texts.{record_lines}
-use Rattle.log_handler.specs.Notes.{note_lines}
-use Rattle.log_handler.specs.Laws.{records_of_note}
+use Rattle.laws_script_told.specs.log_handler.specs.log_lines.specs.Texts.{record_lines}
+use Rattle.laws_script_told.specs.log_handler.specs.Notes.{note_lines}
+use Rattle.laws_script_told.specs.log_handler.specs.Laws.{records_of_note}
 use Rattle.reactor_model.specs.reactor_journal.proofs.Closing.{Gone, closed_gone}
 use Rattle.laws_script_runs.specs.Connections.{lines_in, SaysLast, LeavesOffered, ListensThrough}
 use Rattle.laws_script_runs.specs.Connections.{TalksThrough, IsLeft, AreLeft, accepted}

@@ -18,8 +18,8 @@ use Rattle.reactor_model.specs.reactor_journal.proofs.Picking.{all_below-at}
 use Rattle.reactor_model.specs.reactor_journal.proofs.Turning.{past_split, is_legal-front}
 use Rattle.reactor_model.specs.Handling.{Handling}
 use Rattle.laws_script_turns.specs.acceptor.specs.Servers.{ServerMay, is_accepted as says_accepted}
-use Rattle.log_handler.specs.declared.note.ServerNote.{ServerNote}
-use Rattle.log_handler.specs.declared.note.ServerNote.TheVariants as note
+use Rattle.laws_script_told.specs.log_handler.specs.declared.note.ServerNote.{ServerNote}
+use Rattle.laws_script_told.specs.log_handler.specs.declared.note.ServerNote.TheVariants as note
 use Rattle.laws_script_turns.specs.event_script.specs.Script.{ScriptStep, ScriptGroup, groups_told}
 use Rattle.laws_script_turns.specs.event_script.specs.Script.{steps_of}
 use Rattle.laws_script_runs.specs.Connections.{lines_in, lines_of, lines_by_connection, accepted}

@@ -43,7 +43,7 @@ use Rattle.reactor_model.specs.Handling.{Installing, Masking, Cancelling}
 use Rattle.laws_script_told.specs.laws_reports.specs.Laws.{holds_back}
 use Rattle.laws_script_turns.specs.acceptor.specs.Servers.{ServerMay, read_alone}
 use Rattle.laws_script_turns.specs.acceptor.specs.Servers.{is_accepted as says_accepted}
-use Rattle.log_handler.specs.declared.note.ServerNote.{ServerNote}
+use Rattle.laws_script_told.specs.log_handler.specs.declared.note.ServerNote.{ServerNote}
 use Rattle.laws_by_turns.specs.ByTurns.{returned_here}
 use Rattle.laws_script_runs.proofs.ByTurns.{TurnsBefore, IsByTurn}
 use Rattle.laws_script_runs.specs.Steps.{EachStep}

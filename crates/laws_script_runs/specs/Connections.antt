@@ -4,8 +4,8 @@ use Rattle.std.specs.Prelude.{◌≡◌, ℕ, ◌==◌, Bool, true, false, if◌
 use Rattle.std.specs.Prelude.{Option, Some, None}
 use Rattle.reactor_model.specs.ev_types.specs.declared.upcall.Why.{Why}
 use Rattle.reactor_model.specs.ev_types.specs.declared.upcall.Why.TheVariants.{Refused as ByRefusal}
-use Rattle.log_handler.specs.log_lines.specs.declared.end_kind.EndKind.{EndKind}
-use Rattle.log_handler.specs.log_lines.specs.declared.end_kind.EndKind.TheVariants as end
+use Rattle.laws_script_told.specs.log_handler.specs.log_lines.specs.declared.end_kind.EndKind.{EndKind}
+use Rattle.laws_script_told.specs.log_handler.specs.log_lines.specs.declared.end_kind.EndKind.TheVariants as end
 use Rattle.std.specs.List.{list_any}
 use Rattle.reactor_model.specs.reactor_journal.specs.Event.{Item, Origin}
 use Rattle.reactor_model.specs.reactor_journal.specs.declared.entry.Entry.{Entry}
@@ -14,11 +14,11 @@ use Rattle.reactor_model.specs.reactor_journal.specs.declared.entry.Entry.TheVar
 use Rattle.reactor_model.specs.reactor_journal.specs.declared.entry.Entry.TheVariants.{Closed}
 use Rattle.reactor_model.specs.reactor_journal.specs.Past.{count, had, origin_of, reason_of}
 use Rattle.reactor_model.specs.reactor_journal.specs.Past.{offered_here}
-use Rattle.log_handler.specs.declared.note.ServerNote.{ServerNote}
-use Rattle.log_handler.specs.declared.note.ServerNote.TheVariants as note
-use Rattle.log_handler.specs.Notes.{entry_lines}
-use Rattle.log_handler.specs.Connection as connection
-use Rattle.log_handler.specs.Connections.{IsClosing}
+use Rattle.laws_script_told.specs.log_handler.specs.declared.note.ServerNote.{ServerNote}
+use Rattle.laws_script_told.specs.log_handler.specs.declared.note.ServerNote.TheVariants as note
+use Rattle.laws_script_told.specs.log_handler.specs.Notes.{entry_lines}
+use Rattle.laws_script_told.specs.log_handler.specs.Connection as connection
+use Rattle.laws_script_told.specs.log_handler.specs.Connections.{IsClosing}
 use Rattle.laws_script_turns.specs.acceptor.specs.Accepting as accepting
 use Rattle.laws_script_turns.specs.event_script.specs.Script.{ScriptStep}
 use Rattle.laws_script_turns.specs.event_script.specs.Stories.{story, offers}

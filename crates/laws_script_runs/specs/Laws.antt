@@ -6,7 +6,7 @@ use Rattle.reactor_model.specs.ev_base.specs.Terms.{Terms}
 use Rattle.reactor_model.specs.reactor_journal.specs.declared.entry.Entry.{Entry}
 use Rattle.reactor_model.specs.reactor_journal.specs.declared.entry.Entry.TheVariants.{Opened}
 use Rattle.reactor_model.specs.reactor_journal.specs.Past.{past_of}
-use Rattle.log_handler.specs.declared.note.ServerNote.{ServerNote}
+use Rattle.laws_script_told.specs.log_handler.specs.declared.note.ServerNote.{ServerNote}
 use Rattle.reactor_model.specs.Handling.{Handling, Deed}
 use Rattle.laws_script_turns.specs.acceptor.specs.Servers.{read_alone, ServerMay, is_accepted}
 use Rattle.laws_by_turns.specs.ByTurns.{DispatchedByTurns}

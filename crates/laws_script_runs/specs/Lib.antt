@@ -4,10 +4,10 @@ pub mod Runs
 pub mod Laws
 pub use Rattle.reactor_model.specs.ev_types
 pub use Rattle.reactor_model.specs.ev_base
-pub use Rattle.log_handler.specs.cdr_record
-pub use Rattle.log_handler.specs.log_lines
+pub use Rattle.laws_script_told.specs.log_handler.specs.cdr_record
+pub use Rattle.laws_script_told.specs.log_handler.specs.log_lines
 pub use Rattle.reactor_model.specs.reactor_journal
-pub use Rattle.log_handler
+pub use Rattle.laws_script_told.specs.log_handler
 pub use Rattle.laws_script_turns.specs.acceptor
 pub use Rattle.laws_script_turns.specs.event_script
 pub use Rattle.laws_script_turns

@@ -14,8 +14,8 @@ use Rattle.reactor_model.specs.reactor_journal.specs.declared.entry.Entry.TheVar
 use Rattle.reactor_model.specs.reactor_journal.specs.Past.{past_of, ended, opened, was_closed}
 use Rattle.reactor_model.specs.reactor_journal.specs.Past.{all_below, is_pick, is_open}
 use Rattle.reactor_model.specs.reactor_journal.specs.Follow.{Legal, follows_ready}
-use Rattle.log_handler.specs.declared.note.ServerNote.{ServerNote}
-use Rattle.log_handler.specs.declared.note.ServerNote.TheVariants as note
+use Rattle.laws_script_told.specs.log_handler.specs.declared.note.ServerNote.{ServerNote}
+use Rattle.laws_script_told.specs.log_handler.specs.declared.note.ServerNote.TheVariants as note
 use Rattle.laws_script_told.specs.Told.{last_wait, is_over}
 
 -- the handle of the acceptor

@@ -2,7 +2,7 @@
 
 ghost use Rattle.laws_script_runs.specs.Laws.{NoneIsRefused, GroupsLines};
 
-use log_handler::ServerNote;
+use laws_script_told::ServerNote;
 use reactor_model::EventHandler;
 
 /// If there is room for all connections of the script beside the acceptor, a run refuses none.

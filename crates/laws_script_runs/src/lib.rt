@@ -3,5 +3,5 @@
 
 pub mod laws;
 
-pub use log_handler::ServerNote;
+pub use laws_script_told::ServerNote;
 pub use reactor_model::EventHandler;

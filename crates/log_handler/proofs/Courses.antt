@@ -12,8 +12,8 @@ use Rattle.ev_base.specs.declared.source.Got.TheVariants as got
 use Rattle.cdr_record.specs.Decoding.{Stop, Clean, Partial, Malformed}
 use Rattle.log_lines.specs.declared.end_kind.EndKind.{EndKind}
 use Rattle.log_lines.specs.declared.end_kind.EndKind.TheVariants as end
-use Rattle.reactor_model.specs.reactor_journal.specs.Event.{Item}
-use Rattle.reactor_model.specs.Handling.{NoClose, EndsInClose, GoesOn, IsClose}
+use Rattle.line_sink.specs.reactor_journal.specs.Event.{Item}
+use Rattle.line_sink.specs.reactor_model.specs.Handling.{NoClose, EndsInClose, GoesOn, IsClose}
 use Rattle.log_handler.specs.declared.note.ServerNote.{ServerNote}
 use Rattle.log_handler.specs.Connection.{Progress, Turns, Course, ServesUpcall, ServesRead}
 use Rattle.log_handler.specs.Connection.{AnswersTimeout, answer_to, kept_at, is_idle}

@@ -26,11 +26,11 @@ use Rattle.cdr_record.specs.Decoding.{Stop, Clean, Partial, Malformed, DecoderSt
 use Rattle.cdr_record.specs.Decoding.{decode}
 use Rattle.log_lines.specs.declared.end_kind.EndKind.{EndKind}
 use Rattle.log_lines.specs.declared.end_kind.EndKind.TheVariants as end
-use Rattle.reactor_model.specs.reactor_journal.specs.Event.{Item, Origin}
-use Rattle.reactor_model.specs.Handling.{NoClose, EndsInClose}
-use Rattle.reactor_model.specs.Turns.{TakesTurn, MayAct}
-use Rattle.reactor_model.specs.declared.handler.Turn.{Turn}
-use Rattle.reactor_model.specs.declared.handler.Act.{Act}
+use Rattle.line_sink.specs.reactor_journal.specs.Event.{Item, Origin}
+use Rattle.line_sink.specs.reactor_model.specs.Handling.{NoClose, EndsInClose}
+use Rattle.line_sink.specs.reactor_model.specs.Turns.{TakesTurn, MayAct}
+use Rattle.line_sink.specs.reactor_model.specs.declared.handler.Turn.{Turn}
+use Rattle.line_sink.specs.reactor_model.specs.declared.handler.Act.{Act}
 use Rattle.log_handler.specs.declared.note.ServerNote.{ServerNote}
 use Rattle.log_handler.specs.declared.note.ServerNote.TheVariants as note
 use Rattle.log_handler.specs.declared.connection.LogConnection.{LogConnection}

@@ -16,7 +16,7 @@ use Rattle.cdr_record.specs.declared.record.LogRecord.{LogRecord}
 use Rattle.cdr_record.specs.Decoding.{Stop, Clean, Partial, Malformed, decode}
 use Rattle.log_lines.specs.declared.end_kind.EndKind.{EndKind}
 use Rattle.log_lines.specs.declared.end_kind.EndKind.TheVariants as end
-use Rattle.reactor_model.specs.reactor_journal.specs.Event.{Item}
+use Rattle.line_sink.specs.reactor_journal.specs.Event.{Item}
 use Rattle.log_handler.specs.declared.note.ServerNote.{ServerNote}
 use Rattle.log_handler.specs.declared.note.ServerNote.TheVariants as note
 

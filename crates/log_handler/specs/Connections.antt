@@ -13,8 +13,8 @@ use Rattle.ev_base.specs.declared.end.PeerEnd.{Ghosts}
 use Rattle.cdr_record.specs.Decoding.{DecoderState, StandsFor}
 use Rattle.log_lines.specs.declared.end_kind.EndKind.{EndKind}
 use Rattle.log_lines.specs.declared.end_kind.EndKind.TheVariants as end
-use Rattle.reactor_model.specs.reactor_journal.specs.Event.{Item, Origin}
-use Rattle.reactor_model.specs.Handling.{Handling}
+use Rattle.line_sink.specs.reactor_journal.specs.Event.{Item, Origin}
+use Rattle.line_sink.specs.reactor_model.specs.Handling.{Handling}
 use Rattle.log_handler.specs.declared.note.ServerNote.{ServerNote}
 use Rattle.log_handler.specs.declared.note.ServerNote.TheVariants as note
 use Rattle.log_handler.specs.declared.connection.LogConnection.{LogConnection}

@@ -7,10 +7,10 @@ pub mod Steps
 pub mod Laws
 pub use Rattle.line_sink
 pub use Rattle.log_lines
-pub use Rattle.sink_buffer
+pub use Rattle.line_sink.specs.sink_buffer
 pub use Rattle.cdr_record
-pub use Rattle.reactor_model.specs.reactor_journal
+pub use Rattle.line_sink.specs.reactor_journal
 pub use Rattle.ev_base
 pub use Rattle.cdr_record.specs.ev_types
-pub use Rattle.reactor_model.specs.reactor_summary
-pub use Rattle.reactor_model
+pub use Rattle.line_sink.specs.reactor_model.specs.reactor_summary
+pub use Rattle.line_sink.specs.reactor_model

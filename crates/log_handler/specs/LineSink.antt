@@ -2,7 +2,7 @@
 use Rattle.std.specs.Prelude.{ℕ, Bool, List}
 use Rattle.ev_base.specs.Terms.{Terms}
 use Rattle.ev_base.specs.Sink.{SinkFacts}
-use Rattle.reactor_model.specs.reactor_journal.specs.declared.entry.Entry.{Entry}
+use Rattle.line_sink.specs.reactor_journal.specs.declared.entry.Entry.{Entry}
 use Rattle.line_sink.specs.declared.sink.LineSink.{LineSink as SinkOf}
 use Rattle.line_sink.specs.LineSink as any
 use Rattle.log_handler.specs.declared.note.ServerNote.{ServerNote}

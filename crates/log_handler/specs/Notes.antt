@@ -1,8 +1,8 @@
 -- What the server's handlers note of their turns, and the lines of their notes (C++NPv2 chapter 4:
 -- what the networked logging server prints; the closing lines are this project's own).
 use Rattle.std.specs.Prelude.{ℕ, Bool, true, false, List, [], flat_map}
-use Rattle.reactor_model.specs.reactor_journal.specs.declared.entry.Entry.{Entry}
-use Rattle.reactor_model.specs.reactor_journal.specs.declared.entry.Entry.TheVariants as entry
+use Rattle.line_sink.specs.reactor_journal.specs.declared.entry.Entry.{Entry}
+use Rattle.line_sink.specs.reactor_journal.specs.declared.entry.Entry.TheVariants as entry
 use Rattle.log_lines.specs.Texts.{record_lines, closing_line}
 use Rattle.log_handler.specs.declared.note.ServerNote.{ServerNote}
 use Rattle.log_handler.specs.declared.note.ServerNote.TheVariants as note

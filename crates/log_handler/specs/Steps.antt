@@ -8,8 +8,8 @@ use Rattle.ev_base.specs.declared.end.PeerEnd.{Ghosts}
 use Rattle.cdr_record.specs.declared.record.LogRecord.{LogRecord}
 use Rattle.cdr_record.specs.Decoding.{DecoderState, StandsFor}
 use Rattle.log_lines.specs.declared.end_kind.EndKind.{EndKind}
-use Rattle.reactor_model.specs.reactor_journal.specs.Event.{Item}
-use Rattle.reactor_model.specs.declared.handler.Turn.{Turn}
+use Rattle.line_sink.specs.reactor_journal.specs.Event.{Item}
+use Rattle.line_sink.specs.reactor_model.specs.declared.handler.Turn.{Turn}
 use Rattle.log_handler.specs.declared.note.ServerNote.{ServerNote}
 use Rattle.log_handler.specs.declared.note.ServerNote.TheVariants as note
 use Rattle.log_handler.specs.declared.connection.LogConnection.{LogConnection}

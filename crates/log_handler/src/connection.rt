@@ -9,9 +9,9 @@ ghost use Rattle.cdr_record.specs.ev_types.specs.declared.upcall.Why.TheVariants
 ghost use Rattle.ev_base.specs.Terms.{Terms};
 ghost use Rattle.ev_base.specs.End.{IsFresh, Paused};
 ghost use Rattle.cdr_record.specs.Decoding.{StandsFor, decode};
-ghost use Rattle.reactor_model.specs.reactor_journal.specs.Event.{Item, Origin};
-ghost use Rattle.reactor_model.specs.Handling.{NoClose, EndsInClose, Names};
-ghost use Rattle.reactor_model.specs.Turns.{TakesTurn, KeepsPromises};
+ghost use Rattle.line_sink.specs.reactor_journal.specs.Event.{Item, Origin};
+ghost use Rattle.line_sink.specs.reactor_model.specs.Handling.{NoClose, EndsInClose, Names};
+ghost use Rattle.line_sink.specs.reactor_model.specs.Turns.{TakesTurn, KeepsPromises};
 ghost use Rattle.log_handler.specs.Connection.{Progress, end_of};
 ghost use Rattle.log_lines.specs.declared.end_kind.EndKind.TheVariants.{NoMemory};
 ghost use Rattle.log_handler.specs.Connections.{MayComeFrom, ConnectionFits, ConnectionGone};
@@ -25,9 +25,9 @@ use crate::{LoggedRecords, ServerNote};
 use cdr_record::Decoder;
 use cdr_record::laws::tells_stop;
 use ev_base::{Answer, Got, Handle, Mask, Net, NetFailed, PeerEnd, Upcall, Why};
+use line_sink::{EventHandler, Turn};
 use log_lines::EndKind;
 use packed_records::GatheredRecords;
-use reactor_model::{EventHandler, Turn};
 use std::alloc::Global;
 
 /// How many bytes a read takes at most.

@@ -1,17 +1,15 @@
 //! The lines of a journal's notes.
 ghost use Rattle.std.specs.Prelude.{◌≡◌, [], MatchOption};
 ghost use Rattle.cdr_record.specs.Borrowed.{owned};
-ghost use Rattle.sink_buffer.specs.Texts.{Puts};
+ghost use Rattle.line_sink.specs.sink_buffer.specs.Texts.{Puts};
 ghost use Rattle.log_lines.specs.Texts.{record_line, record_lines, closing_line};
 ghost use Rattle.log_handler.specs.Notes.{note_lines, entry_lines};
 
 use crate::{LoggedRecords, ServerNote};
 use cdr_record::RecordRef;
-use line_sink::JournalLines;
+use line_sink::{Entry, JournalLines, ShortText, TextOut};
 use log_lines::{EndKind, put_borrowed_line, put_closing_line};
 use packed_records::Unpacked;
-use reactor_model::Entry;
-use sink_buffer::{ShortText, TextOut};
 
 /// The lines of the logging server: those of a piece's records, and the closing line of a
 /// connection.

@@ -5,9 +5,9 @@ ghost use Rattle.log_handler.specs.Logged.{HasItsText, records_of};
 
 use cdr_record::Records;
 use ev_base::NoMemory;
+use line_sink::GrowingText;
 use log_lines::put_record_lines;
 use packed_records::{Gathered, GatheredRecords, PackedRecords, ShortRecord, Unpacked};
-use sink_buffer::GrowingText;
 use std::alloc::Global;
 use std::marker::Model;
 

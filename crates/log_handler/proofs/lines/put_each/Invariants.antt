@@ -1,7 +1,7 @@
 use Rattle.std.proofs.Common.{map}
 use Rattle.cdr_record.specs.Borrowed.{owned}
 use Rattle.log_lines.specs.Texts.{record_lines}
-use Rattle.sink_buffer.specs.Texts.{Puts}
+use Rattle.line_sink.specs.sink_buffer.specs.Texts.{Puts}
 use Rattle.log_handler.proofs.lines.put_each.Given as goal
 
 -- the lines of the records so far
