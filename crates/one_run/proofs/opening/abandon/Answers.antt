@@ -5,6 +5,11 @@ use Rattle.one_run.proofs.Unserved.{sink_faults}
 use Rattle.one_run.specs.Opening.{CountsWrite}
 use Rattle.one_run.proofs.opening.abandon.Goals as goal
 
+pub stop-requires : goal.stop-requires
+stop-requires g c =
+    let q = c.requires in
+    record { stands = (q.0, q.1, q.2, q.3) }
+
 pub into_parts-journal-requires : goal.into_parts-journal-requires
 into_parts-journal-requires g c =
     let o = c.requires in

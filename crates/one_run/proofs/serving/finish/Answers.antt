@@ -5,6 +5,11 @@ use Rattle.one_run.proofs.Finishing.{stops, finishes, finishes_shut, is_over}
 use Rattle.one_run.proofs.Growing.{grows-stopped}
 use Rattle.one_run.proofs.serving.finish.Goals as goal
 
+pub stop-requires : goal.stop-requires
+stop-requires g c =
+    let q = c.requires in
+    record { stands = (q.0, q.1, q.2, q.3) }
+
 pub into_parts-requires : goal.into_parts-requires
 into_parts-requires g c =
     let o = c.requires in

@@ -11,6 +11,12 @@ use Rattle.log_handler.specs.LineSink.{whole_of}
 use Rattle.one_run.proofs.Growing.{grows-none}
 use Rattle.one_run.proofs.serving.turn.Goals as goal
 
+pub start-requires : goal.start-requires
+start-requires g c =
+    let q = c.requires.served in
+    let over = c.in-Ok.ensures.stands q.0 q.1 q.2 q.3 in
+    record { stands = (q.0, over.0, q.2, over.1) }
+
 pub returns-in-Err-clause-err : goal.returns-in-Err-clause-err
 returns-in-Err-clause-err g c t F h stands terms r =
     let over = c.hand_over.ensures.stands t F h stands in

@@ -3,6 +3,12 @@ use Rattle.one_run.proofs.Waiting.{first_wait, last_wait, either_wait}
 use Rattle.one_run.proofs.Growing.{grows-none}
 use Rattle.one_run.proofs.serving.wait.Goals as goal
 
+pub poll-requires : goal.poll-requires
+poll-requires g c =
+    let q = c.requires in
+    let over = c.in-Ok.ensures.stands q.0 q.1 q.2 q.3 in
+    record { stands = (q.0, over.0, q.2, over.1, q.4.0.limit) }
+
 pub returns-in-Err-clause-err : goal.returns-in-Err-clause-err
 returns-in-Err-clause-err g c t F h stands terms may =
     let over = c.in-Err.ensures.stands t F h stands in
