@@ -7,6 +7,6 @@ pub returns : goal.returns
 returns g c = record {
   ran = c.one-end.result;
   runs = c.one-end.ensures;
-  is = with-codes _ _ _ (c.code.ensures ∙ ap code_of c.status.ensures)
-      (c.number.ensures ∙ ap number_of c.status.ensures);
+  is = with-codes _ _ _ (c.code.ensures ∙ ap code_of c.status-status.ensures)
+      (c.number.ensures ∙ ap number_of c.status-status.ensures);
 }
